@@ -1,5 +1,6 @@
 -- How what was counted composes as what is shown does.
-use Rattle.std.proofs.Common.{◌≡◌, ◌≤◌, ◌<◌, ◌+◌, ◌-◌, ◌^◌, ℕ, Bool, true, false, List, [], ◌∷◌, ◌++◌, Option, Some, None}
+use Rattle.std.proofs.Common.{◌≡◌, ◌≤◌, ◌<◌, ◌+◌, ◌-◌, ◌^◌, ℕ, Bool, true, false, List, [], ◌∷◌, ◌++◌, Option, Some}
+use Rattle.std.proofs.Common.{None}
 use Rattle.std.proofs.Common.{Result, Ok, Err, IfOk, refl, sym, ap, subst, ◌∙◌, arith}
 use Rattle.std.proofs.lemmas.Bool.{false≢true}
 use Rattle.allocative.proofs.Common.{Refusal, Key, Forest, Empty, followed_by, entry_of, Showing, Nothing, Both}
@@ -100,7 +101,8 @@ tallies_first {p = p} {s} {t} u c =
       counted = c.counted;
       allowed = c.allowed;
       within = c.within;
-      merged = λ r. subst (λ (h : Forest). Merged (followed_by (forest_of (Beside s u)) h) (forest_of (Beside t u)) × Holds (Beside t u))
+      merged = λ r. subst (λ (h : Forest). Merged (followed_by (forest_of (Beside s u)) h) (forest_of
+          (Beside t u)) × Holds (Beside t u))
           (followed_by-empty c.counted) (all.merged r);
     }
 
@@ -177,7 +179,8 @@ tallies_entry {w} {p} x k n {old} {new} {s} {t} more kind c = record {
 
     one_more : (b : Bool) → IsPlain (entry_counted b (is_unique x) k old.bytes (forest_of s)) ×
         (Holds s × (b ≡ false → (old.bytes ≡ 0) × (forest_of s ≡ Empty)) × Keeps x old.bytes (forest_of s)) →
-        Merged (followed_by (entry_counted b (is_unique x) k old.bytes (forest_of s)) (entry_of (is_unique x) k n c.counted))
+        Merged (followed_by (entry_counted b (is_unique x) k old.bytes (forest_of s)) (entry_of
+        (is_unique x) k n c.counted))
         (entry_of (is_unique x) k (old.bytes + n) (forest_of t))
         × (Holds t × (true ≡ false → (old.bytes + n ≡ 0) × (forest_of t ≡ Empty))
         × Keeps x (old.bytes + n) (forest_of t))

@@ -1,9 +1,11 @@
 -- What was entered as the merged forest was entered as the forests that it merges.
-use Rattle.std.proofs.Common.{◌≡◌, ℕ, ◌+◌, ◌-◌, min, Bool, true, false, cond, Result, Ok, refl, sym, ap, subst, ◌∙◌, arith}
+use Rattle.std.proofs.Common.{◌≡◌, ℕ, ◌+◌, ◌-◌, min, Bool, true, false, cond, Result, Ok, refl, sym, ap, subst, ◌∙◌}
+use Rattle.std.proofs.Common.{arith}
 use Rattle.std.proofs.Common.{append-nil, List, [], ◌∷◌, ◌++◌, length, get_or, take, drop}
 use Rattle.std.proofs.lemmas.List.{take-append-drop}
 use Rattle.allocative.proofs.Common.{Refusal, Key, Forest, Empty, followed_by, entry_of, add_all, Live, Kind, OfGraph}
-use Rattle.allocative.proofs.Common.{OfHeld, OfOwned, State, plus, Showing, Nothing, Both, InsideAs, AddsForest, already}
+use Rattle.allocative.proofs.Common.{OfHeld, OfOwned, State, plus, Showing, Nothing, Both, InsideAs, AddsForest}
+use Rattle.allocative.proofs.Common.{already}
 use Rattle.allocative.proofs.Common.{refused, hidden, forgotten, CanTake, HasRoomFor, IsDeclared, FailsOnlyIfFull}
 use Rattle.allocative.proofs.Common.{ShowsContents, each_shows, has_added, has_refused, Entered, Means}
 use Rattle.allocative_graph.specs.Forest.{own_behind, met_after, Inline, Unique, First, Again}
@@ -219,6 +221,7 @@ each_single p (y ∷ z ∷ ys) x h i = absurd (omega (arith, h))
 -- The items of the front and then those of the back are all items.
 pub each_halves : {T : Type 0} {e : Bool} (p : T → Showing) (xs front back : List T) (n : ℕ) → front ≡ take n xs →
     back ≡ drop n xs → Means e (Both (each_shows p front) (each_shows p back)) (each_shows p xs)
-each_halves {e = e} p xs front back n f b = subst (λ ys. Means e (Both (each_shows p front) (each_shows p back)) (each_shows p ys))
+each_halves {e = e} p xs front back n f b = subst (λ ys. Means e (Both (each_shows p front) (each_shows p back))
+    (each_shows p ys))
     ((λ i. f i ++ b i) ∙ take-append-drop n xs)
     (record { means = each_append p front back; declared = λ j d. declared_append p front back d })

@@ -32,7 +32,14 @@ pairs_direct m n p q [] f e = ap direct e ∙ omega arith
 pairs_direct m n p q (e ∷ es) f (g, h, (a, b, x, y, i), z, j) =
     let both = ap direct i ∙ direct-following a b in
     let all = ap direct j ∙ direct-following g h in
-    omega (arith, both, all, field_direct (codes "key") m (p e.0) a x, field_direct (codes "value") n (q e.1) b y, pairs_direct m n p q es h z)
+    omega (
+      arith,
+      both,
+      all,
+      field_direct (codes "key") m (p e.0) a x,
+      field_direct (codes "value") n (q e.1) b y,
+      pairs_direct m n p q es h z,
+    )
 
 -- The same, of a size of pairs.
 pub sized_direct : {K V : Type 0} (v w : Option ℕ) (n : ℕ) (p : K → Showing) (q : V → Showing) (es : List (K × V))
@@ -49,7 +56,13 @@ keys_direct None n k p xs f e x = cc
 keys_direct (Some m) n k p [] f e x = ap direct x ∙ omega arith
 keys_direct (Some m) n k p (y ∷ ys) f e (g, h, x, z, j) =
     let same : m ≡ n = cc in
-    omega (arith, ap direct j ∙ direct-following g h, field_direct k m (p y) g x, same, keys_direct (Some m) n k p ys h e z)
+    omega (
+      arith,
+      ap direct j ∙ direct-following g h,
+      field_direct k m (p y) g x,
+      same,
+      keys_direct (Some m) n k p ys h e z,
+    )
 
 -- ---- counting
 -- The items of a run are those that every run gives.
@@ -88,10 +101,11 @@ pub small_counted : {T : Type 0} (p : T → Showing) (xs : List T) (m n : ℕ) {
     (EntryAt Wide k a' (Beside (EntryAt Wide (codes "data") d' s') t))
 small_counted p xs m n {k = k} {t = t} in_run up fits same bytes room own inner items =
     let least : (f : Forest) → each_shows p xs f → direct f ≤ 8 =
-        λ f x. omega (arith, bytes f x, fits.if_fits refl, ap (λ z. fits.item * z) same) in
+    λ f x. omega (arith, bytes f x, fits.if_fits refl, ap (λ z. fits.item * z) same) in
     tallies_as (data_as k n up) (counted_field refl (counted_inline own
-      (tallies_first t (counted_inline inner (tallies_within 8 least (tallies_as in_run items)) (fits_bytes (omega arith))))
-      (fits_bytes room)))
+    (tallies_first t (counted_inline inner (tallies_within 8 least (tallies_as in_run items)) (fits_bytes
+    (omega arith))))
+    (fits_bytes room)))
 
 -- Items that have at least 8 bytes were counted, with what a run of them showed.
 pub large_counted : {T : Type 0} (p : T → Showing) (xs : List T) (m n : ℕ) {size : Option ℕ} {k : Key} {u r : Showing}
@@ -103,9 +117,9 @@ pub large_counted : {T : Type 0} (p : T → Showing) (xs : List T) (m n : ℕ) {
     (EntryAt Wide k a' (Beside t (EntryAt Narrow (codes "data") d' s')))
 large_counted p xs m n {k = k} {t = t} in_run up fits same bytes room own inner items =
     let least : (f : Forest) → each_shows p xs f → 8 ≤ direct f =
-        λ f x. omega (arith, bytes f x, fits.if_more refl, ap (λ z. fits.item * z) same) in
+    λ f x. omega (arith, bytes f x, fits.if_more refl, ap (λ z. fits.item * z) same) in
     tallies_as (data_as k n up) (counted_field refl (counted_inline own
-      (tallies_second t (counted_narrow inner (tallies_as in_run items) least)) (fits_bytes room)))
+    (tallies_second t (counted_narrow inner (tallies_as in_run items) least)) (fits_bytes room)))
 
 -- The pairs in their own order are the pairs in some order.
 pub own_order : {T : Type 0} (p : T → Showing) (xs : List T) (f : Forest) → each_shows p xs f → in_any_order p xs f

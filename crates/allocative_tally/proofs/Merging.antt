@@ -44,7 +44,8 @@ merged_then m l = record {
 }
 
 -- ---- one forest after another
-sums_both : (s : Sums) (p : Path) (f g : Forest) → add_all s (own_behind p (followed_by f g)) ≡ add_all (add_all s (own_behind p f)) (own_behind p g)
+sums_both : (s : Sums) (p : Path) (f g : Forest) → add_all s (own_behind p (followed_by f g)) ≡ add_all (add_all s
+    (own_behind p f)) (own_behind p g)
 sums_both s p f g = ap (add_all s) (own-following p f g) ∙ fold-append add s (own_behind p f) (own_behind p g)
 
 inline_both : (f g : Forest) → inline_bytes (followed_by f g) ≡ inline_bytes f + inline_bytes g
@@ -86,7 +87,8 @@ pub merged_both : {f g h k : Forest} → Merged f g → Merged h k → Merged (f
 merged_both {f} {g} {h} {k} m l = record {
   plain = plain_both f h m.plain l.plain;
   plain_merged = plain_both g k m.plain_merged l.plain_merged;
-  same_sums = λ s p. sums_both s p f h ∙ ap (λ t. add_all t (own_behind p h)) (m.same_sums s p) ∙ l.same_sums _ p ∙ sym (sums_both s p g k);
+  same_sums = λ s p. sums_both s p f h ∙ ap (λ t. add_all t (own_behind p h)) (m.same_sums s p) ∙ l.same_sums _ p
+      ∙ sym (sums_both s p g k);
   same_inline = omega (arith, inline_both f h, inline_both g k, m.same_inline, l.same_inline);
   same_held = omega (arith, held_both f h, held_both g k, m.same_held, l.same_held);
   same_direct = omega (arith, direct-following f h, direct-following g k, m.same_direct, l.same_direct);
@@ -106,7 +108,8 @@ pub merged_swapped : (f g : Forest) → IsPlain f → IsPlain g → Merged (foll
 merged_swapped f g h l = record {
   plain = plain_both f g h l;
   plain_merged = plain_both g f l h;
-  same_sums = λ s p. ap (add_all s) (own-following p f g) ∙ swaps (own_behind p f) (own_behind p g) s ∙ sym (ap (add_all s) (own-following p g f));
+  same_sums = λ s p. ap (add_all s) (own-following p f g) ∙ swaps (own_behind p f) (own_behind p g) s
+      ∙ sym (ap (add_all s) (own-following p g f));
   same_inline = omega (arith, inline_both f g, inline_both g f);
   same_held = omega (arith, held_both f g, held_both g f);
   same_direct = omega (arith, direct-following f g, direct-following g f);
@@ -132,27 +135,40 @@ mark_of u = cond u AsUnique AsInline
 abbrev entry_at : Bool → Path → Key → ℕ → Entry
 entry_at u p k n = record { path = p ++ k ∷ []; size = n; mark = mark_of u }
 
-own_entry : (u : Bool) (p : Path) (k : Key) (n : ℕ) (f : Forest) → own_behind p (entry_of u k n f) ≡ entry_at u p k n ∷ own_behind (p ++ k ∷ []) f
+own_entry : (u : Bool) (p : Path) (k : Key) (n : ℕ) (f : Forest) →
+    own_behind p (entry_of u k n f) ≡ entry_at u p k n ∷ own_behind (p ++ k ∷ []) f
 own_entry true p k n f = ap (λ b. entry_at true p k n ∷ b) (append-nil (own_behind (p ++ k ∷ []) f))
 own_entry false p k n f = ap (λ b. entry_at false p k n ∷ b) (append-nil (own_behind (p ++ k ∷ []) f))
 
 -- Two entries of one place and one mark are one entry of the bytes of both.
-one_entry : (s : Sums) (u : Bool) (p : Path) (k : Key) (n m : ℕ) → add (add s (entry_at u p k n)) (entry_at u p k m) ≡ add s (entry_at u p k (n + m))
-one_entry s u p k n m = same_sums _ _ (λ q. grind (arith, get-add (add s (entry_at u p k n)) (entry_at u p k m) q, get-add s (entry_at u p k n) q, get-add s (entry_at u p k n) (p ++ k ∷ []), get-add s (entry_at u p k (n + m)) q, same_path_itself (p ++ k ∷ [])))
+one_entry : (s : Sums) (u : Bool) (p : Path) (k : Key) (n m : ℕ) →
+    add (add s (entry_at u p k n)) (entry_at u p k m) ≡ add s (entry_at u p k (n + m))
+one_entry s u p k n m = same_sums _ _ (λ q. grind (
+  arith,
+  get-add (add s (entry_at u p k n)) (entry_at u p k m) q,
+  get-add s (entry_at u p k n) q,
+  get-add s (entry_at u p k n) (p ++ k ∷ []),
+  get-add s (entry_at u p k (n + m)) q,
+  same_path_itself (p ++ k ∷ []),
+))
 
-inline_entry : (u : Bool) (k : Key) (n m : ℕ) (f g : Forest) → inline_bytes (followed_by (entry_of u k n f) (entry_of u k m g)) ≡ inline_bytes (entry_of u k (n + m) (followed_by f g))
+inline_entry : (u : Bool) (k : Key) (n m : ℕ) (f g : Forest) → inline_bytes (followed_by (entry_of u k n f)
+    (entry_of u k m g)) ≡ inline_bytes (entry_of u k (n + m) (followed_by f g))
 inline_entry true k n m f g = refl
 inline_entry false k n m f g = omega arith
 
-held_entry : (u : Bool) (k : Key) (n m : ℕ) (f g : Forest) → held (followed_by (entry_of u k n f) (entry_of u k m g)) ≡ held (entry_of u k (n + m) (followed_by f g))
+held_entry : (u : Bool) (k : Key) (n m : ℕ) (f g : Forest) → held (followed_by (entry_of u k n f)
+    (entry_of u k m g)) ≡ held (entry_of u k (n + m) (followed_by f g))
 held_entry true k n m f g = omega (arith, inline_both f g, held_both f g)
 held_entry false k n m f g = omega (arith, held_both f g)
 
-bytes_entry : (u : Bool) (k : Key) (n m : ℕ) (f g : Forest) → all_bytes (followed_by (entry_of u k n f) (entry_of u k m g)) ≡ all_bytes (entry_of u k (n + m) (followed_by f g))
+bytes_entry : (u : Bool) (k : Key) (n m : ℕ) (f g : Forest) → all_bytes (followed_by (entry_of u k n f)
+    (entry_of u k m g)) ≡ all_bytes (entry_of u k (n + m) (followed_by f g))
 bytes_entry true k n m f g = omega (arith, bytes_both f g)
 bytes_entry false k n m f g = omega (arith, bytes_both f g)
 
-direct_entry : (u : Bool) (k : Key) (n m : ℕ) (f g : Forest) → direct (followed_by (entry_of u k n f) (entry_of u k m g)) ≡ direct (entry_of u k (n + m) (followed_by f g))
+direct_entry : (u : Bool) (k : Key) (n m : ℕ) (f g : Forest) → direct (followed_by (entry_of u k n f)
+    (entry_of u k m g)) ≡ direct (entry_of u k (n + m) (followed_by f g))
 direct_entry true k n m f g = omega arith
 direct_entry false k n m f g = omega arith
 
@@ -160,16 +176,20 @@ direct_entry false k n m f g = omega arith
 abbrev pub KeepsOwned : Bool → ℕ → ℕ → Forest → Forest → Type 0
 KeepsOwned u n m f g = u ≡ false → (n - direct f) + (m - direct g) ≡ (n + m) - (direct f + direct g)
 
-owned_entry : (u : Bool) (k : Key) (n m : ℕ) (f g : Forest) → KeepsOwned u n m f g → owned (followed_by (entry_of u k n f) (entry_of u k m g)) ≡ owned (entry_of u k (n + m) (followed_by f g))
+owned_entry : (u : Bool) (k : Key) (n m : ℕ) (f g : Forest) → KeepsOwned u n m f g →
+    owned (followed_by (entry_of u k n f) (entry_of u k m g)) ≡ owned (entry_of u k (n + m) (followed_by f g))
 owned_entry true k n m f g e = omega (arith, owned-following f g)
 owned_entry false k n m f g e = omega (arith, owned-following f g, direct-following f g, e refl)
 
-fits_entry : (u : Bool) (k : Key) (n m : ℕ) (f g : Forest) (o : ℕ) → n + m < 2 ^ 64 → FitsWords o (followed_by (entry_of u k n f) (entry_of u k m g)) → FitsWords o (entry_of u k (n + m) (followed_by f g))
+fits_entry : (u : Bool) (k : Key) (n m : ℕ) (f g : Forest) (o : ℕ) → n + m < 2 ^ 64 →
+    FitsWords o (followed_by (entry_of u k n f) (entry_of u k m g)) →
+    FitsWords o (entry_of u k (n + m) (followed_by f g))
 fits_entry true k n m f g o room w = (room, w.1, words_both (suc o) f g w.2 w.3.2, tt)
 fits_entry false k n m f g o room w = (room, w.1, words_both (suc o) f g w.2 w.3.2, tt)
 
 pub merged_entry : (u : Bool) (k : Key) (n m : ℕ) (f g : Forest) → IsPlain f → IsPlain g → n + m < 2 ^ 64 →
-    KeepsOwned u n m f g → Merged (followed_by (entry_of u k n f) (entry_of u k m g)) (entry_of u k (n + m) (followed_by f g))
+    KeepsOwned u n m f g → Merged (followed_by (entry_of u k n f) (entry_of u k m g)) (entry_of u k (n + m)
+    (followed_by f g))
 merged_entry u k n m f g x y room keeps = record {
   plain = plain_both (entry_of u k n f) (entry_of u k m g) (plain_entry u k n f x) (plain_entry u k m g y);
   plain_merged = plain_entry u k (n + m) (followed_by f g) (plain_both f g x y);
@@ -182,7 +202,8 @@ merged_entry u k n m f g x y room keeps = record {
   fits = λ o w. fits_entry u k n m f g o room w;
 }
   where
-    sums_entry : (s : Sums) (p : Path) → add_all s (own_behind p (followed_by (entry_of u k n f) (entry_of u k m g))) ≡ add_all s (own_behind p (entry_of u k (n + m) (followed_by f g)))
+    sums_entry : (s : Sums) (p : Path) → add_all s (own_behind p (followed_by (entry_of u k n f)
+        (entry_of u k m g))) ≡ add_all s (own_behind p (entry_of u k (n + m) (followed_by f g)))
     sums_entry s p =
         let e = entry_at u p k n in
         let d = entry_at u p k m in
@@ -190,16 +211,19 @@ merged_entry u k n m f g x y room keeps = record {
         sums_both s p (entry_of u k n f) (entry_of u k m g)
         ∙ ap (λ b. add_all (add_all s b) (own_behind p (entry_of u k m g))) (own_entry u p k n f)
         ∙ ap (add_all (add_all (add s e) (own_behind q f))) (own_entry u p k m g)
-        ∙ ap (λ t. add_all t (own_behind q g)) (sym (fold-append add (add s e) (own_behind q f) (d ∷ [])) ∙ swaps (own_behind q f) (d ∷ []) (add s e) ∙ ap (λ t. add_all t (own_behind q f)) (one_entry s u p k n m))
+        ∙ ap (λ t. add_all t (own_behind q g)) (sym (fold-append add (add s e) (own_behind q f) (d ∷ []))
+        ∙ swaps (own_behind q f) (d ∷ []) (add s e) ∙ ap (λ t. add_all t (own_behind q f)) (one_entry s u p k n m))
         ∙ sym (sums_both (add s (entry_at u p k (n + m))) q f g)
         ∙ sym (ap (add_all s) (own_entry u p k (n + m) (followed_by f g)))
 
 -- The same entry with what merges its inside.
-pub merged_inside : (u : Bool) (k : Key) (n : ℕ) {f g : Forest} → Merged f g → Merged (entry_of u k n f) (entry_of u k n g)
+pub merged_inside : (u : Bool) (k : Key) (n : ℕ) {f g : Forest} → Merged f g →
+    Merged (entry_of u k n f) (entry_of u k n g)
 merged_inside true k n {f} {g} m = record {
   plain = (m.plain, tt);
   plain_merged = (m.plain_merged, tt);
-  same_sums = λ s p. ap (add_all s) (own_entry true p k n f) ∙ m.same_sums (add s (entry_at true p k n)) (p ++ k ∷ []) ∙ sym (ap (add_all s) (own_entry true p k n g));
+  same_sums = λ s p. ap (add_all s) (own_entry true p k n f) ∙ m.same_sums (add s (entry_at true p k n))
+      (p ++ k ∷ []) ∙ sym (ap (add_all s) (own_entry true p k n g));
   same_inline = refl;
   same_held = omega (arith, m.same_held, m.same_inline);
   same_direct = refl;
@@ -210,7 +234,8 @@ merged_inside true k n {f} {g} m = record {
 merged_inside false k n {f} {g} m = record {
   plain = (m.plain, tt);
   plain_merged = (m.plain_merged, tt);
-  same_sums = λ s p. ap (add_all s) (own_entry false p k n f) ∙ m.same_sums (add s (entry_at false p k n)) (p ++ k ∷ []) ∙ sym (ap (add_all s) (own_entry false p k n g));
+  same_sums = λ s p. ap (add_all s) (own_entry false p k n f)
+      ∙ m.same_sums (add s (entry_at false p k n)) (p ++ k ∷ []) ∙ sym (ap (add_all s) (own_entry false p k n g));
   same_inline = refl;
   same_held = omega (arith, m.same_held, m.same_inline);
   same_direct = refl;

@@ -1,5 +1,6 @@
 -- How slices and buffers are counted.
-use Rattle.std.proofs.Common.{◌≡◌, ◌≤◌, ◌<◌, ◌+◌, ◌-◌, ◌*◌, ◌^◌, ℕ, true, false, Bool, codes, Option, Some, None, List, ◌++◌}
+use Rattle.std.proofs.Common.{◌≡◌, ◌≤◌, ◌<◌, ◌+◌, ◌-◌, ◌*◌, ◌^◌, ℕ, true, false, Bool, codes, Option, Some, None}
+use Rattle.std.proofs.Common.{List, ◌++◌}
 use Rattle.std.proofs.Common.{length, refl, sym, ap, subst, ◌∙◌, arith}
 use Rattle.allocative_graph.specs.Shows.{is_shown_each}
 use Rattle.allocative.proofs.Common.{Key, Showing, Nothing, Both, Inside, Field, each_shows, slice_shows}

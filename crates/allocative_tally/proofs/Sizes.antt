@@ -1,5 +1,6 @@
 -- Declared sizes have room for what is inside.
-use Rattle.std.proofs.Common.{◌≡◌, ◌≤◌, ◌<◌, ◌+◌, ◌-◌, ◌*◌, ◌%◌, ◌^◌, ℕ, suc, max, Bool, true, false, nat_lt, Option, Some}
+use Rattle.std.proofs.Common.{◌≡◌, ◌≤◌, ◌<◌, ◌+◌, ◌-◌, ◌*◌, ◌%◌, ◌^◌, ℕ, suc, max, Bool, true, false, nat_lt}
+use Rattle.std.proofs.Common.{Option, Some}
 use Rattle.std.proofs.Common.{None, refl, subst, arith, if◌then◌else◌}
 use Rattle.allocative_described.specs.Sizes.{checked, up, size_sum, size_max, size_up}
 use Rattle.allocative_tally.specs.Tallies.{IsWithin}
@@ -70,7 +71,13 @@ room_both (Some m) None v' w' a b d h = tt
 room_both (Some m) (Some n) v' w' a b d h =
     let x = not_greater v' m a in
     let y = not_greater w' n b in
-    omega (arith, x.2, y.2, subst (λ u. IsWithin d (both_bounds u (Some y.0))) x.1 (subst (λ u. IsWithin d (both_bounds v' u)) y.1 h))
+    omega (
+      arith,
+      x.2,
+      y.2,
+      subst (λ u. IsWithin d (both_bounds u (Some y.0))) x.1 (subst (λ u. IsWithin d
+          (both_bounds v' u)) y.1 h),
+    )
 
 -- Bounds of three can be grouped either way.
 pub room_grouped : (u v w : Option ℕ) → HasRoom (both_bounds (both_bounds u v) w) (both_bounds u (both_bounds v w))
@@ -89,7 +96,8 @@ fits_option w a n e = fits_room w e (room_then _ _ w (room_up (size_sum (Some 1)
 
 -- A pair has room for its fields.
 pub fits_pair : (w v : Option ℕ) (a n : ℕ) → size_up (size_sum w v) a ≡ Some n → FitsEntry (both_bounds w v) n
-fits_pair w v a n e = fits_room (both_bounds w v) e (room_then _ _ (both_bounds w v) (room_up (size_sum w v) a) (room_sum w v))
+fits_pair w v a n e = fits_room (both_bounds w v) e (room_then _ _ (both_bounds w v) (room_up (size_sum w v) a)
+    (room_sum w v))
 
 -- A value of one of two cases has room for each that has room in the greater.
 pub fits_choice : (v w u : Option ℕ) (a n : ℕ) → size_up (size_sum (Some 1) (size_max v w)) a ≡ Some n →

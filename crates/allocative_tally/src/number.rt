@@ -1,7 +1,10 @@
 //! Numbers, times and addresses, which show one entry each.
 #![tactic(auto, using(crate::proofs::Rules::counting))]
 
+ghost use Rattle.std.specs.Prelude.{IfOk};
+ghost use Rattle.allocative_graph.specs.Shows.{Field, Nothing};
 ghost use Rattle.allocative_tally.specs.Shapes.{Wide, EntryAt, NoEntry};
+ghost use Rattle.allocative_tally.specs.Tallies.{Tallies};
 
 use crate::tally::{Entries, InlineSum, Sum, Tallied, Tally};
 use allocative::{Described, Refusal, Visitor};
@@ -35,12 +38,26 @@ impl<T: Described> Tally for NumberTally<T> {
     }
 }
 
+impl<T: Described> NumberTally<T> {
+    /// Counts one more value. If its size is missing, or the bytes do not fit a word, it returns `TooLarge`.
+    #[inline(always)]
+    pub fn count(&mut self) -> Result<(), Refusal>
+        ensures { IfOk result (λ _. Tallies T.size (Field T.name T.size Nothing)
+            (⟦<NumberTally<T> as Tally>⟧.shape self.old) (⟦<NumberTally<T> as Tally>⟧.shape self.new)) }
+    {
+        let Some(size) = T::size() else {
+            return Err(Refusal::TooLarge);
+        };
+        self.own.add(size)?;
+        Ok(())
+    }
+}
+
 impl Tallied for u8 {
     type Tally = NumberTally<u8>;
 
     fn tally(&self, tally: &mut NumberTally<u8>) -> Result<(), Refusal> {
-        tally.own.add(1)?;
-        Ok(())
+        tally.count()
     }
 }
 
@@ -48,8 +65,7 @@ impl Tallied for u16 {
     type Tally = NumberTally<u16>;
 
     fn tally(&self, tally: &mut NumberTally<u16>) -> Result<(), Refusal> {
-        tally.own.add(2)?;
-        Ok(())
+        tally.count()
     }
 }
 
@@ -57,8 +73,7 @@ impl Tallied for u32 {
     type Tally = NumberTally<u32>;
 
     fn tally(&self, tally: &mut NumberTally<u32>) -> Result<(), Refusal> {
-        tally.own.add(4)?;
-        Ok(())
+        tally.count()
     }
 }
 
@@ -66,8 +81,7 @@ impl Tallied for u64 {
     type Tally = NumberTally<u64>;
 
     fn tally(&self, tally: &mut NumberTally<u64>) -> Result<(), Refusal> {
-        tally.own.add(8)?;
-        Ok(())
+        tally.count()
     }
 }
 
@@ -75,8 +89,7 @@ impl Tallied for u128 {
     type Tally = NumberTally<u128>;
 
     fn tally(&self, tally: &mut NumberTally<u128>) -> Result<(), Refusal> {
-        tally.own.add(16)?;
-        Ok(())
+        tally.count()
     }
 }
 
@@ -84,8 +97,7 @@ impl Tallied for usize {
     type Tally = NumberTally<usize>;
 
     fn tally(&self, tally: &mut NumberTally<usize>) -> Result<(), Refusal> {
-        tally.own.add(8)?;
-        Ok(())
+        tally.count()
     }
 }
 
@@ -93,8 +105,7 @@ impl Tallied for i8 {
     type Tally = NumberTally<i8>;
 
     fn tally(&self, tally: &mut NumberTally<i8>) -> Result<(), Refusal> {
-        tally.own.add(1)?;
-        Ok(())
+        tally.count()
     }
 }
 
@@ -102,8 +113,7 @@ impl Tallied for i16 {
     type Tally = NumberTally<i16>;
 
     fn tally(&self, tally: &mut NumberTally<i16>) -> Result<(), Refusal> {
-        tally.own.add(2)?;
-        Ok(())
+        tally.count()
     }
 }
 
@@ -111,8 +121,7 @@ impl Tallied for i32 {
     type Tally = NumberTally<i32>;
 
     fn tally(&self, tally: &mut NumberTally<i32>) -> Result<(), Refusal> {
-        tally.own.add(4)?;
-        Ok(())
+        tally.count()
     }
 }
 
@@ -120,8 +129,7 @@ impl Tallied for i64 {
     type Tally = NumberTally<i64>;
 
     fn tally(&self, tally: &mut NumberTally<i64>) -> Result<(), Refusal> {
-        tally.own.add(8)?;
-        Ok(())
+        tally.count()
     }
 }
 
@@ -129,8 +137,7 @@ impl Tallied for i128 {
     type Tally = NumberTally<i128>;
 
     fn tally(&self, tally: &mut NumberTally<i128>) -> Result<(), Refusal> {
-        tally.own.add(16)?;
-        Ok(())
+        tally.count()
     }
 }
 
@@ -138,8 +145,7 @@ impl Tallied for isize {
     type Tally = NumberTally<isize>;
 
     fn tally(&self, tally: &mut NumberTally<isize>) -> Result<(), Refusal> {
-        tally.own.add(8)?;
-        Ok(())
+        tally.count()
     }
 }
 
@@ -147,8 +153,7 @@ impl Tallied for f32 {
     type Tally = NumberTally<f32>;
 
     fn tally(&self, tally: &mut NumberTally<f32>) -> Result<(), Refusal> {
-        tally.own.add(4)?;
-        Ok(())
+        tally.count()
     }
 }
 
@@ -156,8 +161,7 @@ impl Tallied for f64 {
     type Tally = NumberTally<f64>;
 
     fn tally(&self, tally: &mut NumberTally<f64>) -> Result<(), Refusal> {
-        tally.own.add(8)?;
-        Ok(())
+        tally.count()
     }
 }
 
@@ -165,8 +169,7 @@ impl Tallied for char {
     type Tally = NumberTally<char>;
 
     fn tally(&self, tally: &mut NumberTally<char>) -> Result<(), Refusal> {
-        tally.own.add(4)?;
-        Ok(())
+        tally.count()
     }
 }
 
@@ -174,8 +177,7 @@ impl Tallied for bool {
     type Tally = NumberTally<bool>;
 
     fn tally(&self, tally: &mut NumberTally<bool>) -> Result<(), Refusal> {
-        tally.own.add(1)?;
-        Ok(())
+        tally.count()
     }
 }
 
@@ -183,8 +185,7 @@ impl Tallied for () {
     type Tally = NumberTally<()>;
 
     fn tally(&self, tally: &mut NumberTally<()>) -> Result<(), Refusal> {
-        tally.own.add(0)?;
-        Ok(())
+        tally.count()
     }
 }
 
@@ -192,8 +193,7 @@ impl Tallied for NonZeroU8 {
     type Tally = NumberTally<NonZeroU8>;
 
     fn tally(&self, tally: &mut NumberTally<NonZeroU8>) -> Result<(), Refusal> {
-        tally.own.add(1)?;
-        Ok(())
+        tally.count()
     }
 }
 
@@ -201,8 +201,7 @@ impl Tallied for NonZeroU16 {
     type Tally = NumberTally<NonZeroU16>;
 
     fn tally(&self, tally: &mut NumberTally<NonZeroU16>) -> Result<(), Refusal> {
-        tally.own.add(2)?;
-        Ok(())
+        tally.count()
     }
 }
 
@@ -210,8 +209,7 @@ impl Tallied for NonZeroU32 {
     type Tally = NumberTally<NonZeroU32>;
 
     fn tally(&self, tally: &mut NumberTally<NonZeroU32>) -> Result<(), Refusal> {
-        tally.own.add(4)?;
-        Ok(())
+        tally.count()
     }
 }
 
@@ -219,8 +217,7 @@ impl Tallied for NonZeroU64 {
     type Tally = NumberTally<NonZeroU64>;
 
     fn tally(&self, tally: &mut NumberTally<NonZeroU64>) -> Result<(), Refusal> {
-        tally.own.add(8)?;
-        Ok(())
+        tally.count()
     }
 }
 
@@ -228,8 +225,7 @@ impl Tallied for NonZeroUsize {
     type Tally = NumberTally<NonZeroUsize>;
 
     fn tally(&self, tally: &mut NumberTally<NonZeroUsize>) -> Result<(), Refusal> {
-        tally.own.add(8)?;
-        Ok(())
+        tally.count()
     }
 }
 
@@ -237,8 +233,7 @@ impl Tallied for NonZeroI8 {
     type Tally = NumberTally<NonZeroI8>;
 
     fn tally(&self, tally: &mut NumberTally<NonZeroI8>) -> Result<(), Refusal> {
-        tally.own.add(1)?;
-        Ok(())
+        tally.count()
     }
 }
 
@@ -246,8 +241,7 @@ impl Tallied for NonZeroI16 {
     type Tally = NumberTally<NonZeroI16>;
 
     fn tally(&self, tally: &mut NumberTally<NonZeroI16>) -> Result<(), Refusal> {
-        tally.own.add(2)?;
-        Ok(())
+        tally.count()
     }
 }
 
@@ -255,8 +249,7 @@ impl Tallied for NonZeroI32 {
     type Tally = NumberTally<NonZeroI32>;
 
     fn tally(&self, tally: &mut NumberTally<NonZeroI32>) -> Result<(), Refusal> {
-        tally.own.add(4)?;
-        Ok(())
+        tally.count()
     }
 }
 
@@ -264,8 +257,7 @@ impl Tallied for NonZeroI64 {
     type Tally = NumberTally<NonZeroI64>;
 
     fn tally(&self, tally: &mut NumberTally<NonZeroI64>) -> Result<(), Refusal> {
-        tally.own.add(8)?;
-        Ok(())
+        tally.count()
     }
 }
 
@@ -273,8 +265,7 @@ impl Tallied for NonZeroIsize {
     type Tally = NumberTally<NonZeroIsize>;
 
     fn tally(&self, tally: &mut NumberTally<NonZeroIsize>) -> Result<(), Refusal> {
-        tally.own.add(8)?;
-        Ok(())
+        tally.count()
     }
 }
 
@@ -282,8 +273,7 @@ impl Tallied for Instant {
     type Tally = NumberTally<Instant>;
 
     fn tally(&self, tally: &mut NumberTally<Instant>) -> Result<(), Refusal> {
-        tally.own.add(16)?;
-        Ok(())
+        tally.count()
     }
 }
 
@@ -291,8 +281,7 @@ impl Tallied for SystemTime {
     type Tally = NumberTally<SystemTime>;
 
     fn tally(&self, tally: &mut NumberTally<SystemTime>) -> Result<(), Refusal> {
-        tally.own.add(16)?;
-        Ok(())
+        tally.count()
     }
 }
 
@@ -300,8 +289,7 @@ impl Tallied for Duration {
     type Tally = NumberTally<Duration>;
 
     fn tally(&self, tally: &mut NumberTally<Duration>) -> Result<(), Refusal> {
-        tally.own.add(16)?;
-        Ok(())
+        tally.count()
     }
 }
 
@@ -309,8 +297,7 @@ impl Tallied for IpAddr {
     type Tally = NumberTally<IpAddr>;
 
     fn tally(&self, tally: &mut NumberTally<IpAddr>) -> Result<(), Refusal> {
-        tally.own.add(17)?;
-        Ok(())
+        tally.count()
     }
 }
 
@@ -318,8 +305,7 @@ impl Tallied for Ipv4Addr {
     type Tally = NumberTally<Ipv4Addr>;
 
     fn tally(&self, tally: &mut NumberTally<Ipv4Addr>) -> Result<(), Refusal> {
-        tally.own.add(4)?;
-        Ok(())
+        tally.count()
     }
 }
 
@@ -327,7 +313,6 @@ impl Tallied for Ipv6Addr {
     type Tally = NumberTally<Ipv6Addr>;
 
     fn tally(&self, tally: &mut NumberTally<Ipv6Addr>) -> Result<(), Refusal> {
-        tally.own.add(16)?;
-        Ok(())
+        tally.count()
     }
 }

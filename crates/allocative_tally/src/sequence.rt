@@ -67,6 +67,7 @@ impl<T: Described, S: Tally> Tally for VecTally<T, S> {
 }
 
 // Whether items of a declared size are shown one by one.
+#[inline(always)]
 fn are_shown_each<T: Described>(size: usize) -> bool
     ensures { result ≡ is_shown_each T.needs_drop size }
 {
@@ -74,6 +75,7 @@ fn are_shown_each<T: Described>(size: usize) -> bool
 }
 
 /// Counts the items of a slice, whose declared size is `size`.
+#[inline(always)]
 pub fn count_slice<T: Tallied>(
     items: &[T],
     size: usize,
@@ -95,6 +97,7 @@ pub fn count_slice<T: Tallied>(
 }
 
 /// Counts unused places.
+#[inline(always)]
 pub fn count_unused(sum: &mut Sum, size: usize, count: usize) -> Result<(), Refusal>
     ensures { IfOk result (λ _. Tallies None (bytes_shown (codes "unused_capacity") (Some size) count)
         (EntryAt Wide (codes "unused_capacity") sum.old NoEntry)
@@ -108,6 +111,7 @@ pub fn count_unused(sum: &mut Sum, size: usize, count: usize) -> Result<(), Refu
 }
 
 /// Counts the buffer of a vector.
+#[inline(always)]
 pub fn count_buffer<T: Tallied>(
     items: &Vec<T>,
     tally: &mut BufferTally<T, T::Tally>,
@@ -168,6 +172,7 @@ impl<T: Described, S: Tally> Tally for VecDequeTally<T, S> {
 }
 
 /// Counts the buffer of a deque.
+#[inline(always)]
 pub fn count_ring<T: Tallied>(
     ring: &VecDeque<T>,
     tally: &mut BufferTally<T, T::Tally>,

@@ -2,7 +2,8 @@
 #![tactic(auto)]
 
 ghost use Rattle.std.specs.Prelude.{◌≡◌, true, false, IfOk, IfErr};
-ghost use Rattle.allocative_tally.specs.Shapes.{Shape, NoEntry, Beside, EntryAt, Wide, Narrow, Unique as unique_width, IsNothing, shape_shows};
+ghost use Rattle.allocative_tally.specs.Shapes.{Shape, NoEntry, Beside, EntryAt};
+ghost use Rattle.allocative_tally.specs.Shapes.{Wide, Narrow, Unique as unique_width, IsNothing, shape_shows};
 ghost use Rattle.allocative_tally.specs.Tallies.{Tallies, TalliesField, AddsEntry, EntersShape};
 
 use allocative::{Allocative, Described, Inside, IntoKey, Part, Refusal, Unique, Visitor};
@@ -145,7 +146,8 @@ impl<K: IntoKey, P: Entries> Entries for UniqueSum<K, P> {
     }
 }
 
-/// The inline entry of a sum that has at most the bytes directly inside it, with entries inside it; no entry if none was
+/// The inline entry of a sum that has at most the bytes directly inside it, with entries inside it; no
+/// entry if none was
 /// counted.
 #[derive(Drop)]
 pub struct NarrowSum<K, P>(pub K, pub Sum, pub P);

@@ -5,7 +5,8 @@ use Rattle.allocative_tally.specs.Shapes.{buffer_shape, slice_shape}
 use Rattle.allocative_tally.specs.Tallies.{Tallies}
 use Rattle.allocative_tally.proofs.Sequences.{buffer_counted}
 use Rattle.allocative_tally.proofs.sequence.count_buffer.Goals as goal
-use Rattle.allocative_tally.proofs.sequence.count_buffer.Goals.{else-count-eq0-via-then-count-eq0+else-capacity-eq0, else-count-eq0-via-else-count-eq0}
+use Rattle.allocative_tally.proofs.sequence.count_buffer.Goals.{else-count-eq0-via-then-count-eq0+else-capacity-eq0}
+use Rattle.allocative_tally.proofs.sequence.count_buffer.Goals.{else-count-eq0-via-else-count-eq0}
 
 pub returns : goal.returns
 returns g c =
@@ -22,7 +23,10 @@ returns g c =
     let items = rw c.as_slice.ensures.value at c.in_ok-count_slice.ensures in
     let unused = rw left at c.in_ok-count_unused.ensures in
     subst (λ (size : Option ℕ). Tallies (Some 8)
-    (buffer_shows size (slice_shows g.T.Described.name size g.T.Described.needs_drop g.T.Allocative.may_show xs) (length xs) (vec_capacity c.args.items.now))
-    (buffer_shape c.args.tally.now.pointer (slice_shape g.T.Described.name c.args.tally.now.slice (g.T.Tally.Tally.shape c.args.tally.now.item)) c.args.tally.now.unused)
-    (buffer_shape c.add.new.self (slice_shape g.T.Described.name c.count_slice.new.sum (g.T.Tally.Tally.shape c.count_slice.new.tally)) c.count_unused.new.sum))
+    (buffer_shows size (slice_shows g.T.Described.name size g.T.Described.needs_drop g.T.Allocative.may_show xs)
+    (length xs) (vec_capacity c.args.items.now))
+    (buffer_shape c.args.tally.now.pointer (slice_shape g.T.Described.name c.args.tally.now.slice
+    (g.T.Tally.Tally.shape c.args.tally.now.item)) c.args.tally.now.unused)
+    (buffer_shape c.add.new.self (slice_shape g.T.Described.name c.count_slice.new.sum
+    (g.T.Tally.Tally.shape c.count_slice.new.tally)) c.count_unused.new.sum))
     c.in-Some.ensures (buffer_counted some room c.in_ok-add.ensures items unused)

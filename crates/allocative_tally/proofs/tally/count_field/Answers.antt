@@ -6,4 +6,7 @@ use Rattle.allocative_tally.proofs.tally.count_field.Goals as goal
 pub returns : goal.returns
 returns g c =
     let size = sym c.in-Some.ensures in
-    record { under = λ k. counted_field size (counted_inline c.in_ok-add.ensures c.in_ok-tally.ensures (fits_size size)) }
+    record {
+      under = λ k. counted_field size (counted_inline c.in_ok-add.ensures c.in_ok-tally.ensures
+          (fits_size size));
+    }
