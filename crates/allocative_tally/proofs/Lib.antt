@@ -6,3 +6,4 @@ pub mod Sizes
 pub mod Values
 pub mod Sequences
 pub mod Rules
+pub mod Fields

@@ -3,6 +3,7 @@
 
 pub mod choice;
 pub mod counted;
+pub mod field;
 pub mod number;
 pub mod sequence;
 pub mod tally;
