@@ -7,3 +7,4 @@ pub mod Values
 pub mod Sequences
 pub mod Maps
 pub mod Rules
+pub mod Fields

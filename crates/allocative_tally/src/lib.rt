@@ -3,6 +3,7 @@
 
 pub mod choice;
 pub mod counted;
+pub mod field;
 pub mod map;
 pub mod number;
 pub mod pointer;

@@ -1,0 +1,63 @@
+//! Fields, for the tallies of structs and enums.
+#![tactic(auto, using(crate::proofs::Fields::starts_new))]
+
+ghost use Rattle.std.specs.Prelude.{IfOk};
+ghost use Rattle.allocative_tally.specs.Shapes.{Wide, EntryAt};
+ghost use Rattle.allocative_tally.specs.Tallies.{TalliesField};
+ghost use Rattle.allocative_tally.specs.Fields.{AddsSize, HasNothing};
+
+use crate::tally::{Entries, InlineSum, Sum, Tallied, Tally, count_field};
+use allocative::{IntoKey, Refusal, Visitor};
+
+/// The values of one field, counted: its entries, and what its values show inside them.
+#[derive(Drop)]
+pub struct FieldTally<S> {
+    own: Sum,
+    value: S,
+}
+
+impl<S: Tally> FieldTally<S> {
+    /// Nothing counted.
+    pub fn none() -> Self
+        ensures { HasNothing result.own (S.shape result.value) }
+    {
+        FieldTally {
+            own: Sum::none(),
+            value: S::none(),
+        }
+    }
+}
+
+/// Counts one more value of a field, under the field's entry. If the declared size is missing, it returns `TooLarge`.
+#[inline(always)]
+pub fn count<T: Tallied>(field: &mut FieldTally<T::Tally>, value: &T) -> Result<(), Refusal>
+    ensures { IfOk result (λ _. TalliesField T.size (T.may_show value.now)
+        field.old.own (T.Tally.shape field.old.value) field.new.own (T.Tally.shape field.new.value)) }
+{
+    count_field(&mut field.own, &mut field.value, value)
+}
+
+/// Counts one more entry of a declared size. If the size is missing or the sum does not fit a word, it returns
+/// `TooLarge`.
+#[inline(always)]
+pub fn count_own(sum: &mut Sum, size: Option<usize>) -> Result<(), Refusal>
+    ensures { IfOk result (λ _. AddsSize size sum.old sum.new) }
+{
+    let Some(bytes) = size else {
+        return Err(Refusal::TooLarge);
+    };
+    sum.add(bytes)?;
+    Ok(())
+}
+
+/// The entry of a field under a key, with what its values show inside it; no entry if none was counted.
+#[derive(Drop)]
+pub struct FieldSum<'a, K, S>(pub K, pub &'a FieldTally<S>);
+
+impl<'a, K: IntoKey, S: Tally> Entries for FieldSum<'a, K, S> {
+    ghost shape = { λ e. EntryAt Wide (K.key e.0) e.1.now.own (S.shape e.1.now.value) };
+
+    fn enter(self, visitor: &mut Visitor<'_>) -> Result<(), Refusal> {
+        InlineSum(self.0, self.1.own, &self.1.value).enter(visitor)
+    }
+}
