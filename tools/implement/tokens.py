@@ -79,7 +79,7 @@ class Tokens:
     def _read(self, at: int) -> int:
         """Reads from an offset to the end of the next comment in `/*`, or of the text, and returns that."""
         words, starts = self.words, self.starts
-        for found in TOKEN.finditer(self.text, at):
+        for found in TOKEN.finditer(self.text, at, len(self.text.rstrip())):
             kind = found.lastgroup
             word, start = found[kind], found.start(kind)
             if kind == "comment":
