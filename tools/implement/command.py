@@ -14,6 +14,7 @@ from .text import MARK
 from .tokens import Fault
 
 STALE, ARGUMENTS, FILES, FAULTS = 1, 2, 3, 4
+TALLIES = {"Tallied": "tally", "TallyTally": "none"}
 HEAD = re.compile(r"(?:(?://!|#!\[).*\n|\s*\n)*")
 ABOUT = """Writes the implementations of Described and Allocative for the structs and enums of a source file:
 of the types that are named, or of all that have none. They go to standard output, as the text of a module
@@ -31,6 +32,7 @@ FLAGS = {
     "--in-place": "write into the file itself, behind each type, between two comments",
     "--check": "write nothing, and end with status 1 if something is stale",
     "--skip-unknown": "pass over the fields that cannot be shown, with a comment",
+    "--counted": "write a tally of each type too, by which `Counted` enters each path once",
     "--add-lines": "add the line `mod shown;` to the file, and allocative to the crate's line in crates.txt",
 }
 
@@ -140,6 +142,7 @@ def old_answers(folder: str) -> list[str]:
     for first in sorted(os.listdir(folder)) if os.path.isdir(folder) else []:
         inner = [f"{first}/visit", f"{first}/+visit"] if first.endswith("Allocative") else []
         inner = [first] if first.startswith("+") else inner
+        inner += [f"{first}/{name}" for end, name in TALLIES.items() if first.endswith(end)]
         found += [os.path.join(folder, each, "Answers.antt") for each in inner]
     return [path for path in found if os.path.exists(path) and read(path).startswith(MARK)]
 

@@ -10,6 +10,7 @@ from functools import cached_property
 
 from .counted import Counting
 from .known import Scope
+from .tally import HOMES, SHAPES, Tally
 from .text import LEVELS, WIDTH, Writer
 from .tokens import Fault, Tokens
 from .types import Definition, Member, Module, module_of, type_of
@@ -19,7 +20,7 @@ CODE = set("Allocative And Declared Described Field Inside Or Part Record Refusa
 RESERVED = CODE | {"Option", "Result", "Box", "String"}
 BY_HAND = 'write it by hand: "A type that holds itself" in docs/IMPLEMENTING.md'
 TACTIC = "[tactic(auto, using(allocative::proofs::Parts::parts))]\n"
-IMPLEMENTED = re.compile(r"\bimpl\b[^{;]*?\b(Allocative|Described)\s+for\s+(?:\w+::)*(\w+)")
+IMPLEMENTED = re.compile(r"\bimpl\b[^{;]*?\b(Allocative|Described|Tallied)\s+for\s+(?:\w+::)*(\w+)")
 OUTWARD = re.compile(r"(?<![\w:])(self|super)::(\w+)")
 LETTER = re.compile(r"[^\n]")
 LINE = re.compile(r"[^\n]*")
@@ -50,15 +51,15 @@ class Crate:
         """The traits that are implemented, each with the type."""
         return {found for text in self.files.values() for found in IMPLEMENTED.findall(text)}
 
-    def reason(self, path: tuple[str, ...]) -> str:
-        """Why a type of another file cannot be shown, or nothing."""
+    def reason(self, path: tuple[str, ...], traits: tuple[str, ...] = ("Allocative", "Described")) -> str:
+        """Why a type of another file cannot be shown, or nothing: it lacks some traits."""
         root, name = path[0], path[-1]
         if root not in ("crate", "super", "self"):
             folder = os.path.join(os.path.dirname(self.folder), root)
             if not os.path.isdir(os.path.join(folder, "src")):
                 return f"`{name}` of `{root}` has no implementation"
-            return self.others.setdefault(root, Crate(folder)).reason(("crate", name))
-        if {("Allocative", name), ("Described", name)} <= self.implemented:
+            return self.others.setdefault(root, Crate(folder)).reason(("crate", name), traits)
+        if {(trait, name) for trait in traits} <= self.implemented:
             return ""
         where = next((path for path, text in self.files.items() if name in DECLARED.findall(text)), "")
         what = f"of {where} has no implementation yet: write that one first" if where else "is not found"
@@ -86,6 +87,7 @@ class Source:
         self.tactic = f"#{TACTIC}" if is_inline else ""
         is_named = bool(chosen.types) and set(chosen.types) <= self.module.types.keys()
         self.faults = [] if is_named else self.module.faults
+        self.reserved = RESERVED.union(*HOMES.values() if chosen.counted else ())
         self.notes: dict[str, str] = {}
         self.taken = {name.lower() for name in (*self.module.types, *self.module.names, *self.module.uses)}
         wanted = self.wanted_types()
@@ -128,7 +130,7 @@ class Source:
         bounds = definition.where + "".join(each.bounds for each in definition.parameters)
         is_const = definition.names("const") and not definition.names("lifetime")
         faults = {
-            "the written text uses this name: rename the type, or write its implementations by hand": name in RESERVED,
+            "the written text uses this name: rename the type, or write its implementations by hand": name in self.reserved,
             "Rattle has no bound `?Sized`: remove it": "?" in bounds,
             "a const parameter, whose `Described` the checker does not prove: write the number": is_const,
         }
@@ -217,6 +219,8 @@ class Source:
             try:
                 self.check(definition, cycle)
                 found.append(Writer(self, definition, cycle))
+                if self.chosen.counted:
+                    found[-1].add(Tally(found[-1]))
             except Fault as fault:
                 self.fault(fault.at, f"{name}: {fault.what}")
         return found
@@ -247,13 +251,15 @@ class Source:
         """The imports of the text. In place, only of what the file does not import."""
         mine = self.module if self.is_inline else Module()
         used = {"shows"}.union(*(each.used for each in found)) - mine.ghost_uses
-        used -= {name for name, path in mine.uses.items() if path[0] == "allocative"}
+        used -= {name for name, path in mine.uses.items() if path[0] in ("allocative", "allocative_tally")}
         words = {"std.specs.Prelude": PRELUDE, "allocative.specs.Shows": {"shows"}, "allocative.specs.Levels": LEVELS}
+        words["allocative_tally.specs.Shapes"] = SHAPES
         lists = [(f"Rattle.{path}", used & names) for path, names in words.items()]
         opened = sorted(word for word in used if word.startswith("out-"))
         lists += [(f"{self.declared_at}.{word[4:]}", {word}) for word in opened]
         lines = [f"ghost use {path}.{{{', '.join(sorted(names))}}};\n" for path, names in lists if names]
-        text, code = "".join(lines).replace(".{shows}", " as shows"), use_line(sorted(used & CODE))
+        text, code = "".join(lines).replace(".{shows}", " as shows"), use_line("allocative", used & CODE)
+        code += "".join(use_line(f"allocative_tally::{home}", used & names) for home, names in HOMES.items())
         if self.is_inline:
             return text + ("\n" if text and code else "") + code
         return f"{text}\nuse super::*;\n{code}"
@@ -307,11 +313,12 @@ def spliced(text: str, edits: list[tuple[int, int, str]]) -> str:
     return text
 
 
-def use_line(names: list[str]) -> str:
+def use_line(path: str, words: set[str]) -> str:
     """The line that imports names of the library, cut as `rt fmt` does."""
+    names = sorted(words)
     if len(names) < 2:
-        return "".join(f"use allocative::{name};\n" for name in names)
+        return "".join(f"use {path}::{name};\n" for name in names)
     listed = ", ".join(names)
-    if len(listed) + len("use allocative::{};\n") <= WIDTH:
-        return f"use allocative::{{{listed}}};\n"
-    return f"use allocative::{{\n{textwrap.indent(textwrap.fill(listed, WIDTH - 5), '    ')},\n}};\n"
+    if len(listed) + len(f"use {path}::{{}};\n") <= WIDTH:
+        return f"use {path}::{{{listed}}};\n"
+    return f"use {path}::{{\n{textwrap.indent(textwrap.fill(listed, WIDTH - 5), '    ')},\n}};\n"

@@ -10,6 +10,7 @@ from .types import Definition, Member, Type, Variant, split, type_of
 
 if TYPE_CHECKING:
     from .source import Source
+    from .tally import Tally
 
 WIDTH = 100
 GROUP = 5
@@ -22,6 +23,8 @@ NAME = re.compile(r"[A-Za-z_]\w*")
 OWN = re.compile(r"(?:\bself::)?\b([A-Za-z_]\w*)")
 CONTAINERS = {("Vec", 1): "vec_in", ("Option", 1): "option_in", ("Box", 1): "box_of"}
 CONTAINERS |= {("BTreeMap", 2): "btree_map_of", ("HashMap", 2): "hash_map_of"}
+# The containers of any number of items.
+MANY = {"Vec", "VecDeque", "BTreeMap", "BTreeSet", "HashMap", "HashSet", "IndexMap", "IndexSet"}
 LEVELS = {*CONTAINERS.values(), "both", "child", "field", "level_shows", "pair_in", "plain", "recursive"}
 LEVEL = re.compile(rf'(?<![\w."<])(?:{"|".join(sorted(LEVELS))})(?![\w.>"])|(?<=\()out-\w+')
 # Words of the written text, which a variant's constructor cannot be named by.
@@ -31,7 +34,7 @@ DESCRIBED = {"align": "usize", "needs_drop": "bool", "size": "Option<usize>"}
 
 def bound(names: list[str], room: int) -> list[str]:
     """Names for the parts of fields: their own where these are names and short, else letters."""
-    is_plain = all(NAME.fullmatch(name) and name not in ("visitor", "self") for name in names)
+    is_plain = all(NAME.fullmatch(name) and name not in ("visitor", "self", "tally") for name in names)
     if is_plain and len(", ".join(names)) <= room:
         return names
     return LETTERS[: len(names)] + [f"a{number}" for number in range(len(LETTERS), len(names))]
@@ -86,6 +89,7 @@ class Writer:
         self.definition = definition
         self.name = definition.name
         self.types = definition.names("type")
+        self.applied = in_angles([each.name for each in definition.parameters])
         self.members = definition.shown
         self.cycle = [each.name for each in cycle]
         self.is_level = self.cycle[:1] == [self.name]
@@ -102,25 +106,31 @@ class Writer:
         alias, described = self.aliases(), "" if self.is_borrowed else self.described()
         self.text = alias + described + (self.enumeration() if definition.is_enum else self.struct())
 
+    def add(self, tally: Tally) -> None:
+        """Writes the tally of the type behind its implementations."""
+        self.text += "\n" + tally.text
+        self.used |= {"Entries", *NAME.findall(tally.text)}
+        self.answers |= tally.answers
+
     # ---- heads
-    def declared(self) -> str:
-        """The parameters with their bounds, as an `impl` declares them."""
+    def declared(self, words: list[str]) -> str:
+        """The parameters with their bounds, as an `impl` declares them; those of shown fields with some words."""
         found = []
         for each in self.definition.parameters:
             bounds = [each.bounds] if each.bounds else []
             if each.kind == "type":
                 is_shown = any(holds(member.type, each.name) for member in self.members if member.is_whole)
-                mine = ["Allocative", "Described"] if is_shown else ["Described"] if each.name in self.counted else []
+                mine = words if is_shown else ["Described"] if each.name in self.counted else []
                 mine = mine if is_shown else [*mine, "Drop"]
                 bounds = [word for word in mine if word not in each.bounds.split(" + ")] + bounds
             name = f"const {each.name}" if each.kind == "const" else each.name
             found.append(f"{name}: {' + '.join(bounds)}" if bounds else name)
         return in_angles(found)
 
-    def head(self, trait: str) -> str:
+    def head(self, trait: str, *words: str) -> str:
         """The head of an implementation, up to its brace."""
-        applied = in_angles([each.name for each in self.definition.parameters])
-        first, second = f"impl{self.declared()} {trait}", f"for {self.name}{applied}"
+        declared = self.declared([*words] or ["Allocative", "Described"])
+        first, second = f"impl{declared} {trait}", f"for {self.name}{self.applied}"
         line = f"{first} {second}" if len(first) + len(second) + 3 <= WIDTH else f"{first}\n    {second}"
         conditions = "".join(f"    {each},\n" for each in split(self.definition.where))
         return f"{line}\nwhere\n{conditions}{{\n" if conditions else f"{line} {{\n"
@@ -281,11 +291,17 @@ class Writer:
         return f"{word}{own_size} {size} {each} {value}"
 
     # ---- visits
-    def part(self, member: Member, key: str, name: str, value: str) -> str:
-        """The line that makes the part of a field."""
-        self.used.add("Field" if member.size is None else "Inside")
-        part = f'Field("{key}", {value})' if member.size is None else f'Inside("{key}", {member.size}, ())'
-        return f"let {name} = {part};\n"
+    def part(self, member: Member, key: str, name: str, value: str, indent: str) -> str:
+        """The line that makes the part of a field. A container with a tally is counted first."""
+        kind = self.scope.real(member.type)
+        word, arguments = "Field", [f'"{key}"', value]
+        if member.size is not None:
+            word, arguments = "Inside", [f'"{key}"', str(member.size), "()"]
+        elif self.source.chosen.counted and kind.name in MANY and not any(holds(kind, each) for each in self.types):
+            word, arguments = "Declared", [f'"{key}"', f"<{member.type.text}>::size()", f"Counted({value})"]
+            self.used.add("Counted")
+        self.used.add(word)
+        return called(f"let {name} = ", word, arguments, ";", indent)
 
     def enter(self, parts: list[str], names: list[str], indent: str) -> str:
         """The lines that make the parts and enter them under the type's own entry."""
@@ -301,7 +317,7 @@ class Writer:
         names = bound([member.name for member in self.members], 52)
         words = self.words(self.members, f"(out-{self.name} x)" if self.cycle else "x")
         pairs = zip(self.members, names)
-        parts = [self.part(each, each.name, name, f"&self.{each.name}") for each, name in pairs]
+        parts = [self.part(each, each.name, name, f"&self.{each.name}", INDENT) for each, name in pairs]
         inside = f"({self.inside(words)})" if words or self.is_level else self.nothing
         gap = " " if len(words) > 1 or self.cycle else f"\n{INDENT}"
         self.keep_answers([], [])
@@ -350,12 +366,12 @@ class Writer:
         names, indent = bound(variant.names, 44), " " * 12
         pattern = f"{indent}{self.name}::{variant.name}{pattern_of(variant, names)}"
         kept = self.kept(variant, names)
-        parts = [self.part(member, key, name, name) for member, key, name in kept]
+        parts = [self.part(member, key, name, name, " " * 16) for member, key, name in kept]
         names = [name for _, _, name in kept]
         if variant.is_entry:
             record = self.variant_records[variant.name]
             arguments = [f'"{variant.name}"', f"<{record}>::size()", joined(names, tuple_of)]
-            parts.append(kept_part("Declared", arguments, " " * 16))
+            parts.append(called("let inside = ", "Declared", arguments, ";", " " * 16))
             names = ["inside"]
             self.used.add("Declared")
         if not parts:
@@ -489,12 +505,11 @@ def entered(name: str, arguments: list[str], indent: str) -> str:
     return f"{broken(name, arguments, indent)}\n{indent}.enter(visitor)"
 
 
-def kept_part(name: str, arguments: list[str], indent: str) -> str:
-    """The line that keeps a part under the name `inside`."""
-    line = f"let inside = {name}({', '.join(arguments)});\n"
-    if len(", ".join(arguments)) <= 60 and len(indent) + len(line) <= WIDTH + 1:
-        return line
-    return f"let inside = {broken(name, arguments, indent)};\n"
+def called(head: str, name: str, arguments: list[str], end: str, indent: str) -> str:
+    """A line with a call between a head and an end, as `let inside = ` and `;`."""
+    line = f"{head}{name}({', '.join(arguments)}){end}\n"
+    is_short_enough = len(", ".join(arguments)) <= 60 and len(indent) + len(line) <= WIDTH + 1
+    return line if is_short_enough else f"{head}{broken(name, arguments, indent)}{end}\n"
 
 
 def broken(name: str, arguments: list[str], indent: str) -> str:

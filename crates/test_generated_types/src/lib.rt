@@ -4,4 +4,5 @@
 pub mod nested;
 pub mod order;
 pub mod placed;
+pub mod tallied;
 pub mod types;

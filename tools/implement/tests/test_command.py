@@ -10,6 +10,52 @@ from ..command import main
 
 POINT = "#[derive(Drop)]\npub struct Point {\n    pub x: u32,\n}\n"
 TREE = "#[derive(Drop)]\npub enum Tree {\n    Leaf(u64),\n    Fork(Vec<Tree>),\n}\n"
+STRUCT_TALLY = """/// Values of `A`, counted.
+#[derive(Drop)]
+pub struct ATally<S1> {
+    own_: Sum,
+    own: FieldTally<<u64 as Tallied>::Tally>,
+    b: FieldTally<S1>,
+}
+
+#[tactic(auto)]
+impl<S1: Tally> Tally for ATally<S1> {
+    ghost shape = { λ t. EntryAt Wide (codes "A") t.own_
+        (Beside (EntryAt Wide (codes "own") t.own.own (⟦<<u64 as Tallied>::Tally as Tally>⟧.shape t.own.value))
+        (EntryAt Wide (codes "b") t.b.own (S1.shape t.b.value))) };
+
+    fn none() -> Self {
+        ATally {
+            own_: Sum::none(),
+            own: FieldTally::none(),
+            b: FieldTally::none(),
+        }
+    }
+
+    fn enter(&self, visitor: &mut Visitor<'_>) -> Result<(), Refusal> {
+        let own = FieldSum("own", &self.own);
+        let b = FieldSum("b", &self.b);
+        InlineSum("A", self.own_, (own, b)).enter(visitor)
+    }
+}
+
+#[tactic(auto)]
+impl<T: Tallied> Tallied for A<T> {
+    type Tally = ATally<<T as Tallied>::Tally>;
+
+    fn tally(&self, tally: &mut Self::Tally) -> Result<(), Refusal> {
+        count_own(&mut tally.own_, <A<T>>::size())?;
+        count(&mut tally.own, &self.own)?;
+        count(&mut tally.b, &self.b)?;
+        Ok(())
+    }
+}
+"""
+ENUM_ARMS = """            E::Of(a) => {
+                count(&mut tally.of_value, a)?;
+                Ok(())
+            }
+"""
 
 
 class CommandTest(unittest.TestCase):
@@ -188,6 +234,39 @@ class CommandTest(unittest.TestCase):
         self.assertEqual(status, 0)
         self.assertIn("\n    // allocative: begin\n", self.get("src/a.rt"))
         self.assertEqual(self.run_it(text, "--module", "outer")[0], 4)
+
+    def test_the_tally_of_a_struct(self) -> None:
+        _, output, _ = self.run_it("#[derive(Drop)]\nstruct A<T> {\n    own: u64,\n    b: T,\n}\n", "--counted")
+        self.assertIn(STRUCT_TALLY, output)
+        answer = self.get("proofs/a/shown/ATallied/tally/Answers.antt")
+        self.assertIn("\n    (both_counted\n    (field_counted c.in_ok-count.ensures)\n    (field_counted c.in_ok-count-2.ensures))\n", answer)
+        answer = self.get("proofs/a/shown/ATallyTally/none/Answers.antt")
+        self.assertIn("\n    (starts_both\n    (starts_field c.none-2.ensures)\n    (starts_field c.none-3.ensures))\n", answer)
+
+    def test_the_tally_of_an_enum(self) -> None:
+        text = "#[derive(Drop)]\nenum E {\n    None,\n    Of(Vec<u64>),\n    TwoOf(u64, u64),\n}\n"
+        _, output, _ = self.run_it(text, "--counted")
+        self.assertIn("    own: Sum,\n    of_value: FieldTally<<Vec<u64> as Tallied>::Tally>,\n    two_of_own: Sum,\n", output)
+        self.assertIn('        let two_of_own = InlineSum("TwoOf", self.two_of_own, (two_of_0, two_of_1));\n', output)
+        self.assertIn('let a = Declared("Of", <Vec<u64>>::size(), Counted(a));', output)
+        self.assertIn(ENUM_ARMS, output)
+        answer = self.get("proofs/a/shown/ETallied/tally/Answers.antt")
+        self.assertIn("returns-in_ok-count-in-TwoOf-2 c =\n    rw c.in-TwoOf.is (whole_counted c.size.ensures", answer)
+        self.assertIn("    (second_counted (whole_counted c.size-in-TwoOf.ensures c.in_ok-count_own-in-TwoOf.ensures\n", answer)
+
+    def test_types_without_a_tally(self) -> None:
+        for text, why in (
+            ("struct A(Vec<A>);", "it holds itself"),
+            ("struct A<'a, T>(T, PhantomData<&'a T>);", "it has a lifetime"),
+            ("struct A {\n    // allocative: skip\n    a: u64,\n}", "the field a is not shown whole"),
+            ("struct A(Vec<IdRc<u64>>);", "`IdRc<u64>` has no tally"),
+            ("enum A {\n    B(u64),\n}", "it is an enum of one variant"),
+            ("enum A<T> {\n    B(u64, T),\n    C,\n}", "it has parameters, and a variant of several fields"),
+        ):
+            text = f"use allocative::IdRc;\nuse std::marker::PhantomData;\n#[derive(Drop)]\n{text}\n"
+            status, output, told = self.run_it(text, "--counted")
+            self.assertEqual((status, output, len(told)), (4, "", 1))
+            self.assertIn(f"4: A: no tally, as {why}: write it in a file of its own", told[0])
 
     def test_lines_that_are_asked_for(self) -> None:
         with open(os.path.join(self.top, "crates.txt"), "w", encoding="utf-8") as file:

@@ -1,0 +1,242 @@
+"""The text of tallies, which count the values of a type before they are entered, and the answers of their proofs."""
+
+from __future__ import annotations
+
+import re
+from functools import reduce
+from typing import TYPE_CHECKING, Any, Callable, NamedTuple
+
+from .known import Scope
+from .text import INDENT, MARK, WIDTH, bound, called, entered, holds, in_angles, joined, laid, pattern_of
+from .tokens import Fault
+from .types import Member, Type, Variant
+
+if TYPE_CHECKING:
+    from .text import Writer
+
+# Types of the library that have no tally.
+UNTALLIED = set("PhantomData Value Number OnceBox Error IdRc IdArc".split())
+# The modules of the library that have the words of the code.
+HOMES = {"counted": {"Counted"}, "field": {"FieldSum", "FieldTally", "count", "count_own"}}
+HOMES["tally"] = {"Entries", "InlineSum", "Sum", "Tallied", "Tally"}
+SHAPES = {"Beside", "EntryAt", "NoEntry", "Wide"}
+LEMMA = re.compile(r"\b(?:starts_\w+|\w+_counted|holding)\b")
+HUMP = re.compile(r"(?<=[a-z0-9])(?=[A-Z])")
+
+
+class Part(NamedTuple):
+    """What has an entry, with its field of the tally: a field of a kind, or what has other parts inside it."""
+
+    name: str
+    key: str
+    kind: str = ""
+    inside: tuple[Part, ...] = ()
+
+
+def reason(scope: Scope, kind: Type, parameters: tuple[str, ...]) -> str:
+    """Why the values of a type have no tally, or nothing."""
+    kind = scope.real(kind)
+    own, has_tally = scope.own(kind), kind.form in ("path", "tuple", "array", "constant")
+    if own:
+        has_tally = own.name in scope.wanted or "Tallied" in scope.module.implemented.get(own.name, ())
+    elif kind.form == "path" and kind.name not in parameters:
+        is_known = kind.name not in UNTALLIED and scope.is_of_library(kind)
+        has_tally = is_known or (len(scope.path(kind)) > 1 and not scope.outside(scope.path(kind), ("Tallied",)))
+    whys = (reason(scope, part, parameters) for part in kind.parts)
+    return next(filter(None, whys), "") if has_tally else f"`{kind.text}` has no tally"
+
+
+def paired(parts: list[Any], pair: Callable[[Any, Any], Any], none: Any) -> Any:
+    """Parts joined two by two, as what a value shows."""
+    return joined(parts, lambda some: reduce(lambda last, one: pair(one, last), some[::-1])) if parts else none
+
+
+class Tally:
+    """Writes the tally of a type. `text` is its text, and `answers` has the answers by their folder."""
+
+    def __init__(self, writer: Writer) -> None:
+        self.writer, self.definition = writer, writer.definition
+        self.refuse()
+        self.kinds: list[str] = []
+        self.names: set[str] = set()
+        self.answers: dict[str, str] = {}
+        self.arms = [(each, self.part(each)) for each in self.definition.variants]
+        parts = tuple(part for _, part in self.arms if part)
+        self.root = Part(self.free("own"), writer.name, "", parts if self.definition.is_enum else parts[0].inside)
+        self.flat = [self.root, *(each for part in self.root.inside for each in (part, *part.inside))]
+        self.parameters = [f"S{number + 1}" for number in range(len(self.kinds))]
+        self.name = writer.source.free(writer.name, "Tally")
+        self.text = self.struct() + self.tally() + self.tallied()
+
+    def refuse(self) -> None:
+        """Refuses the types that have no tally."""
+        writer, definition, variants = self.writer, self.definition, self.definition.variants
+        whys = ["it holds itself"] if writer.cycle else ["it has a lifetime"] if writer.is_borrowed else []
+        whys += [f"the field {each.name} is not shown whole" for each in definition.members if not each.is_whole]
+        whys += filter(None, (reason(writer.scope, each.type, writer.types) for each in definition.members))
+        if definition.is_enum and len(variants) == 1:
+            whys.append("it is an enum of one variant")
+        if definition.is_enum and writer.types and any(each.is_entry for each in variants):
+            whys.append("it has parameters, and a variant of several fields")
+        if whys:
+            what = f"no tally, as {whys[0]}: write it in a file of its own, without `--counted`"
+            raise Fault(definition.at, what)
+
+    # ---- the fields of a tally
+    def free(self, name: str) -> str:
+        """A name for a field that no other has."""
+        while name in self.names:
+            name += "_"
+        self.names.add(name)
+        return name
+
+    def field(self, member: Member, key: str, name: str) -> Part:
+        """The part of a field. If its type has parameters, what counts it is a parameter of the tally."""
+        kind = f"<{member.type.text} as Tallied>::Tally"
+        if any(holds(member.type, each) for each in self.writer.types):
+            self.kinds.append(kind)
+            kind = f"S{len(self.kinds)}"
+        return Part(self.free(name), key, kind)
+
+    def part(self, variant: Variant) -> Part | None:
+        """The part of a variant, or of all fields of a struct."""
+        start = f"{HUMP.sub('_', variant.name).lower()}_" if self.definition.is_enum else ""
+        if start and not variant.is_entry:
+            return self.field(variant.members[0], variant.name, f"{start}value") if variant.members else None
+        names = [name if start or name.isidentifier() else f"part{name}" for name in variant.names]
+        inside = [self.field(each, each.name, start + name) for each, name in zip(variant.members, names)]
+        return Part(self.free(f"{start}own") if start else "", variant.name, "", tuple(inside))
+
+    # ---- what counts
+    def struct(self) -> str:
+        lines = ""
+        for part in self.flat:
+            kind = Type("path", f"FieldTally<{part.kind}>", (), (Type("other", part.kind),))
+            lines += f"    {part.name}: {laid(kind, 4, WIDTH - 7 - len(part.name)) if part.kind else 'Sum'},\n"
+        head = f"/// Values of `{self.writer.name}`, counted.\n#[derive(Drop)]\n"
+        return f"{head}pub struct {self.name}{in_angles(self.parameters)} {{\n{lines}}}\n\n"
+
+    def shape(self, part: Part) -> str:
+        entry = f'(EntryAt Wide (codes "{part.key}") t.{part.name}'
+        word = part.kind if part.kind in self.parameters else f"⟦<{part.kind} as Tally>⟧"
+        shapes = [self.shape(each) for each in part.inside]
+        inside = paired(shapes, f"(Beside {{}}\n{INDENT}{{}})".format, "NoEntry")
+        return f"{entry}.own ({word}.shape t.{part.name}.value))" if part.kind else f"{entry}\n{INDENT}{inside})"
+
+    def tally(self) -> str:
+        declared = in_angles([f"{each}: Tally" for each in self.parameters])
+        head = f"impl{declared} Tally for {self.name}{in_angles(self.parameters)} {{\n"
+        none = [f"{part.name}: {'FieldTally' if part.kind else 'Sum'}::none()" for part in self.flat]
+        lines = "".join(f"\n{' ' * 12}{each}," for each in none) + f"\n{INDENT}" if none[1:] else f" {none[0]} "
+        starts = self.starts(self.root, "starts_whole _")[1:-1]
+        self.answer(f"{self.name}Tally/none", [("returns", starts)], bool(self.parameters))
+        return (
+            f"#[tactic(auto)]\n{head}    ghost shape = {{ λ t. {self.shape(self.root)[1:-1]} }};\n\n"
+            f"    fn none() -> Self {{\n{INDENT}{self.name} {{{lines}}}\n    }}\n\n"
+            f"    fn enter(&self, visitor: &mut Visitor<'_>) -> Result<(), Refusal> {{\n{self.entering()}    }}\n}}\n\n"
+        )
+
+    def entering(self) -> str:
+        """The lines that enter what was counted."""
+        names, text = dict(zip(self.flat[1:], bound([part.name for part in self.flat[1:]], 52))), ""
+        for part in sorted(self.flat, key=lambda part: (not part.kind, part is self.root)):
+            inside = paired([names[each] for each in part.inside], "({}, {})".format, "()")
+            word, arguments = "FieldSum", [f'"{part.key}"', f"&self.{part.name}"]
+            if not part.kind:
+                word, arguments = "InlineSum", [f'"{part.key}"', f"self.{part.name}", inside]
+            if part is not self.root:
+                text += INDENT + called(f"let {names[part]} = ", word, arguments, ";", INDENT)
+        return f"{text}{INDENT}{entered(word, arguments, INDENT)}\n"
+
+    def tallied(self) -> str:
+        writer, kinds = self.writer, tuple(Type("other", each) for each in self.kinds)
+        kind = laid(Type("path", self.name + in_angles(self.kinds), (), kinds), 4, WIDTH - 17)
+        body = self.counting(self.root, f"<{writer.name}{writer.applied}>::size()", INDENT)
+        if self.definition.is_enum:
+            body += f"{INDENT}match self {{\n{''.join(self.arm(*each) for each in self.arms)}{INDENT}}}\n"
+        else:
+            body += "".join(self.counting(part, f"&self.{part.key}", INDENT) for part in self.root.inside)
+            body += f"{INDENT}Ok(())\n"
+        self.answer(f"{writer.name}Tallied/tally", self.counted(), bool(writer.types))
+        return (
+            f"#[tactic(auto)]\n{writer.head('Tallied', 'Tallied')}    type Tally = {kind};\n\n"
+            f"    fn tally(&self, tally: &mut Self::Tally) -> Result<(), Refusal> {{\n{body}    }}\n}}\n"
+        )
+
+    def counting(self, part: Part, value: str, indent: str) -> str:
+        """The line that counts an entry."""
+        word = "count" if part.kind else "count_own"
+        return indent + called("", word, [f"&mut tally.{part.name}", value], "?;", indent)
+
+    def arm(self, variant: Variant, part: Part | None) -> str:
+        """The lines that count the fields of a variant."""
+        names, indent = bound(variant.names, 44), " " * 16
+        head = f"{' ' * 12}{self.writer.name}::{variant.name}{pattern_of(variant, names)} => "
+        if not part:
+            return f"{head}Ok(()),\n"
+        parts, values = (part, *part.inside), names
+        if not part.kind:
+            values = [f"<{self.writer.variant_records[variant.name]}>::size()", *names]
+        lines = "".join(self.counting(each, value, indent) for each, value in zip(parts, values))
+        return f"{head}{{\n{lines}{indent}Ok(())\n{' ' * 12}}}\n"
+
+    # ---- answers
+    def starts(self, part: Part, word: str) -> str:
+        """The proof that nothing is counted at first."""
+        at = self.flat.index(part)
+        step = f"c.none-{at + 1}" if at else "c.none"
+        inside = [self.starts(each, "starts_entry") for each in part.inside]
+        proof = paired(inside, "(starts_both\n    {}\n    {})".format, "starts_none")
+        sums = f"{step}.result {step}.ensures.there {step}.ensures.bytes"
+        return f"(starts_field {step}.ensures)" if part.kind else f"({word} {sums}\n    {proof})"
+
+    def counted(self) -> list[tuple[str, str]]:
+        """The proofs of what is counted, each with the name of its goal."""
+        if not self.definition.is_enum:
+            return [("returns", whole("", fields(self.root.inside, "")))]
+        found = []
+        for variant, part in self.arms:
+            arm, last = f"-in-{variant.name}", f"-{variant.name}"
+            proof = "nothing_counted"
+            if part:
+                last = f"_ok-count{arm}{ordinal(len(part.inside or (part,)))}"
+                proof = fields((part,), arm) if part.kind else f"({whole(arm, fields(part.inside, arm))})"
+                proof = placed(paired([*self.root.inside], lambda one, later: [one, later], None), part, proof)
+            found.append((f"returns-in{last}", f"rw c{arm.replace('-', '.', 1)}.is ({whole('', proof)})"))
+        return found
+
+    def answer(self, folder: str, proofs: list[tuple[str, str]], is_generic: bool) -> None:
+        """Keeps the answers of a function."""
+        path, given = (*self.writer.source.text_at, *folder.split("/")), "g c" if is_generic else "c"
+        body = "".join(f"\npub {goal} : goal.{goal}\n{goal} {given} =\n    {proof}\n" for goal, proof in proofs)
+        words = sorted(set(LEMMA.findall(body)))
+        lines = [", ".join(words[at : at + 4]) for at in range(0, len(words), 4)]
+        uses = "".join(f"use Rattle.allocative_tally.proofs.Fields.{{{line}}}\n" for line in lines)
+        uses = ("use Rattle.std.proofs.Common.{rules}\n" if "rules" in body else "") + uses
+        goals = ".".join(("Rattle", self.writer.source.crate.name, "proofs", *path, "Goals"))
+        self.answers["/".join(path)] = f"{MARK}\n{uses}use {goals} as goal\n{body}"
+
+
+def ordinal(at: int) -> str:
+    """What a step's name ends with, if it is one of several."""
+    return f"-{at}" if at > 1 else ""
+
+
+def fields(parts: tuple[Part, ...], arm: str) -> str:
+    """The proof for fields, which are counted in an arm."""
+    steps = [f"(field_counted c.in_ok-count{arm}{ordinal(at)}.ensures)" for at in range(1, len(parts) + 1)]
+    return paired(steps, "(both_counted\n    {}\n    {})".format, "nothing_counted")
+
+
+def whole(arm: str, inside: str) -> str:
+    """The proof for an entry, from that for what is inside it."""
+    entry = f"whole_counted c.size{arm}.ensures c.in_ok-count_own{arm}.ensures"
+    return f"{entry}\n    {inside}\n    (search (rules, holding))"
+
+
+def placed(tree: Any, part: Part, proof: str) -> str:
+    """The proof for a part, from its place among others."""
+    if tree is part:
+        return proof
+    pairs = zip(("first", "second"), tree if isinstance(tree, list) else ())
+    return "".join(f"({word}_counted {inner})" for word, each in pairs if (inner := placed(each, part, proof)))
