@@ -18,7 +18,7 @@ if TYPE_CHECKING:
 UNTALLIED = set("PhantomData ManuallyDrop IndexMap IndexSet SmallVec Slab Value Number OnceBox Error IdRc IdArc".split())
 UNTALLIED |= {name for name in NUMBERS if name.startswith("Atomic")}
 # The modules of the library that have the words of the code.
-HOMES = {"counted": {"Counted"}, "field": {"FieldSum", "FieldTally", "count", "count_own"}}
+HOMES = {"field": {"CountedField", "FieldSum", "FieldTally", "count", "count_own"}}
 HOMES["tally"] = {"Entries", "InlineSum", "Sum", "Tallied", "Tally"}
 SHAPES = {"Beside", "EntryAt", "NoEntry", "Wide"}
 LEMMA = re.compile(r"\b(?:starts_\w+|\w+_counted|holding)\b")
