@@ -6,7 +6,7 @@ import re
 from functools import reduce
 from typing import TYPE_CHECKING, Any, Callable, NamedTuple
 
-from .known import Scope
+from .known import NUMBERS, Scope
 from .text import INDENT, MARK, WIDTH, bound, called, entered, holds, in_angles, joined, laid, pattern_of
 from .tokens import Fault
 from .types import Member, Type, Variant
@@ -15,9 +15,10 @@ if TYPE_CHECKING:
     from .text import Writer
 
 # Types of the library that have no tally.
-UNTALLIED = set("PhantomData Value Number OnceBox Error IdRc IdArc".split())
+UNTALLIED = set("PhantomData ManuallyDrop IndexMap IndexSet SmallVec Slab Value Number OnceBox Error IdRc IdArc".split())
+UNTALLIED |= {name for name in NUMBERS if name.startswith("Atomic")}
 # The modules of the library that have the words of the code.
-HOMES = {"counted": {"Counted"}, "field": {"FieldSum", "FieldTally", "count", "count_own"}}
+HOMES = {"field": {"CountedField", "FieldSum", "FieldTally", "count", "count_own"}}
 HOMES["tally"] = {"Entries", "InlineSum", "Sum", "Tallied", "Tally"}
 SHAPES = {"Beside", "EntryAt", "NoEntry", "Wide"}
 LEMMA = re.compile(r"\b(?:starts_\w+|\w+_counted|holding)\b")
@@ -36,7 +37,7 @@ class Part(NamedTuple):
 def reason(scope: Scope, kind: Type, parameters: tuple[str, ...]) -> str:
     """Why the values of a type have no tally, or nothing."""
     kind = scope.real(kind)
-    own, has_tally = scope.own(kind), kind.form in ("path", "tuple", "array", "constant")
+    own, has_tally = scope.own(kind), kind.form == "path" or (kind.form == "tuple" and len(kind.parts) != 1)
     if own:
         has_tally = own.name in scope.wanted or "Tallied" in scope.module.implemented.get(own.name, ())
     elif kind.form == "path" and kind.name not in parameters:

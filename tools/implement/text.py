@@ -298,8 +298,7 @@ class Writer:
         if member.size is not None:
             word, arguments = "Inside", [f'"{key}"', str(member.size), "()"]
         elif self.source.chosen.counted and kind.name in MANY and not any(holds(kind, each) for each in self.types):
-            word, arguments = "Declared", [f'"{key}"', f"<{member.type.text}>::size()", f"Counted({value})"]
-            self.used.add("Counted")
+            word = "CountedField"
         self.used.add(word)
         return called(f"let {name} = ", word, arguments, ";", indent)
 

@@ -5,9 +5,11 @@ ghost use Rattle.std.specs.Prelude.{IfOk};
 ghost use Rattle.allocative_tally.specs.Shapes.{Wide, EntryAt};
 ghost use Rattle.allocative_tally.specs.Tallies.{TalliesField};
 ghost use Rattle.allocative_tally.specs.Fields.{AddsSize, HasNothing};
+ghost use Rattle.allocative.specs.Shows as shows;
 
+use crate::counted::Counted;
 use crate::tally::{Entries, InlineSum, Sum, Tallied, Tally, count_field};
-use allocative::{IntoKey, Refusal, Visitor};
+use allocative::{Declared, Described, IntoKey, Part, Refusal, Visitor};
 
 /// The values of one field, counted: its entries, and what its values show inside them.
 #[derive(Drop)]
@@ -59,5 +61,21 @@ impl<'a, K: IntoKey, S: Tally> Entries for FieldSum<'a, K, S> {
 
     fn enter(self, visitor: &mut Visitor<'_>) -> Result<(), Refusal> {
         InlineSum(self.0, self.1.own, &self.1.value).enter(visitor)
+    }
+}
+
+/// The field that `Field` enters, counted first.
+#[derive(Drop)]
+pub struct CountedField<'a, K, T>(pub K, pub &'a T);
+
+#[tactic(auto, using(allocative::proofs::Parts::parts))]
+impl<'a, K: IntoKey, T: Tallied> Part for CountedField<'a, K, T> {
+    ghost may_show = { λ f. shows.Field (K.key f.0) T.size (T.may_show f.1.now) };
+
+    ghost is_exact = { T.is_exact };
+
+    #[inline(always)]
+    fn enter(self, visitor: &mut Visitor<'_>) -> Result<(), Refusal> {
+        Declared(self.0, T::size(), Counted(self.1)).enter(visitor)
     }
 }

@@ -16,8 +16,7 @@ ghost use Rattle.allocative.specs.Shows as shows;
 ghost use Rattle.allocative_tally.specs.Shapes.{Beside, EntryAt, Wide};
 
 use allocative::{Declared, Described, Or, Part, Record, Refusal, Visitor, Whole};
-use allocative_tally::counted::Counted;
-use allocative_tally::field::{FieldSum, FieldTally, count, count_own};
+use allocative_tally::field::{CountedField, FieldSum, FieldTally, count, count_own};
 use allocative_tally::tally::{Entries, InlineSum, Sum, Tallied, Tally};
 
 type ShelfLayout<T> = Record<(u64, (Option<String>, (T, (Vec<T>, ()))))>;
@@ -180,7 +179,7 @@ impl Allocative for Event {
             }
             Event::Sale { shelf, prices } => {
                 let shelf = Field("shelf", shelf);
-                let prices = Declared("prices", <Vec<u64>>::size(), Counted(prices));
+                let prices = CountedField("prices", prices);
                 let inside = Declared("Sale", <EventSaleFields>::size(), (shelf, prices));
                 Whole(self, inside).enter(visitor)
             }

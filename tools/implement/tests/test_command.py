@@ -248,7 +248,7 @@ class CommandTest(unittest.TestCase):
         _, output, _ = self.run_it(text, "--counted")
         self.assertIn("    own: Sum,\n    of_value: FieldTally<<Vec<u64> as Tallied>::Tally>,\n    two_of_own: Sum,\n", output)
         self.assertIn('        let two_of_own = InlineSum("TwoOf", self.two_of_own, (two_of_0, two_of_1));\n', output)
-        self.assertIn('let a = Declared("Of", <Vec<u64>>::size(), Counted(a));', output)
+        self.assertIn('let a = CountedField("Of", a);', output)
         self.assertIn(ENUM_ARMS, output)
         answer = self.get("proofs/a/shown/ETallied/tally/Answers.antt")
         self.assertIn("returns-in_ok-count-in-TwoOf-2 c =\n    rw c.in-TwoOf.is (whole_counted c.size.ensures", answer)
