@@ -6,9 +6,11 @@ use Rattle.allocative_tally.specs.Shapes.{Shape, Wide, NoEntry, Beside, EntryAt,
 use Rattle.allocative_tally.specs.Tallies.{Tallies, TalliesField}
 use Rattle.allocative_tally.specs.Fields.{AddsSize, HasNothing}
 use Rattle.allocative_tally.specs.declared.tally.Sum.{Sum}
-use Rattle.allocative_tally.proofs.Counting.{both_bounds, counted_field, counted_inline, tallies_both, tallies_none, tallies_as}
+use Rattle.allocative_tally.proofs.Counting.{both_bounds, counted_field, counted_inline, tallies_both, tallies_none}
+use Rattle.allocative_tally.proofs.Counting.{tallies_as}
 use Rattle.allocative.proofs.Exact.{followed_by-empty}
-use Rattle.allocative_tally.proofs.Sizes.{HasRoom, room_up, room_sum, room_second, room_max_first, room_max_second, room_then, room_both, fits_room}
+use Rattle.allocative_tally.proofs.Sizes.{HasRoom, room_up, room_sum, room_second, room_max_first, room_max_second}
+use Rattle.allocative_tally.proofs.Sizes.{room_then, room_both, fits_room}
 
 -- ---- nothing counted
 -- Nothing is counted in a shape.
@@ -141,13 +143,15 @@ pub both_counted : {m n : Option ℕ} {p q : Showing} {s t u v : Shape} → Tall
 both_counted a b = tallies_both a b
 
 -- A value was counted into the first of two shapes.
-pub first_counted : {w : Option ℕ} {p : Showing} {s t u : Shape} → Tallies w p s t → Tallies w p (Beside s u) (Beside t u)
+pub first_counted : {w : Option ℕ} {p : Showing} {s t u : Shape} → Tallies w p s t →
+    Tallies w p (Beside s u) (Beside t u)
 first_counted {w} {p} {u = u} c = tallies_within w (holds_no_more w holds_itself)
     (tallies_as (λ h (a, b, x, e, i). subst p (sym (i ∙ ap (followed_by a) e ∙ followed_by-empty a)) x)
     (tallies_both {q = Nothing} c (tallies_none {w = Some 0} refl)))
 
 -- A value was counted into the second of two shapes.
-pub second_counted : {w : Option ℕ} {p : Showing} {s t u : Shape} → Tallies w p s t → Tallies w p (Beside u s) (Beside u t)
+pub second_counted : {w : Option ℕ} {p : Showing} {s t u : Shape} → Tallies w p s t →
+    Tallies w p (Beside u s) (Beside u t)
 second_counted {w} {p} {u = u} c = tallies_within w (holds_none_more w)
     (tallies_as (λ h (a, b, e, x, i). subst p (sym (i ∙ ap (λ z. followed_by z b) e)) x)
     (tallies_both {p = Nothing} (tallies_none {w = Some 0} refl) c))

@@ -17,6 +17,7 @@ use Rattle.allocative.proofs.Exact.{followed_by_assoc}
 use Rattle.allocative_tally.specs.Merged.{IsPlain, Merged}
 use Rattle.allocative_tally.proofs.Unshared.{plain_both, plain_entry}
 
+-- A forest with no shared entry merges itself.
 pub merged_same : (f : Forest) → IsPlain f → Merged f f
 merged_same f h = record {
   plain = h;
@@ -30,6 +31,7 @@ merged_same f h = record {
   fits = λ o w. w;
 }
 
+-- What merges a forest that merges another one merges that one too.
 pub merged_then : {f g h : Forest} → Merged f g → Merged g h → Merged f h
 merged_then m l = record {
   plain = m.plain;
@@ -48,6 +50,7 @@ sums_both : (s : Sums) (p : Path) (f g : Forest) → add_all s (own_behind p (fo
     (own_behind p f)) (own_behind p g)
 sums_both s p f g = ap (add_all s) (own-following p f g) ∙ fold-append add s (own_behind p f) (own_behind p g)
 
+-- The inline bytes of two forests, one after another, add up.
 inline_both : (f g : Forest) → inline_bytes (followed_by f g) ≡ inline_bytes f + inline_bytes g
 inline_both Empty g = omega arith
 inline_both (Inline k n f after) g = omega (arith, inline_both after g)
@@ -55,6 +58,7 @@ inline_both (Unique k n f after) g = inline_both after g
 inline_both (First k n j f after) g = inline_both after g
 inline_both (Again k n j after) g = inline_both after g
 
+-- The held bytes of two forests, one after another, add up.
 held_both : (f g : Forest) → held (followed_by f g) ≡ held f + held g
 held_both Empty g = omega arith
 held_both (Inline k n f after) g = omega (arith, held_both after g)
@@ -62,6 +66,7 @@ held_both (Unique k n f after) g = omega (arith, held_both after g)
 held_both (First k n j f after) g = held_both after g
 held_both (Again k n j after) g = held_both after g
 
+-- All bytes of two forests, one after another, add up.
 bytes_both : (f g : Forest) → all_bytes (followed_by f g) ≡ all_bytes f + all_bytes g
 bytes_both Empty g = omega arith
 bytes_both (Inline k n f after) g = omega (arith, bytes_both after g)
@@ -69,6 +74,7 @@ bytes_both (Unique k n f after) g = omega (arith, bytes_both after g)
 bytes_both (First k n j f after) g = omega (arith, bytes_both after g)
 bytes_both (Again k n j after) g = omega (arith, bytes_both after g)
 
+-- If two forests together exceed no word, neither does.
 words_apart : (o : ℕ) (f g : Forest) → FitsWords o (followed_by f g) → FitsWords o f × FitsWords o g
 words_apart o Empty g h = (tt, h)
 words_apart o (Inline k n f after) g h = let r = words_apart o after g h.3 in ((h.0, h.1, h.2, r.0), r.1)
@@ -76,6 +82,7 @@ words_apart o (Unique k n f after) g h = let r = words_apart o after g h.3 in ((
 words_apart o (First k n i f after) g h = words_apart o after g h
 words_apart o (Again k n i after) g h = words_apart o after g h
 
+-- If neither of two forests exceeds a word, they do not together.
 words_both : (o : ℕ) (f g : Forest) → FitsWords o f → FitsWords o g → FitsWords o (followed_by f g)
 words_both o Empty g h l = l
 words_both o (Inline k n f after) g h l = (h.0, h.1, h.2, words_both o after g h.3 l)
@@ -83,6 +90,7 @@ words_both o (Unique k n f after) g h l = (h.0, h.1, h.2, words_both o after g h
 words_both o (First k n i f after) g h l = words_both o after g h l
 words_both o (Again k n i after) g h l = words_both o after g h l
 
+-- Two forests, one after another, are merged if each is.
 pub merged_both : {f g h k : Forest} → Merged f g → Merged h k → Merged (followed_by f h) (followed_by g k)
 merged_both {f} {g} {h} {k} m l = record {
   plain = plain_both f h m.plain l.plain;
@@ -101,9 +109,11 @@ merged_both {f} {g} {h} {k} m l = record {
 abbrev swapped : List Entry → List Entry → Type 0
 swapped a b = (s : Sums) → add_all s (a ++ b) ≡ add_all s (b ++ a)
 
+-- Adding two bags does not depend on which comes first.
 swaps : (a b : Bag) → swapped a b
 swaps a b s = add_all-same s (a ++ b) (b ++ a) (λ w. simp sum_by-append (omega arith))
 
+-- Two forests merge each other in the other order.
 pub merged_swapped : (f g : Forest) → IsPlain f → IsPlain g → Merged (followed_by f g) (followed_by g f)
 merged_swapped f g h l = record {
   plain = plain_both f g h l;
@@ -132,9 +142,11 @@ merged_crossed f g h k x y z w =
 abbrev mark_of : Bool → Mark
 mark_of u = cond u AsUnique AsInline
 
+-- An entry by itself, unique or inline.
 abbrev entry_at : Bool → Path → Key → ℕ → Entry
 entry_at u p k n = record { path = p ++ k ∷ []; size = n; mark = mark_of u }
 
+-- The own entries of one entry: itself, and then those inside it.
 own_entry : (u : Bool) (p : Path) (k : Key) (n : ℕ) (f : Forest) →
     own_behind p (entry_of u k n f) ≡ entry_at u p k n ∷ own_behind (p ++ k ∷ []) f
 own_entry true p k n f = ap (λ b. entry_at true p k n ∷ b) (append-nil (own_behind (p ++ k ∷ []) f))
@@ -152,21 +164,25 @@ one_entry s u p k n m = same_sums _ _ (λ q. grind (
   same_path_itself (p ++ k ∷ []),
 ))
 
+-- Two entries of one key and mark have the inline bytes of the one that merges them.
 inline_entry : (u : Bool) (k : Key) (n m : ℕ) (f g : Forest) → inline_bytes (followed_by (entry_of u k n f)
     (entry_of u k m g)) ≡ inline_bytes (entry_of u k (n + m) (followed_by f g))
 inline_entry true k n m f g = refl
 inline_entry false k n m f g = omega arith
 
+-- Two entries of one key and mark have the held bytes of the one that merges them.
 held_entry : (u : Bool) (k : Key) (n m : ℕ) (f g : Forest) → held (followed_by (entry_of u k n f)
     (entry_of u k m g)) ≡ held (entry_of u k (n + m) (followed_by f g))
 held_entry true k n m f g = omega (arith, inline_both f g, held_both f g)
 held_entry false k n m f g = omega (arith, held_both f g)
 
+-- Two entries of one key and mark have all bytes of the one that merges them.
 bytes_entry : (u : Bool) (k : Key) (n m : ℕ) (f g : Forest) → all_bytes (followed_by (entry_of u k n f)
     (entry_of u k m g)) ≡ all_bytes (entry_of u k (n + m) (followed_by f g))
 bytes_entry true k n m f g = omega (arith, bytes_both f g)
 bytes_entry false k n m f g = omega (arith, bytes_both f g)
 
+-- Two entries of one key and mark have the bytes at the top of the one that merges them.
 direct_entry : (u : Bool) (k : Key) (n m : ℕ) (f g : Forest) → direct (followed_by (entry_of u k n f)
     (entry_of u k m g)) ≡ direct (entry_of u k (n + m) (followed_by f g))
 direct_entry true k n m f g = omega arith
@@ -176,17 +192,20 @@ direct_entry false k n m f g = omega arith
 abbrev pub KeepsOwned : Bool → ℕ → ℕ → Forest → Forest → Type 0
 KeepsOwned u n m f g = u ≡ false → (n - direct f) + (m - direct g) ≡ (n + m) - (direct f + direct g)
 
+-- Two entries of one key and mark own what the one that merges them owns.
 owned_entry : (u : Bool) (k : Key) (n m : ℕ) (f g : Forest) → KeepsOwned u n m f g →
     owned (followed_by (entry_of u k n f) (entry_of u k m g)) ≡ owned (entry_of u k (n + m) (followed_by f g))
 owned_entry true k n m f g e = omega (arith, owned-following f g)
 owned_entry false k n m f g e = omega (arith, owned-following f g, direct-following f g, e refl)
 
+-- The entry that merges two exceeds no word if neither of them does, and their bytes fit a word.
 fits_entry : (u : Bool) (k : Key) (n m : ℕ) (f g : Forest) (o : ℕ) → n + m < 2 ^ 64 →
     FitsWords o (followed_by (entry_of u k n f) (entry_of u k m g)) →
     FitsWords o (entry_of u k (n + m) (followed_by f g))
 fits_entry true k n m f g o room w = (room, w.1, words_both (suc o) f g w.2 w.3.2, tt)
 fits_entry false k n m f g o room w = (room, w.1, words_both (suc o) f g w.2 w.3.2, tt)
 
+-- Two entries of one key and mark are one entry of the bytes of both, with both insides.
 pub merged_entry : (u : Bool) (k : Key) (n m : ℕ) (f g : Forest) → IsPlain f → IsPlain g → n + m < 2 ^ 64 →
     KeepsOwned u n m f g → Merged (followed_by (entry_of u k n f) (entry_of u k m g)) (entry_of u k (n + m)
     (followed_by f g))

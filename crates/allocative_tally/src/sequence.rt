@@ -82,7 +82,8 @@ pub fn count_slice<T: Tallied>(
     sum: &mut Sum,
     tally: &mut T::Tally,
 ) -> Result<(), Refusal>
-    ensures { IfOk result (λ _. Tallies None (slice_shows T.name (Some size) T.needs_drop T.may_show items.now)
+    ensures { IfOk result (λ _. Tallies None
+        (slice_shows T.name (Some size) T.needs_drop T.may_show items.now)
         (slice_shape T.name sum.old (T.Tally.shape tally.old)) (slice_shape T.name sum.new (T.Tally.shape tally.new))) }
 {
     if are_shown_each::<T>(size) {
@@ -99,7 +100,8 @@ pub fn count_slice<T: Tallied>(
 /// Counts unused places.
 #[inline(always)]
 pub fn count_unused(sum: &mut Sum, size: usize, count: usize) -> Result<(), Refusal>
-    ensures { IfOk result (λ _. Tallies None (bytes_shown (codes "unused_capacity") (Some size) count)
+    ensures { IfOk result (λ _. Tallies None
+        (bytes_shown (codes "unused_capacity") (Some size) count)
         (EntryAt Wide (codes "unused_capacity") sum.old NoEntry)
         (EntryAt Wide (codes "unused_capacity") sum.new NoEntry)) }
 {

@@ -171,8 +171,8 @@ pub fn count_field<T: Tallied>(
     tally: &mut T::Tally,
     value: &T,
 ) -> Result<(), Refusal>
-    ensures { IfOk result (λ _. TalliesField T.size (T.may_show value.now) sum.old (T.Tally.shape tally.old)
-        sum.new (T.Tally.shape tally.new)) }
+    ensures { IfOk result (λ _. TalliesField T.size (T.may_show value.now)
+        sum.old (T.Tally.shape tally.old) sum.new (T.Tally.shape tally.new)) }
 {
     let Some(size) = T::size() else {
         return Err(Refusal::TooLarge);

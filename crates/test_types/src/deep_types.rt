@@ -135,8 +135,8 @@ fn a_hashed_map_of_its_own_type(rt: HostRuntime) -> Result<(), Fail> {
     let folder = Folder { inner };
     let text =
         "Folder;inner;HashMap 40\nFolder;inner;HashMap;data;key;u32 4\nFolder;inner;HashMap;data;value;Folder;inner;HashMap 40\nFolder;inner;HashMap;data;value;Folder;inner;HashMap;data 8\n";
-    let warnings =
-        "Incorrect size declaration for node `Folder;inner;HashMap;data`, size of self: 8, size of inline children: 52\n";
+    let warnings = "Incorrect size declaration for node `Folder;inner;HashMap;data`, \
+size of self: 8, size of inline children: 52\n";
     expect_warned(&rt, &folder, text, 92, warnings)?;
     assert_eq!(rt; size_of_unique_allocated_data(&folder)?, 0);
     Ok(())
