@@ -46,6 +46,7 @@ merged_then m l = record {
 }
 
 -- ---- one forest after another
+-- Adding two forests, one after another, adds the first and then the second.
 sums_both : (s : Sums) (p : Path) (f g : Forest) → add_all s (own_behind p (followed_by f g)) ≡ add_all (add_all s
     (own_behind p f)) (own_behind p g)
 sums_both s p f g = ap (add_all s) (own-following p f g) ∙ fold-append add s (own_behind p f) (own_behind p g)
