@@ -9,7 +9,11 @@ use std::process::Abort;
 use std::test::Fail;
 
 /// The counted profile of the value has this text, as the profile one by one has.
-pub fn expect<T: Tallied>(rt: &(impl Abort + AllocGlobal), value: &T, text: &str) -> Result<(), Fail> {
+pub fn expect<T: Tallied>(
+    rt: &(impl Abort + AllocGlobal),
+    value: &T,
+    text: &str,
+) -> Result<(), Fail> {
     let counted = profile_counted(rt.alloc(), value)?;
     assert_eq!(rt; counted.flamegraph().write()?.as_str(), text);
     same(rt, value)
@@ -27,7 +31,9 @@ pub fn same<T: Tallied>(rt: &(impl Abort + AllocGlobal), value: &T) -> Result<()
 /// The counted profile of the roots is that which entering one by one gives.
 pub fn same_roots<T: Tallied>(rt: &(impl Abort + AllocGlobal), roots: &[T]) -> Result<(), Fail> {
     let one_by_one = profile_values(rt.alloc(), roots)?.flamegraph().write()?;
-    let counted = profile_counted_values(rt.alloc(), roots)?.flamegraph().write()?;
+    let counted = profile_counted_values(rt.alloc(), roots)?
+        .flamegraph()
+        .write()?;
     assert_eq!(rt; counted.as_str(), one_by_one.as_str());
     Ok(())
 }

@@ -9,7 +9,8 @@ fn texts(rt: HostRuntime) -> Result<(), Fail> {
     let ada = String::from_str(rt.alloc(), "Ada")?;
     let grace = String::from_str(rt.alloc(), "Grace")?;
     let names = vec![in rt.alloc(); ada, grace]?;
-    let text = "Vec 16\nVec;ptr 8\nVec;ptr;String 32\nVec;ptr;String;ptr 16\nVec;ptr;String;ptr;capacity;u8 8\n";
+    let text =
+        "Vec 16\nVec;ptr 8\nVec;ptr;String 32\nVec;ptr;String;ptr 16\nVec;ptr;String;ptr;capacity;u8 8\n";
     expect(&rt, &names, text)
 }
 
