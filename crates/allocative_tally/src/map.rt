@@ -65,9 +65,8 @@ pub fn count_pairs<'a, K: Tallied + 'a, V: Tallied + 'a, I: Iterator<Item = (&'a
     Ok(())
 }
 
-/// Whether the fields of so many pairs have at most the 8 bytes of the entry `data`. If a size is missing,
-/// or the sum of
-/// both does not fit a word, it returns `TooLarge`.
+/// Whether the fields of so many pairs have at most the 8 bytes of the entry `data`. If a size is missing, or the sum
+/// of both does not fit a word, it returns `TooLarge`.
 fn fits_data<K: Described, V: Described>(count: usize) -> Result<bool, Refusal>
     ensures { IfOk result (FitsData (size_sum K.size V.size) count) }
 {

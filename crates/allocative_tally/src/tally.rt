@@ -146,9 +146,8 @@ impl<K: IntoKey, P: Entries> Entries for UniqueSum<K, P> {
     }
 }
 
-/// The inline entry of a sum that has at most the bytes directly inside it, with entries inside it; no
-/// entry if none was
-/// counted.
+/// The inline entry of a sum that has at most the bytes directly inside it, with entries inside it; no entry if none
+/// was counted.
 #[derive(Drop)]
 pub struct NarrowSum<K, P>(pub K, pub Sum, pub P);
 
