@@ -19,7 +19,7 @@ UNTALLIED = set("PhantomData ManuallyDrop IndexMap IndexSet SmallVec Slab Value 
 UNTALLIED |= {name for name in NUMBERS if name.startswith("Atomic")}
 # The modules of the library that have the words of the code.
 HOMES = {"field": {"CountedField", "FieldSum", "FieldTally", "count", "count_own"}}
-HOMES["tally"] = {"Entries", "InlineSum", "Sum", "Tallied", "Tally"}
+HOMES["tally"] = {"CountError", "Entries", "InlineSum", "Sum", "Tallied", "Tally"}
 SHAPES = {"Beside", "EntryAt", "NoEntry", "Wide"}
 LEMMA = re.compile(r"\b(?:starts_\w+|\w+_counted|holding)\b")
 HUMP = re.compile(r"(?<=[a-z0-9])(?=[A-Z])")
@@ -161,7 +161,7 @@ class Tally:
         self.answer(f"{writer.name}Tallied/tally", self.counted(), bool(writer.types))
         return (
             f"#[tactic(auto)]\n{writer.head('Tallied', 'Tallied')}    type Tally = {kind};\n\n"
-            f"    fn tally(&self, tally: &mut Self::Tally) -> Result<(), Refusal> {{\n{body}    }}\n}}\n"
+            f"    fn tally(&self, tally: &mut Self::Tally) -> Result<(), CountError> {{\n{body}    }}\n}}\n"
         )
 
     def counting(self, part: Part, value: str, indent: str) -> str:
@@ -231,7 +231,7 @@ def fields(parts: tuple[Part, ...], arm: str) -> str:
 
 def whole(arm: str, inside: str) -> str:
     """The proof for an entry, from that for what is inside it."""
-    entry = f"whole_counted c.size{arm}.ensures c.in_ok-count_own{arm}.ensures"
+    entry = f"whole_counted c.size{arm}.ensures c.in_ok-count_own{arm}.ensures.ok"
     return f"{entry}\n    {inside}\n    (search (rules, holding))"
 
 

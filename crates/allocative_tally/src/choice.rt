@@ -4,7 +4,7 @@
 ghost use Rattle.std.specs.Prelude.{codes};
 ghost use Rattle.allocative_tally.specs.Shapes.{Wide, EntryAt, Beside};
 
-use crate::tally::{Entries, InlineSum, Sum, Tallied, Tally, count_field};
+use crate::tally::{CountError, Entries, InlineSum, Sum, Tallied, Tally, count_field};
 use allocative::{Described, Refusal, Visitor};
 use either::{Either, Left, Right};
 
@@ -37,9 +37,9 @@ impl<S: Tally> Tally for OptionTally<S> {
 impl<T: Tallied> Tallied for Option<T> {
     type Tally = OptionTally<T::Tally>;
 
-    fn tally(&self, tally: &mut OptionTally<T::Tally>) -> Result<(), Refusal> {
+    fn tally(&self, tally: &mut OptionTally<T::Tally>) -> Result<(), CountError> {
         let Some(size) = <Option<T>>::size() else {
-            return Err(Refusal::TooLarge);
+            return Err(CountError);
         };
         tally.own.add(size)?;
         match self {
@@ -87,9 +87,9 @@ impl<P: Tally, Q: Tally> Tally for ResultTally<P, Q> {
 impl<T: Tallied, E: Tallied> Tallied for Result<T, E> {
     type Tally = ResultTally<T::Tally, E::Tally>;
 
-    fn tally(&self, tally: &mut ResultTally<T::Tally, E::Tally>) -> Result<(), Refusal> {
+    fn tally(&self, tally: &mut ResultTally<T::Tally, E::Tally>) -> Result<(), CountError> {
         let Some(size) = <Result<T, E>>::size() else {
-            return Err(Refusal::TooLarge);
+            return Err(CountError);
         };
         tally.own.add(size)?;
         match self {
@@ -140,9 +140,9 @@ impl<P: Tally, Q: Tally> Tally for EitherTally<P, Q> {
 impl<L: Tallied, R: Tallied> Tallied for Either<L, R> {
     type Tally = EitherTally<L::Tally, R::Tally>;
 
-    fn tally(&self, tally: &mut EitherTally<L::Tally, R::Tally>) -> Result<(), Refusal> {
+    fn tally(&self, tally: &mut EitherTally<L::Tally, R::Tally>) -> Result<(), CountError> {
         let Some(size) = <Either<L, R>>::size() else {
-            return Err(Refusal::TooLarge);
+            return Err(CountError);
         };
         tally.own.add(size)?;
         match self {

@@ -6,11 +6,11 @@ ghost use Rattle.allocative_graph.specs.Shows.{each_shows};
 ghost use Rattle.allocative.specs.Visited.{Entered};
 ghost use Rattle.allocative_tally.specs.Tallies.{Tallies};
 
-use crate::tally::{Tallied, Tally};
+use crate::tally::{CountError, Tallied, Tally};
 use allocative::{Allocative, Each, Part, Refusal, Visitor};
 
 /// Counts what each item shows.
-pub fn count_each<T: Tallied>(items: &[T], tally: &mut T::Tally) -> Result<(), Refusal>
+pub fn count_each<T: Tallied>(items: &[T], tally: &mut T::Tally) -> Result<(), CountError>
     ensures { IfOk result (λ _. Tallies None (each_shows T.may_show items.now)
         (T.Tally.shape tally.old) (T.Tally.shape tally.new)) }
 {

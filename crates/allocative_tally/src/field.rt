@@ -1,14 +1,14 @@
 //! Fields, for the tallies of structs and enums.
 #![tactic(auto, using(crate::proofs::Fields::starts_new))]
 
-ghost use Rattle.std.specs.Prelude.{IfOk};
+ghost use Rattle.std.specs.Prelude.{◌≡◌, ◌≤◌, ◌+◌, ◌^◌, ℕ, Some, IfOk, IfErr};
 ghost use Rattle.allocative_tally.specs.Shapes.{Wide, EntryAt};
 ghost use Rattle.allocative_tally.specs.Tallies.{TalliesField};
 ghost use Rattle.allocative_tally.specs.Fields.{AddsSize, HasNothing};
 ghost use Rattle.allocative.specs.Shows as shows;
 
 use crate::counted::Counted;
-use crate::tally::{Entries, InlineSum, Sum, Tallied, Tally, count_field};
+use crate::tally::{CountError, Entries, InlineSum, Sum, Tallied, Tally, count_field};
 use allocative::{Declared, Described, IntoKey, Part, Refusal, Visitor};
 
 /// The values of one field, counted: its entries, and what its values show inside them.
@@ -30,23 +30,26 @@ impl<S: Tally> FieldTally<S> {
     }
 }
 
-/// Counts one more value of a field, under the field's entry. If the declared size is missing, it returns `TooLarge`.
+/// Counts one more value of a field, under the field's entry. It returns `Err` if the declared size is missing, or a
+/// count exceeds a word.
 #[inline(always)]
-pub fn count<T: Tallied>(field: &mut FieldTally<T::Tally>, value: &T) -> Result<(), Refusal>
+pub fn count<T: Tallied>(field: &mut FieldTally<T::Tally>, value: &T) -> Result<(), CountError>
     ensures { IfOk result (λ _. TalliesField T.size (T.may_show value.now)
         field.old.own (T.Tally.shape field.old.value) field.new.own (T.Tally.shape field.new.value)) }
 {
     count_field(&mut field.own, &mut field.value, value)
 }
 
-/// Counts one more entry of a declared size. If the size is missing or the sum does not fit a word, it returns
-/// `TooLarge`.
+/// Counts one more entry of a declared size. If the size is missing or the bytes of all do not fit a word, it returns
+/// `Err`, and the sum stays as it was.
 #[inline(always)]
-pub fn count_own(sum: &mut Sum, size: Option<usize>) -> Result<(), Refusal>
-    ensures { IfOk result (λ _. AddsSize size sum.old sum.new) }
+pub fn count_own(sum: &mut Sum, size: Option<usize>) -> Result<(), CountError>
+    ensures ok { IfOk result (λ _. AddsSize size sum.old sum.new) }
+    ensures kept { IfErr result (λ _. sum.new ≡ sum.old) }
+    ensures exceeds { IfErr result (λ _. (n : ℕ) → size ≡ Some n → 2 ^ 64 ≤ sum.old.bytes + n) }
 {
     let Some(bytes) = size else {
-        return Err(Refusal::TooLarge);
+        return Err(CountError);
     };
     sum.add(bytes)?;
     Ok(())

@@ -10,7 +10,7 @@ ghost use Rattle.allocative.specs.Runs.{IsOfRun, pair_shows};
 ghost use Rattle.allocative_tally.specs.Shapes.{Wide, Narrow, EntryAt, Beside};
 ghost use Rattle.allocative_tally.specs.Tallies.{Tallies, FitsData};
 
-use crate::tally::{Entries, InlineSum, NarrowSum, Sum, Tallied, Tally, count_field};
+use crate::tally::{CountError, Entries, InlineSum, NarrowSum, Sum, Tallied, Tally, count_field};
 use allocative::{Described, Refusal, Visitor};
 use std::collections::{BTreeMap, HashMap};
 use std::hash::Hash;
@@ -49,7 +49,7 @@ impl<P: Tally, Q: Tally> Tally for PairsTally<P, Q> {
 pub fn count_pairs<'a, K: Tallied + 'a, V: Tallied + 'a, I: Iterator<Item = (&'a K, &'a V)> + Drop>(
     pairs: I,
     tally: &mut PairsTally<K::Tally, V::Tally>,
-) -> Result<(), Refusal>
+) -> Result<(), CountError>
     requires can { I.can_next pairs }
     requires ends { IsFinite (I.remaining pairs) }
     ensures { IfOk result (λ _. Tallies None
@@ -65,16 +65,16 @@ pub fn count_pairs<'a, K: Tallied + 'a, V: Tallied + 'a, I: Iterator<Item = (&'a
     Ok(())
 }
 
-/// Whether the fields of so many pairs have at most the 8 bytes of the entry `data`. If a size is missing, or the sum
-/// of both does not fit a word, it returns `TooLarge`.
-fn fits_data<K: Described, V: Described>(count: usize) -> Result<bool, Refusal>
+/// Whether the fields of so many pairs have at most the 8 bytes of the entry `data`. `Err` if a size is missing, or the
+/// sum of both does not fit a word.
+fn fits_data<K: Described, V: Described>(count: usize) -> Result<bool, CountError>
     ensures { IfOk result (FitsData (size_sum K.size V.size) count) }
 {
     let (Some(key), Some(value)) = (K::size(), V::size()) else {
-        return Err(Refusal::TooLarge);
+        return Err(CountError);
     };
     let Some(pair) = key.checked_add(value) else {
-        return Err(Refusal::TooLarge);
+        return Err(CountError);
     };
     Ok(pair.saturating_mul(count) <= 8)
 }
@@ -119,7 +119,7 @@ impl<K: Tallied + Eq + Hash, V: Tallied> Tallied for HashMap<K, V> {
     fn tally(
         &self,
         tally: &mut MapTally<HashMap<K, V>, K::Tally, V::Tally>,
-    ) -> Result<(), Refusal> {
+    ) -> Result<(), CountError> {
         tally.own.add(48)?;
         let is_small = fits_data::<K, V>(self.len())?;
         if is_small {
@@ -139,7 +139,7 @@ impl<K: Tallied + Ord, V: Tallied> Tallied for BTreeMap<K, V> {
     fn tally(
         &self,
         tally: &mut MapTally<BTreeMap<K, V>, K::Tally, V::Tally>,
-    ) -> Result<(), Refusal> {
+    ) -> Result<(), CountError> {
         tally.own.add(24)?;
         let is_small = fits_data::<K, V>(self.len())?;
         if is_small {

@@ -6,7 +6,7 @@ ghost use Rattle.allocative_graph.specs.Shows.{Field, Nothing};
 ghost use Rattle.allocative_tally.specs.Shapes.{Wide, EntryAt, NoEntry};
 ghost use Rattle.allocative_tally.specs.Tallies.{Tallies};
 
-use crate::tally::{Entries, InlineSum, Sum, Tallied, Tally};
+use crate::tally::{CountError, Entries, InlineSum, Sum, Tallied, Tally};
 use allocative::{Described, Refusal, Visitor};
 use std::marker::PhantomData;
 use std::net::{IpAddr, Ipv4Addr, Ipv6Addr};
@@ -39,14 +39,14 @@ impl<T: Described> Tally for NumberTally<T> {
 }
 
 impl<T: Described> NumberTally<T> {
-    /// Counts one more value. If its size is missing, or the bytes do not fit a word, it returns `TooLarge`.
+    /// Counts one more value. It returns `Err` if its size is missing, or the bytes of all do not fit a word.
     #[inline(always)]
-    pub fn count(&mut self) -> Result<(), Refusal>
+    pub fn count(&mut self) -> Result<(), CountError>
         ensures { IfOk result (λ _. Tallies T.size (Field T.name T.size Nothing)
             (⟦<NumberTally<T> as Tally>⟧.shape self.old) (⟦<NumberTally<T> as Tally>⟧.shape self.new)) }
     {
         let Some(size) = T::size() else {
-            return Err(Refusal::TooLarge);
+            return Err(CountError);
         };
         self.own.add(size)?;
         Ok(())
@@ -56,7 +56,7 @@ impl<T: Described> NumberTally<T> {
 impl Tallied for u8 {
     type Tally = NumberTally<u8>;
 
-    fn tally(&self, tally: &mut NumberTally<u8>) -> Result<(), Refusal> {
+    fn tally(&self, tally: &mut NumberTally<u8>) -> Result<(), CountError> {
         tally.count()
     }
 }
@@ -64,7 +64,7 @@ impl Tallied for u8 {
 impl Tallied for u16 {
     type Tally = NumberTally<u16>;
 
-    fn tally(&self, tally: &mut NumberTally<u16>) -> Result<(), Refusal> {
+    fn tally(&self, tally: &mut NumberTally<u16>) -> Result<(), CountError> {
         tally.count()
     }
 }
@@ -72,7 +72,7 @@ impl Tallied for u16 {
 impl Tallied for u32 {
     type Tally = NumberTally<u32>;
 
-    fn tally(&self, tally: &mut NumberTally<u32>) -> Result<(), Refusal> {
+    fn tally(&self, tally: &mut NumberTally<u32>) -> Result<(), CountError> {
         tally.count()
     }
 }
@@ -80,7 +80,7 @@ impl Tallied for u32 {
 impl Tallied for u64 {
     type Tally = NumberTally<u64>;
 
-    fn tally(&self, tally: &mut NumberTally<u64>) -> Result<(), Refusal> {
+    fn tally(&self, tally: &mut NumberTally<u64>) -> Result<(), CountError> {
         tally.count()
     }
 }
@@ -88,7 +88,7 @@ impl Tallied for u64 {
 impl Tallied for u128 {
     type Tally = NumberTally<u128>;
 
-    fn tally(&self, tally: &mut NumberTally<u128>) -> Result<(), Refusal> {
+    fn tally(&self, tally: &mut NumberTally<u128>) -> Result<(), CountError> {
         tally.count()
     }
 }
@@ -96,7 +96,7 @@ impl Tallied for u128 {
 impl Tallied for usize {
     type Tally = NumberTally<usize>;
 
-    fn tally(&self, tally: &mut NumberTally<usize>) -> Result<(), Refusal> {
+    fn tally(&self, tally: &mut NumberTally<usize>) -> Result<(), CountError> {
         tally.count()
     }
 }
@@ -104,7 +104,7 @@ impl Tallied for usize {
 impl Tallied for i8 {
     type Tally = NumberTally<i8>;
 
-    fn tally(&self, tally: &mut NumberTally<i8>) -> Result<(), Refusal> {
+    fn tally(&self, tally: &mut NumberTally<i8>) -> Result<(), CountError> {
         tally.count()
     }
 }
@@ -112,7 +112,7 @@ impl Tallied for i8 {
 impl Tallied for i16 {
     type Tally = NumberTally<i16>;
 
-    fn tally(&self, tally: &mut NumberTally<i16>) -> Result<(), Refusal> {
+    fn tally(&self, tally: &mut NumberTally<i16>) -> Result<(), CountError> {
         tally.count()
     }
 }
@@ -120,7 +120,7 @@ impl Tallied for i16 {
 impl Tallied for i32 {
     type Tally = NumberTally<i32>;
 
-    fn tally(&self, tally: &mut NumberTally<i32>) -> Result<(), Refusal> {
+    fn tally(&self, tally: &mut NumberTally<i32>) -> Result<(), CountError> {
         tally.count()
     }
 }
@@ -128,7 +128,7 @@ impl Tallied for i32 {
 impl Tallied for i64 {
     type Tally = NumberTally<i64>;
 
-    fn tally(&self, tally: &mut NumberTally<i64>) -> Result<(), Refusal> {
+    fn tally(&self, tally: &mut NumberTally<i64>) -> Result<(), CountError> {
         tally.count()
     }
 }
@@ -136,7 +136,7 @@ impl Tallied for i64 {
 impl Tallied for i128 {
     type Tally = NumberTally<i128>;
 
-    fn tally(&self, tally: &mut NumberTally<i128>) -> Result<(), Refusal> {
+    fn tally(&self, tally: &mut NumberTally<i128>) -> Result<(), CountError> {
         tally.count()
     }
 }
@@ -144,7 +144,7 @@ impl Tallied for i128 {
 impl Tallied for isize {
     type Tally = NumberTally<isize>;
 
-    fn tally(&self, tally: &mut NumberTally<isize>) -> Result<(), Refusal> {
+    fn tally(&self, tally: &mut NumberTally<isize>) -> Result<(), CountError> {
         tally.count()
     }
 }
@@ -152,7 +152,7 @@ impl Tallied for isize {
 impl Tallied for f32 {
     type Tally = NumberTally<f32>;
 
-    fn tally(&self, tally: &mut NumberTally<f32>) -> Result<(), Refusal> {
+    fn tally(&self, tally: &mut NumberTally<f32>) -> Result<(), CountError> {
         tally.count()
     }
 }
@@ -160,7 +160,7 @@ impl Tallied for f32 {
 impl Tallied for f64 {
     type Tally = NumberTally<f64>;
 
-    fn tally(&self, tally: &mut NumberTally<f64>) -> Result<(), Refusal> {
+    fn tally(&self, tally: &mut NumberTally<f64>) -> Result<(), CountError> {
         tally.count()
     }
 }
@@ -168,7 +168,7 @@ impl Tallied for f64 {
 impl Tallied for char {
     type Tally = NumberTally<char>;
 
-    fn tally(&self, tally: &mut NumberTally<char>) -> Result<(), Refusal> {
+    fn tally(&self, tally: &mut NumberTally<char>) -> Result<(), CountError> {
         tally.count()
     }
 }
@@ -176,7 +176,7 @@ impl Tallied for char {
 impl Tallied for bool {
     type Tally = NumberTally<bool>;
 
-    fn tally(&self, tally: &mut NumberTally<bool>) -> Result<(), Refusal> {
+    fn tally(&self, tally: &mut NumberTally<bool>) -> Result<(), CountError> {
         tally.count()
     }
 }
@@ -184,7 +184,7 @@ impl Tallied for bool {
 impl Tallied for () {
     type Tally = NumberTally<()>;
 
-    fn tally(&self, tally: &mut NumberTally<()>) -> Result<(), Refusal> {
+    fn tally(&self, tally: &mut NumberTally<()>) -> Result<(), CountError> {
         tally.count()
     }
 }
@@ -192,7 +192,7 @@ impl Tallied for () {
 impl Tallied for NonZeroU8 {
     type Tally = NumberTally<NonZeroU8>;
 
-    fn tally(&self, tally: &mut NumberTally<NonZeroU8>) -> Result<(), Refusal> {
+    fn tally(&self, tally: &mut NumberTally<NonZeroU8>) -> Result<(), CountError> {
         tally.count()
     }
 }
@@ -200,7 +200,7 @@ impl Tallied for NonZeroU8 {
 impl Tallied for NonZeroU16 {
     type Tally = NumberTally<NonZeroU16>;
 
-    fn tally(&self, tally: &mut NumberTally<NonZeroU16>) -> Result<(), Refusal> {
+    fn tally(&self, tally: &mut NumberTally<NonZeroU16>) -> Result<(), CountError> {
         tally.count()
     }
 }
@@ -208,7 +208,7 @@ impl Tallied for NonZeroU16 {
 impl Tallied for NonZeroU32 {
     type Tally = NumberTally<NonZeroU32>;
 
-    fn tally(&self, tally: &mut NumberTally<NonZeroU32>) -> Result<(), Refusal> {
+    fn tally(&self, tally: &mut NumberTally<NonZeroU32>) -> Result<(), CountError> {
         tally.count()
     }
 }
@@ -216,7 +216,7 @@ impl Tallied for NonZeroU32 {
 impl Tallied for NonZeroU64 {
     type Tally = NumberTally<NonZeroU64>;
 
-    fn tally(&self, tally: &mut NumberTally<NonZeroU64>) -> Result<(), Refusal> {
+    fn tally(&self, tally: &mut NumberTally<NonZeroU64>) -> Result<(), CountError> {
         tally.count()
     }
 }
@@ -224,7 +224,7 @@ impl Tallied for NonZeroU64 {
 impl Tallied for NonZeroUsize {
     type Tally = NumberTally<NonZeroUsize>;
 
-    fn tally(&self, tally: &mut NumberTally<NonZeroUsize>) -> Result<(), Refusal> {
+    fn tally(&self, tally: &mut NumberTally<NonZeroUsize>) -> Result<(), CountError> {
         tally.count()
     }
 }
@@ -232,7 +232,7 @@ impl Tallied for NonZeroUsize {
 impl Tallied for NonZeroI8 {
     type Tally = NumberTally<NonZeroI8>;
 
-    fn tally(&self, tally: &mut NumberTally<NonZeroI8>) -> Result<(), Refusal> {
+    fn tally(&self, tally: &mut NumberTally<NonZeroI8>) -> Result<(), CountError> {
         tally.count()
     }
 }
@@ -240,7 +240,7 @@ impl Tallied for NonZeroI8 {
 impl Tallied for NonZeroI16 {
     type Tally = NumberTally<NonZeroI16>;
 
-    fn tally(&self, tally: &mut NumberTally<NonZeroI16>) -> Result<(), Refusal> {
+    fn tally(&self, tally: &mut NumberTally<NonZeroI16>) -> Result<(), CountError> {
         tally.count()
     }
 }
@@ -248,7 +248,7 @@ impl Tallied for NonZeroI16 {
 impl Tallied for NonZeroI32 {
     type Tally = NumberTally<NonZeroI32>;
 
-    fn tally(&self, tally: &mut NumberTally<NonZeroI32>) -> Result<(), Refusal> {
+    fn tally(&self, tally: &mut NumberTally<NonZeroI32>) -> Result<(), CountError> {
         tally.count()
     }
 }
@@ -256,7 +256,7 @@ impl Tallied for NonZeroI32 {
 impl Tallied for NonZeroI64 {
     type Tally = NumberTally<NonZeroI64>;
 
-    fn tally(&self, tally: &mut NumberTally<NonZeroI64>) -> Result<(), Refusal> {
+    fn tally(&self, tally: &mut NumberTally<NonZeroI64>) -> Result<(), CountError> {
         tally.count()
     }
 }
@@ -264,7 +264,7 @@ impl Tallied for NonZeroI64 {
 impl Tallied for NonZeroIsize {
     type Tally = NumberTally<NonZeroIsize>;
 
-    fn tally(&self, tally: &mut NumberTally<NonZeroIsize>) -> Result<(), Refusal> {
+    fn tally(&self, tally: &mut NumberTally<NonZeroIsize>) -> Result<(), CountError> {
         tally.count()
     }
 }
@@ -272,7 +272,7 @@ impl Tallied for NonZeroIsize {
 impl Tallied for Instant {
     type Tally = NumberTally<Instant>;
 
-    fn tally(&self, tally: &mut NumberTally<Instant>) -> Result<(), Refusal> {
+    fn tally(&self, tally: &mut NumberTally<Instant>) -> Result<(), CountError> {
         tally.count()
     }
 }
@@ -280,7 +280,7 @@ impl Tallied for Instant {
 impl Tallied for SystemTime {
     type Tally = NumberTally<SystemTime>;
 
-    fn tally(&self, tally: &mut NumberTally<SystemTime>) -> Result<(), Refusal> {
+    fn tally(&self, tally: &mut NumberTally<SystemTime>) -> Result<(), CountError> {
         tally.count()
     }
 }
@@ -288,7 +288,7 @@ impl Tallied for SystemTime {
 impl Tallied for Duration {
     type Tally = NumberTally<Duration>;
 
-    fn tally(&self, tally: &mut NumberTally<Duration>) -> Result<(), Refusal> {
+    fn tally(&self, tally: &mut NumberTally<Duration>) -> Result<(), CountError> {
         tally.count()
     }
 }
@@ -296,7 +296,7 @@ impl Tallied for Duration {
 impl Tallied for IpAddr {
     type Tally = NumberTally<IpAddr>;
 
-    fn tally(&self, tally: &mut NumberTally<IpAddr>) -> Result<(), Refusal> {
+    fn tally(&self, tally: &mut NumberTally<IpAddr>) -> Result<(), CountError> {
         tally.count()
     }
 }
@@ -304,7 +304,7 @@ impl Tallied for IpAddr {
 impl Tallied for Ipv4Addr {
     type Tally = NumberTally<Ipv4Addr>;
 
-    fn tally(&self, tally: &mut NumberTally<Ipv4Addr>) -> Result<(), Refusal> {
+    fn tally(&self, tally: &mut NumberTally<Ipv4Addr>) -> Result<(), CountError> {
         tally.count()
     }
 }
@@ -312,7 +312,7 @@ impl Tallied for Ipv4Addr {
 impl Tallied for Ipv6Addr {
     type Tally = NumberTally<Ipv6Addr>;
 
-    fn tally(&self, tally: &mut NumberTally<Ipv6Addr>) -> Result<(), Refusal> {
+    fn tally(&self, tally: &mut NumberTally<Ipv6Addr>) -> Result<(), CountError> {
         tally.count()
     }
 }

@@ -4,7 +4,7 @@
 ghost use Rattle.std.specs.Prelude.{codes};
 ghost use Rattle.allocative_tally.specs.Shapes.{Unique, Wide, EntryAt};
 
-use crate::tally::{Entries, InlineSum, Sum, Tallied, Tally, UniqueSum};
+use crate::tally::{CountError, Entries, InlineSum, Sum, Tallied, Tally, UniqueSum};
 use allocative::{Refusal, Visitor};
 
 /// Boxes, counted.
@@ -35,7 +35,7 @@ impl<S: Tally> Tally for BoxTally<S> {
 impl<T: Tallied> Tallied for Box<T> {
     type Tally = BoxTally<T::Tally>;
 
-    fn tally(&self, tally: &mut BoxTally<T::Tally>) -> Result<(), Refusal> {
+    fn tally(&self, tally: &mut BoxTally<T::Tally>) -> Result<(), CountError> {
         tally.own.add(8)?;
         tally.pointer.add(8)?;
         (**self).tally(&mut tally.value)?;

@@ -9,7 +9,7 @@ ghost use Rattle.allocative_tally.specs.Shapes.{Wide, EntryAt, Beside, NoEntry, 
 ghost use Rattle.allocative_tally.specs.Tallies.{Tallies};
 
 use crate::counted::count_each;
-use crate::tally::{Entries, InlineSum, Sum, Tallied, Tally, UniqueSum};
+use crate::tally::{CountError, Entries, InlineSum, Sum, Tallied, Tally, UniqueSum};
 use allocative::{Described, Refusal, Visitor};
 use std::collections::VecDeque;
 use std::marker::PhantomData;
@@ -81,7 +81,7 @@ pub fn count_slice<T: Tallied>(
     size: usize,
     sum: &mut Sum,
     tally: &mut T::Tally,
-) -> Result<(), Refusal>
+) -> Result<(), CountError>
     ensures { IfOk result (λ _. Tallies None
         (slice_shows T.name (Some size) T.needs_drop T.may_show items.now)
         (slice_shape T.name sum.old (T.Tally.shape tally.old)) (slice_shape T.name sum.new (T.Tally.shape tally.new))) }
@@ -91,7 +91,7 @@ pub fn count_slice<T: Tallied>(
         return Ok(());
     }
     let Some(bytes) = size.checked_mul(items.len()) else {
-        return Err(Refusal::TooLarge);
+        return Err(CountError);
     };
     sum.add(bytes)?;
     Ok(())
@@ -99,14 +99,14 @@ pub fn count_slice<T: Tallied>(
 
 /// Counts unused places.
 #[inline(always)]
-pub fn count_unused(sum: &mut Sum, size: usize, count: usize) -> Result<(), Refusal>
+pub fn count_unused(sum: &mut Sum, size: usize, count: usize) -> Result<(), CountError>
     ensures { IfOk result (λ _. Tallies None
         (bytes_shown (codes "unused_capacity") (Some size) count)
         (EntryAt Wide (codes "unused_capacity") sum.old NoEntry)
         (EntryAt Wide (codes "unused_capacity") sum.new NoEntry)) }
 {
     let Some(bytes) = size.checked_mul(count) else {
-        return Err(Refusal::TooLarge);
+        return Err(CountError);
     };
     sum.add(bytes)?;
     Ok(())
@@ -117,7 +117,7 @@ pub fn count_unused(sum: &mut Sum, size: usize, count: usize) -> Result<(), Refu
 pub fn count_buffer<T: Tallied>(
     items: &Vec<T>,
     tally: &mut BufferTally<T, T::Tally>,
-) -> Result<(), Refusal>
+) -> Result<(), CountError>
     ensures { IfOk result (λ _. Tallies (Some 8)
         (buffer_shows T.size (slice_shows T.name T.size T.needs_drop T.may_show items.now.items)
         (length items.now.items) (vec_capacity items.now))
@@ -125,7 +125,7 @@ pub fn count_buffer<T: Tallied>(
         (⟦<BufferTally<T, T::Tally> as Tally>⟧.shape tally.new)) }
 {
     let Some(size) = T::size() else {
-        return Err(Refusal::TooLarge);
+        return Err(CountError);
     };
     if size == 0 {
         return Ok(());
@@ -144,7 +144,7 @@ pub fn count_buffer<T: Tallied>(
 impl<T: Tallied> Tallied for Vec<T> {
     type Tally = VecTally<T, T::Tally>;
 
-    fn tally(&self, tally: &mut VecTally<T, T::Tally>) -> Result<(), Refusal> {
+    fn tally(&self, tally: &mut VecTally<T, T::Tally>) -> Result<(), CountError> {
         tally.own.add(24)?;
         count_buffer(self, &mut tally.buffer)?;
         Ok(())
@@ -178,7 +178,7 @@ impl<T: Described, S: Tally> Tally for VecDequeTally<T, S> {
 pub fn count_ring<T: Tallied>(
     ring: &VecDeque<T>,
     tally: &mut BufferTally<T, T::Tally>,
-) -> Result<(), Refusal>
+) -> Result<(), CountError>
     ensures { IfOk result (λ _. Tallies (Some 8)
         (buffer_shows T.size (cut_shows T.name T.size T.needs_drop T.may_show ring.now.items)
         (length ring.now.items) (deque_capacity ring.now))
@@ -186,7 +186,7 @@ pub fn count_ring<T: Tallied>(
         (⟦<BufferTally<T, T::Tally> as Tally>⟧.shape tally.new)) }
 {
     let Some(size) = T::size() else {
-        return Err(Refusal::TooLarge);
+        return Err(CountError);
     };
     if size == 0 {
         return Ok(());
@@ -207,7 +207,7 @@ pub fn count_ring<T: Tallied>(
 impl<T: Tallied> Tallied for VecDeque<T> {
     type Tally = VecDequeTally<T, T::Tally>;
 
-    fn tally(&self, tally: &mut VecDequeTally<T, T::Tally>) -> Result<(), Refusal> {
+    fn tally(&self, tally: &mut VecDequeTally<T, T::Tally>) -> Result<(), CountError> {
         tally.own.add(32)?;
         count_ring(self, &mut tally.buffer)?;
         Ok(())

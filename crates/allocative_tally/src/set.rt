@@ -9,7 +9,7 @@ ghost use Rattle.allocative.specs.Runs.{IsOfRun, field_of};
 ghost use Rattle.allocative_tally.specs.Shapes.{Wide, Narrow, EntryAt, Beside};
 ghost use Rattle.allocative_tally.specs.Tallies.{Tallies, FitsData};
 
-use crate::tally::{Entries, InlineSum, NarrowSum, Sum, Tallied, Tally, count_field};
+use crate::tally::{CountError, Entries, InlineSum, NarrowSum, Sum, Tallied, Tally, count_field};
 use allocative::{Described, Refusal, Visitor};
 use std::collections::{BTreeSet, HashSet};
 use std::hash::Hash;
@@ -41,7 +41,7 @@ impl<P: Tally> Tally for KeysTally<P> {
 pub fn count_keys<'a, K: Tallied + 'a, I: Iterator<Item = &'a K> + Drop>(
     keys: I,
     tally: &mut KeysTally<K::Tally>,
-) -> Result<(), Refusal>
+) -> Result<(), CountError>
     requires can { I.can_next keys }
     requires ends { IsFinite (I.remaining keys) }
     ensures { IfOk result (λ _. Tallies None
@@ -55,13 +55,12 @@ pub fn count_keys<'a, K: Tallied + 'a, I: Iterator<Item = &'a K> + Drop>(
     Ok(())
 }
 
-/// Whether the fields of so many keys have at most the 8 bytes of the entry `data`. If the size is missing, it returns
-/// `TooLarge`.
-fn fits_data<K: Described>(count: usize) -> Result<bool, Refusal>
+/// Whether the fields of so many keys have at most the 8 bytes of the entry `data`. `Err` if the size is missing.
+fn fits_data<K: Described>(count: usize) -> Result<bool, CountError>
     ensures { IfOk result (FitsData K.size count) }
 {
     let Some(key) = K::size() else {
-        return Err(Refusal::TooLarge);
+        return Err(CountError);
     };
     Ok(key.saturating_mul(count) <= 8)
 }
@@ -103,7 +102,7 @@ impl<M: Described, P: Tally> Tally for SetTally<M, P> {
 impl<K: Tallied + Eq + Hash> Tallied for HashSet<K> {
     type Tally = SetTally<HashSet<K>, K::Tally>;
 
-    fn tally(&self, tally: &mut SetTally<HashSet<K>, K::Tally>) -> Result<(), Refusal> {
+    fn tally(&self, tally: &mut SetTally<HashSet<K>, K::Tally>) -> Result<(), CountError> {
         tally.own.add(48)?;
         let is_small = fits_data::<K>(self.len())?;
         if is_small {
@@ -120,7 +119,7 @@ impl<K: Tallied + Eq + Hash> Tallied for HashSet<K> {
 impl<K: Tallied + Ord> Tallied for BTreeSet<K> {
     type Tally = SetTally<BTreeSet<K>, K::Tally>;
 
-    fn tally(&self, tally: &mut SetTally<BTreeSet<K>, K::Tally>) -> Result<(), Refusal> {
+    fn tally(&self, tally: &mut SetTally<BTreeSet<K>, K::Tally>) -> Result<(), CountError> {
         tally.own.add(24)?;
         let is_small = fits_data::<K>(self.len())?;
         if is_small {

@@ -1,12 +1,18 @@
 //! The traits of what counts, and of what can be counted.
 #![tactic(auto)]
 
-ghost use Rattle.std.specs.Prelude.{◌≡◌, true, false, IfOk, IfErr};
+ghost use Rattle.std.specs.Prelude.{◌≡◌, ◌≤◌, ◌+◌, ◌^◌, true, false, IfOk, IfErr};
 ghost use Rattle.allocative_tally.specs.Shapes.{Shape, NoEntry, Beside, EntryAt};
 ghost use Rattle.allocative_tally.specs.Shapes.{Wide, Narrow, Unique as unique_width, IsNothing, shape_shows};
 ghost use Rattle.allocative_tally.specs.Tallies.{Tallies, TalliesField, AddsEntry, EntersShape};
 
 use allocative::{Allocative, Described, Inside, IntoKey, Part, Refusal, Unique, Visitor};
+use thiserror::Error;
+
+/// A count exceeds a word, or a declared size is missing.
+#[derive(Clone, Copy, Debug, PartialEq, Eq, Error)]
+#[error("a count exceeds a word, or a size is missing")]
+pub struct CountError;
 
 /// Counters of many values of one shape. They show one forest, that of all the values, merged.
 pub trait Tally: Drop {
@@ -27,8 +33,8 @@ pub trait Tallied: Allocative + Described {
 
     /// Counts what the value shows.
     ///
-    /// After `Err` the tally is of no use: a count exceeds a word, or a size is missing.
-    fn tally(&self, tally: &mut Self::Tally) -> Result<(), Refusal>
+    /// After `Err` the tally is of no use.
+    fn tally(&self, tally: &mut Self::Tally) -> Result<(), CountError>
         ensures { IfOk result (λ _. Tallies Self.size (Self.may_show self.now)
             (Self.Tally.shape tally.old) (Self.Tally.shape tally.new)) };
 }
@@ -52,13 +58,16 @@ impl Sum {
         }
     }
 
-    /// Adds one entry of some bytes. If they do not fit a word, it returns `TooLarge`.
+    /// Adds one entry of some bytes. If the bytes of all do not fit a word, it returns `Err`, and the sum stays as it
+    /// was.
     #[inline(always)]
-    pub fn add(&mut self, size: usize) -> Result<(), Refusal>
-        ensures { IfOk result (λ _. AddsEntry size self.old self.new) }
+    pub fn add(&mut self, size: usize) -> Result<(), CountError>
+        ensures ok { IfOk result (λ _. AddsEntry size self.old self.new) }
+        ensures kept { IfErr result (λ _. self.new ≡ self.old) }
+        ensures exceeds { IfErr result (λ _. 2 ^ 64 ≤ self.old.bytes + size) }
     {
         let Some(bytes) = self.bytes.checked_add(size) else {
-            return Err(Refusal::TooLarge);
+            return Err(CountError);
         };
         self.bytes = bytes;
         self.is_there = true;
@@ -162,19 +171,19 @@ impl<K: IntoKey, P: Entries> Entries for NarrowSum<K, P> {
     }
 }
 
-/// Counts one more field of a declared size, with what its value shows inside it. If the size is missing, it returns
-/// `TooLarge`.
+/// Counts one more field of a declared size, with what its value shows inside it. It returns `Err` if the size is
+/// missing, or a count exceeds a word.
 #[inline(always)]
 pub fn count_field<T: Tallied>(
     sum: &mut Sum,
     tally: &mut T::Tally,
     value: &T,
-) -> Result<(), Refusal>
+) -> Result<(), CountError>
     ensures { IfOk result (λ _. TalliesField T.size (T.may_show value.now)
         sum.old (T.Tally.shape tally.old) sum.new (T.Tally.shape tally.new)) }
 {
     let Some(size) = T::size() else {
-        return Err(Refusal::TooLarge);
+        return Err(CountError);
     };
     sum.add(size)?;
     value.tally(tally)?;

@@ -4,7 +4,7 @@
 ghost use Rattle.std.specs.Prelude.{codes};
 ghost use Rattle.allocative_tally.specs.Shapes.{Unique, Wide, EntryAt, Beside, NoEntry};
 
-use crate::tally::{Entries, InlineSum, Sum, Tallied, Tally, UniqueSum};
+use crate::tally::{CountError, Entries, InlineSum, Sum, Tallied, Tally, UniqueSum};
 use allocative::{Refusal, Visitor};
 
 /// Texts, counted.
@@ -45,7 +45,7 @@ impl Tally for TextTally {
 impl Tallied for String {
     type Tally = TextTally;
 
-    fn tally(&self, tally: &mut TextTally) -> Result<(), Refusal> {
+    fn tally(&self, tally: &mut TextTally) -> Result<(), CountError> {
         tally.own.add(24)?;
         tally.pointer.add(8)?;
         tally.capacity.add(self.capacity())?;

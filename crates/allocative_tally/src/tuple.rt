@@ -4,7 +4,7 @@
 ghost use Rattle.std.specs.Prelude.{codes};
 ghost use Rattle.allocative_tally.specs.Shapes.{Wide, EntryAt, Beside};
 
-use crate::tally::{Entries, InlineSum, Sum, Tallied, Tally, count_field};
+use crate::tally::{CountError, Entries, InlineSum, Sum, Tallied, Tally, count_field};
 use allocative::{Described, Refusal, Visitor};
 
 /// Pairs, counted.
@@ -42,9 +42,9 @@ impl<P: Tally, Q: Tally> Tally for Tuple2Tally<P, Q> {
 impl<A: Tallied, B: Tallied> Tallied for (A, B) {
     type Tally = Tuple2Tally<A::Tally, B::Tally>;
 
-    fn tally(&self, tally: &mut Tuple2Tally<A::Tally, B::Tally>) -> Result<(), Refusal> {
+    fn tally(&self, tally: &mut Tuple2Tally<A::Tally, B::Tally>) -> Result<(), CountError> {
         let Some(size) = <(A, B)>::size() else {
-            return Err(Refusal::TooLarge);
+            return Err(CountError);
         };
         tally.own.add(size)?;
         count_field(&mut tally.first, &mut tally.first_value, &self.0)?;
@@ -94,9 +94,12 @@ impl<P: Tally, Q: Tally, R: Tally> Tally for Tuple3Tally<P, Q, R> {
 impl<A: Tallied, B: Tallied, C: Tallied> Tallied for (A, B, C) {
     type Tally = Tuple3Tally<A::Tally, B::Tally, C::Tally>;
 
-    fn tally(&self, tally: &mut Tuple3Tally<A::Tally, B::Tally, C::Tally>) -> Result<(), Refusal> {
+    fn tally(
+        &self,
+        tally: &mut Tuple3Tally<A::Tally, B::Tally, C::Tally>,
+    ) -> Result<(), CountError> {
         let Some(size) = <(A, B, C)>::size() else {
-            return Err(Refusal::TooLarge);
+            return Err(CountError);
         };
         tally.own.add(size)?;
         count_field(&mut tally.first, &mut tally.first_value, &self.0)?;
@@ -156,9 +159,9 @@ impl<A: Tallied, B: Tallied, C: Tallied, D: Tallied> Tallied for (A, B, C, D) {
     fn tally(
         &self,
         tally: &mut Tuple4Tally<A::Tally, B::Tally, C::Tally, D::Tally>,
-    ) -> Result<(), Refusal> {
+    ) -> Result<(), CountError> {
         let Some(size) = <(A, B, C, D)>::size() else {
-            return Err(Refusal::TooLarge);
+            return Err(CountError);
         };
         tally.own.add(size)?;
         count_field(&mut tally.first, &mut tally.first_value, &self.0)?;
@@ -230,9 +233,9 @@ impl<A: Tallied, B: Tallied, C: Tallied, D: Tallied, E: Tallied> Tallied for (A,
     fn tally(
         &self,
         tally: &mut Tuple5Tally<A::Tally, B::Tally, C::Tally, D::Tally, E::Tally>,
-    ) -> Result<(), Refusal> {
+    ) -> Result<(), CountError> {
         let Some(size) = <(A, B, C, D, E)>::size() else {
-            return Err(Refusal::TooLarge);
+            return Err(CountError);
         };
         tally.own.add(size)?;
         count_field(&mut tally.first, &mut tally.first_value, &self.0)?;

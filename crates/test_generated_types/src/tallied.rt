@@ -17,7 +17,7 @@ ghost use Rattle.allocative_tally.specs.Shapes.{Beside, EntryAt, Wide};
 
 use allocative::{Declared, Described, Or, Part, Record, Refusal, Visitor, Whole};
 use allocative_tally::field::{CountedField, FieldSum, FieldTally, count, count_own};
-use allocative_tally::tally::{Entries, InlineSum, Sum, Tallied, Tally};
+use allocative_tally::tally::{CountError, Entries, InlineSum, Sum, Tallied, Tally};
 
 type ShelfLayout<T> = Record<(u64, (Option<String>, (T, (Vec<T>, ()))))>;
 
@@ -107,7 +107,7 @@ impl<S1: Tally, S2: Tally> Tally for ShelfTally<S1, S2> {
 impl<T: Tallied> Tallied for Shelf<T> {
     type Tally = ShelfTally<<T as Tallied>::Tally, <Vec<T> as Tallied>::Tally>;
 
-    fn tally(&self, tally: &mut Self::Tally) -> Result<(), Refusal> {
+    fn tally(&self, tally: &mut Self::Tally) -> Result<(), CountError> {
         count_own(&mut tally.own_, <Shelf<T>>::size())?;
         count(&mut tally.number, &self.number)?;
         count(&mut tally.label, &self.label)?;
@@ -228,7 +228,7 @@ impl Tally for EventTally {
 impl Tallied for Event {
     type Tally = EventTally;
 
-    fn tally(&self, tally: &mut Self::Tally) -> Result<(), Refusal> {
+    fn tally(&self, tally: &mut Self::Tally) -> Result<(), CountError> {
         count_own(&mut tally.own, <Event>::size())?;
         match self {
             Event::Quiet => Ok(()),

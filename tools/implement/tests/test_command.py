@@ -43,7 +43,7 @@ impl<S1: Tally> Tally for ATally<S1> {
 impl<T: Tallied> Tallied for A<T> {
     type Tally = ATally<<T as Tallied>::Tally>;
 
-    fn tally(&self, tally: &mut Self::Tally) -> Result<(), Refusal> {
+    fn tally(&self, tally: &mut Self::Tally) -> Result<(), CountError> {
         count_own(&mut tally.own_, <A<T>>::size())?;
         count(&mut tally.own, &self.own)?;
         count(&mut tally.b, &self.b)?;
@@ -252,7 +252,7 @@ class CommandTest(unittest.TestCase):
         self.assertIn(ENUM_ARMS, output)
         answer = self.get("proofs/a/shown/ETallied/tally/Answers.antt")
         self.assertIn("returns-in_ok-count-in-TwoOf-2 c =\n    rw c.in-TwoOf.is (whole_counted c.size.ensures", answer)
-        self.assertIn("    (second_counted (whole_counted c.size-in-TwoOf.ensures c.in_ok-count_own-in-TwoOf.ensures\n", answer)
+        self.assertIn("    (second_counted (whole_counted c.size-in-TwoOf.ensures c.in_ok-count_own-in-TwoOf.ensures.ok\n", answer)
 
     def test_types_without_a_tally(self) -> None:
         for text, why in (

@@ -29,4 +29,4 @@ returns g c =
     (g.T.Tally.Tally.shape c.args.tally.now.item)) c.args.tally.now.unused)
     (buffer_shape c.add.new.self (slice_shape g.T.Described.name c.count_slice.new.sum
     (g.T.Tally.Tally.shape c.count_slice.new.tally)) c.count_unused.new.sum))
-    c.in-Some.ensures (buffer_counted some room c.in_ok-add.ensures items unused)
+    c.in-Some.ensures (buffer_counted some room c.in_ok-add.ensures.ok items unused)

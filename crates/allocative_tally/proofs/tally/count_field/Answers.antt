@@ -7,6 +7,6 @@ pub returns : goal.returns
 returns g c =
     let size = sym c.in-Some.ensures in
     record {
-      under = λ k. counted_field size (counted_inline c.in_ok-add.ensures c.in_ok-tally.ensures
+      under = λ k. counted_field size (counted_inline c.in_ok-add.ensures.ok c.in_ok-tally.ensures
           (fits_size size));
     }

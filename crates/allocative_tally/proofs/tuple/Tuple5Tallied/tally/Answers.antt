@@ -3,6 +3,6 @@ use Rattle.allocative_tally.proofs.Values.{tuple5_counted}
 use Rattle.allocative_tally.proofs.tuple.Tuple5Tallied.tally.Goals as goal
 
 pub returns : goal.returns
-returns g c = tuple5_counted _ _ _ _ _ _ _ c.in-Some.ensures c.in_ok-add.ensures
+returns g c = tuple5_counted _ _ _ _ _ _ _ c.in-Some.ensures c.in_ok-add.ensures.ok
     c.in_ok-count_field.ensures c.in_ok-count_field-2.ensures c.in_ok-count_field-3.ensures
     c.in_ok-count_field-4.ensures c.in_ok-count_field-5.ensures

@@ -5,7 +5,7 @@ use Rattle.test_generated_types.proofs.tallied.ShelfTallied.tally.Goals as goal
 
 pub returns : goal.returns
 returns g c =
-    whole_counted c.size.ensures c.in_ok-count_own.ensures
+    whole_counted c.size.ensures c.in_ok-count_own.ensures.ok
     (both_counted
     (field_counted c.in_ok-count.ensures)
     (both_counted
