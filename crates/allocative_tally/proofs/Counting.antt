@@ -1,7 +1,7 @@
 -- How what was counted composes as what is shown does.
-use Rattle.std.proofs.Common.{◌≡◌, ◌≤◌, ◌<◌, ◌+◌, ◌-◌, ◌^◌, ℕ, Bool, true, false, List, [], ◌∷◌, ◌++◌, Option, Some}
+use Rattle.std.proofs.Common.{◌≡◌, ◌≤◌, ◌<◌, ◌+◌, ◌^◌, ℕ, Bool, true, false, List, [], ◌∷◌, ◌++◌, Option, Some}
 use Rattle.std.proofs.Common.{None}
-use Rattle.std.proofs.Common.{Result, Ok, Err, IfOk, refl, sym, ap, subst, ◌∙◌, arith}
+use Rattle.std.proofs.Common.{Result, Ok, Err, IfOk, refl, sym, subst, ◌∙◌, arith}
 use Rattle.std.proofs.lemmas.Bool.{false≢true}
 use Rattle.allocative.proofs.Common.{Refusal, Key, Forest, Empty, followed_by, entry_of, Showing, Nothing, Both}
 use Rattle.allocative.proofs.Common.{InsideAs, Inside, Field, sized, each_shows}
@@ -10,10 +10,10 @@ use Rattle.allocative_graph.proofs.Owned.{direct-following}
 use Rattle.allocative.proofs.Exact.{followed_by-empty, followed_by_assoc, each_append, each_one}
 use Rattle.allocative_tally.specs.Merged.{IsPlain, Merged}
 use Rattle.allocative_tally.specs.Shapes.{Width, Unique, Wide, Narrow, is_unique, Keeps, Shape}
-use Rattle.allocative_tally.specs.Shapes.{NoEntry, Beside, EntryAt, forest_of, Holds, IsRight, entry_counted}
+use Rattle.allocative_tally.specs.Shapes.{NoEntry, Beside, EntryAt, forest_of, Holds, entry_counted}
 use Rattle.allocative_tally.specs.Tallies.{Tallies, IsWithin, AddsEntry}
 use Rattle.allocative_tally.specs.declared.tally.Sum.{Sum}
-use Rattle.allocative_tally.proofs.Unshared.{plain_parts, plain_inside, plain_entry}
+use Rattle.allocative_tally.proofs.Unshared.{plain_parts, plain_inside}
 use Rattle.allocative_tally.proofs.Merging.{merged_same, merged_then, merged_both, merged_crossed, merged_entry}
 use Rattle.allocative_tally.proofs.Merging.{merged_inside, KeepsOwned}
 

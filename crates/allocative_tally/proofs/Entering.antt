@@ -6,7 +6,7 @@ use Rattle.std.proofs.lemmas.List.{take-append-drop}
 use Rattle.allocative.proofs.Common.{Refusal, Key, Forest, Empty, followed_by, entry_of, add_all, Live, Kind, OfGraph}
 use Rattle.allocative.proofs.Common.{OfHeld, OfOwned, State, plus, Showing, Nothing, Both, InsideAs, AddsForest}
 use Rattle.allocative.proofs.Common.{already}
-use Rattle.allocative.proofs.Common.{refused, hidden, forgotten, CanTake, HasRoomFor, IsDeclared, FailsOnlyIfFull}
+use Rattle.allocative.proofs.Common.{refused, hidden, forgotten, CanTake, HasRoomFor, FailsOnlyIfFull}
 use Rattle.allocative.proofs.Common.{ShowsContents, each_shows, has_added, has_refused, Entered, Means}
 use Rattle.allocative_graph.specs.Forest.{own_behind, met_after, Inline, Unique, First, Again}
 use Rattle.allocative_graph.specs.Collector.{Holding, Owning, plus_live, plus_holding, plus_owning, entries_at}

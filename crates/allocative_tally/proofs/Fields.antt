@@ -1,7 +1,7 @@
 -- How values of structs and enums are counted, by their fields.
 use Rattle.std.proofs.Common.{◌≡◌, ◌≤◌, ℕ, false, Option, Some, None, refl, sym, ap, subst, arith, ◌∙◌}
 use Rattle.allocative_described.specs.Sizes.{size_sum, size_max, size_up}
-use Rattle.allocative.proofs.Common.{Key, followed_by, Showing, Nothing, Both, Field}
+use Rattle.allocative.proofs.Common.{Key, Forest, followed_by, Showing, Nothing, Both, Field}
 use Rattle.allocative_tally.specs.Shapes.{Shape, Wide, NoEntry, Beside, EntryAt, IsNothing}
 use Rattle.allocative_tally.specs.Tallies.{Tallies, TalliesField}
 use Rattle.allocative_tally.specs.Fields.{AddsSize, HasNothing}
@@ -10,7 +10,7 @@ use Rattle.allocative_tally.proofs.Counting.{both_bounds, counted_field, counted
 use Rattle.allocative_tally.proofs.Counting.{tallies_as}
 use Rattle.allocative.proofs.Exact.{followed_by-empty}
 use Rattle.allocative_tally.proofs.Sizes.{HasRoom, room_up, room_sum, room_second, room_max_first, room_max_second}
-use Rattle.allocative_tally.proofs.Sizes.{room_then, room_both, fits_room}
+use Rattle.allocative_tally.proofs.Sizes.{room_then, room_both, room_grouped, fits_room}
 
 -- ---- nothing counted
 -- Nothing is counted in a shape.
@@ -29,7 +29,7 @@ starts_entry {k} {s} own there bytes inside = record {
 
 -- A field in which nothing was counted.
 pub starts_field : {k : Key} {own : Sum} {s : Shape} → HasNothing own s → Starts (EntryAt Wide k own s)
-starts_field {k = k} field = record { nothing = field.under k }
+starts_field {own = own} field = starts_entry own field.there field.bytes (record { nothing = field.inside })
 
 -- Two shapes, one after another.
 pub starts_both : {s t : Shape} → Starts s → Starts t → Starts (Beside s t)
@@ -43,12 +43,6 @@ starts_none = record { nothing = (refl, tt) }
 pub starts_whole : (k : Key) {s : Shape} (own : Sum) → own.is_there ≡ false → own.bytes ≡ 0 → Starts s →
     IsNothing (EntryAt Wide k own s)
 starts_whole k own there bytes inside = (starts_entry {k = k} own there bytes inside).nothing
-
--- A new field has nothing counted in it.
-pub starts_new : {s : Shape} (own : Sum) → own.is_there ≡ false → own.bytes ≡ 0 → IsNothing s → HasNothing own s
-starts_new own there bytes inside = record {
-  under = λ k. (starts_entry {k = k} own there bytes (record { nothing = inside })).nothing;
-}
 
 -- ---- room for the fields
 -- Whatever a bound allows fits a declared size.
@@ -90,6 +84,13 @@ holds_last u {w} a = record {
 pub holds_both : (u v w x : Option ℕ) → Holds u w → Holds v x → Holds (size_sum u v) (both_bounds w x)
 holds_both u v w x a b = record {
   room = room_then (size_sum u v) (both_bounds u v) (both_bounds w x) (room_sum u v) (room_both u v w x a.room b.room);
+}
+
+-- Fields can be grouped either way.
+pub holds_grouped : (u v w : Option ℕ) {size : Option ℕ} → Holds size (both_bounds (both_bounds u v) w) →
+    Holds size (both_bounds u (both_bounds v w))
+holds_grouped u v w {size} a = record {
+  room = room_then size (both_bounds (both_bounds u v) w) (both_bounds u (both_bounds v w)) a.room (room_grouped u v w);
 }
 
 -- The fields behind a tag.
@@ -137,6 +138,26 @@ pub field_counted : {size : Option ℕ} {k : Key} {p : Showing} {a a' : Sum} {s 
     TalliesField size p a s a' s' → Tallies size (Field k size p) (EntryAt Wide k a s) (EntryAt Wide k a' s')
 field_counted {k = k} field = field.under k
 
+-- A variant without fields.
+pub nothing_counted : {s : Shape} → Tallies (Some 0) Nothing s s
+nothing_counted = tallies_none refl
+
+-- One more value of a field was counted: an entry of its size, and inside it what the value shows.
+pub field_tallied : {found size : Option ℕ} {p : Showing} {a a' : Sum} {s s' : Shape} → found ≡ size →
+    AddsSize found a a' → Tallies size p s s' → TalliesField size p a s a' s'
+field_tallied e own value = record { under = λ k. whole_counted e own value holds_itself }
+
+-- A value without fields is its own entry.
+pub bare_counted : {found size : Option ℕ} {k : Key} {a a' : Sum} {s : Shape} → found ≡ size → AddsSize found a a' →
+    Tallies size (Field k size Nothing) (EntryAt Wide k a s) (EntryAt Wide k a' s)
+bare_counted {size = size} e own = whole_counted e own nothing_counted (holds_nothing size)
+
+-- A value that may show an entry with nothing inside it is that entry.
+pub one_counted : {found size : Option ℕ} {k : Key} {p : Showing} {a a' : Sum} →
+    ((f : Forest) → Field k size Nothing f → p f) → found ≡ size → AddsSize found a a' →
+    Tallies size p (EntryAt Wide k a NoEntry) (EntryAt Wide k a' NoEntry)
+one_counted up e own = tallies_as up (bare_counted e own)
+
 -- Two fields were counted, each into a shape of its own.
 pub both_counted : {m n : Option ℕ} {p q : Showing} {s t u v : Shape} → Tallies m p s t → Tallies n q u v →
     Tallies (both_bounds m n) (Both p q) (Beside s u) (Beside t v)
@@ -156,9 +177,61 @@ second_counted {w} {p} {u = u} c = tallies_within w (holds_none_more w)
     (tallies_as (λ h (a, b, e, x, i). subst p (sym (i ∙ ap (λ z. followed_by z b) e)) x)
     (tallies_both {p = Nothing} (tallies_none {w = Some 0} refl) c))
 
--- A variant without fields.
-pub nothing_counted : {s : Shape} → Tallies (Some 0) Nothing s s
-nothing_counted = tallies_none refl
+-- ---- values of std
+-- An option with a value is its own entry with the value's field inside it.
+pub some_counted : {found : Option ℕ} (w : Option ℕ) (align : ℕ) {k j : Key} {p : Showing} {a a' b b' : Sum}
+    {s s' : Shape} → found ≡ size_up (size_sum (Some 1) w) align → AddsSize found a a' → TalliesField w p b s b' s' →
+    Tallies (size_up (size_sum (Some 1) w) align) (Field k (size_up (size_sum (Some 1) w) align) (Field j w p))
+    (EntryAt Wide k a (EntryAt Wide j b s)) (EntryAt Wide k a' (EntryAt Wide j b' s'))
+some_counted w align e own value =
+    whole_counted e own (field_counted value) (holds_up _ align (holds_second (Some 1) w holds_itself))
+
+-- A value of two cases, of which the first is there, is its own entry with the first case's field inside it.
+pub first_case_counted : {found : Option ℕ} (v w : Option ℕ) (align : ℕ) {k i j : Key} {p : Showing}
+    {a a' b b' c : Sum} {s s' t : Shape} → found ≡ size_up (size_sum (Some 1) (size_max v w)) align →
+    AddsSize found a a' → TalliesField v p b s b' s' → Tallies (size_up (size_sum (Some 1) (size_max v w)) align)
+    (Field k (size_up (size_sum (Some 1) (size_max v w)) align) (Field i v p))
+    (EntryAt Wide k a (Beside (EntryAt Wide i b s) (EntryAt Wide j c t)))
+    (EntryAt Wide k a' (Beside (EntryAt Wide i b' s') (EntryAt Wide j c t)))
+first_case_counted v w align e own value = whole_counted e own (first_counted (field_counted value))
+    (holds_up _ align (holds_second (Some 1) (size_max v w) (holds_first_of v w holds_itself)))
+
+-- A value of two cases, of which the second is there, is its own entry with the second case's field inside it.
+pub second_case_counted : {found : Option ℕ} (v w : Option ℕ) (align : ℕ) {k i j : Key} {q : Showing}
+    {a a' b c c' : Sum} {s t t' : Shape} → found ≡ size_up (size_sum (Some 1) (size_max v w)) align →
+    AddsSize found a a' → TalliesField w q c t c' t' → Tallies (size_up (size_sum (Some 1) (size_max v w)) align)
+    (Field k (size_up (size_sum (Some 1) (size_max v w)) align) (Field j w q))
+    (EntryAt Wide k a (Beside (EntryAt Wide i b s) (EntryAt Wide j c t)))
+    (EntryAt Wide k a' (Beside (EntryAt Wide i b s) (EntryAt Wide j c' t')))
+second_case_counted v w align e own value = whole_counted e own (second_counted (field_counted value))
+    (holds_up _ align (holds_second (Some 1) (size_max v w) (holds_second_of v w holds_itself)))
+
+-- A pair is its own entry with both fields inside it.
+pub pair_counted : {found : Option ℕ} (v w : Option ℕ) (align : ℕ) {k i j : Key} {p q : Showing} {a a' b b' c c' : Sum}
+    {s s' t t' : Shape} → found ≡ size_up (size_sum v w) align → AddsSize found a a' → TalliesField v p b s b' s' →
+    TalliesField w q c t c' t' →
+    Tallies (size_up (size_sum v w) align) (Field k (size_up (size_sum v w) align) (Both (Field i v p) (Field j w q)))
+    (EntryAt Wide k a (Beside (EntryAt Wide i b s) (EntryAt Wide j c t)))
+    (EntryAt Wide k a' (Beside (EntryAt Wide i b' s') (EntryAt Wide j c' t')))
+pair_counted v w align e own first second =
+    whole_counted e own (both_counted (field_counted first) (field_counted second))
+    (holds_up _ align (holds_both v w v w holds_itself holds_itself))
 
 -- The lemmas for what a declared size has room for.
-pub ruleset holding = (holds_up, holds_both, holds_last, holds_second, holds_first_of, holds_second_of, holds_itself, holds_bytes, holds_nothing)
+pub ruleset holding = (
+  holds_up,
+  holds_both,
+  holds_last,
+  holds_second,
+  holds_first_of,
+  holds_second_of,
+  holds_itself,
+  holds_bytes,
+  holds_nothing,
+)
+
+-- The lemmas for what the sizes of tuples have room for.
+pub ruleset holding_tuples = (holds_grouped, holds_up, holds_both, holds_itself)
+
+-- The lemmas for what std's types show.
+pub ruleset values = (bare_counted, some_counted, first_case_counted, second_case_counted, pair_counted)

@@ -3,7 +3,6 @@ pub mod Merging
 pub mod Entering
 pub mod Counting
 pub mod Sizes
-pub mod Values
 pub mod Sequences
 pub mod Maps
 pub mod Rules

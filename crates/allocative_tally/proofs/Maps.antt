@@ -1,22 +1,19 @@
 -- How pairs and maps are counted.
-use Rattle.std.proofs.Common.{◌≡◌, ◌≤◌, ◌<◌, ◌+◌, ◌-◌, ◌*◌, ◌^◌, ℕ, true, false, Bool, codes, Option, Some, None, List}
-use Rattle.std.proofs.Common.{[], ◌∷◌, ◌++◌, length, map, nat_lt, if◌then◌else◌, refl, sym, ap, subst, ◌∙◌, arith}
-use Rattle.std.specs.Iterator.{Drains}
+use Rattle.std.proofs.Common.{◌≡◌, ◌≤◌, ◌+◌, ◌*◌, ℕ, true, false, codes, Option, Some, None, List}
+use Rattle.std.proofs.Common.{[], ◌∷◌, ◌++◌, length, refl, ap, subst, ◌∙◌, arith}
 use Rattle.std.proofs.lemmas.List.Sorted.{IsPermutation-refl}
-use Rattle.std.specs.Map.Iter.{deref_pair}
 use Rattle.std.proofs.lemmas.Iterator.{YieldsList, items_from_drains}
-use Rattle.allocative_described.specs.Sizes.{checked, size_sum}
-use Rattle.allocative_graph.specs.Forest.{followed_by}
+use Rattle.allocative_described.specs.Sizes.{size_sum}
 use Rattle.allocative_graph.specs.Owned.{direct}
 use Rattle.allocative_graph.proofs.Owned.{direct-following}
 use Rattle.allocative.specs.Runs.{IsOfRun, field_of, pair_shows}
 use Rattle.allocative.specs.StdShows.{in_any_order}
-use Rattle.allocative.proofs.Common.{Key, Forest, Showing, Nothing, Both, Inside, Field, sized, each_shows}
-use Rattle.allocative_tally.specs.Shapes.{Shape, Wide, Narrow, NoEntry, Beside, EntryAt}
+use Rattle.allocative.proofs.Common.{Key, Forest, Showing, Inside, Field, sized, each_shows}
+use Rattle.allocative_tally.specs.Shapes.{Shape, Wide, Narrow, Beside, EntryAt}
 use Rattle.allocative_tally.specs.Tallies.{Tallies, TalliesField, AddsEntry, FitsData}
 use Rattle.allocative_tally.specs.declared.tally.Sum.{Sum}
-use Rattle.allocative_tally.proofs.Counting.{counted_field, counted_inline, counted_narrow, tallies_both, tallies_then}
-use Rattle.allocative_tally.proofs.Counting.{tallies_none, tallies_as, tallies_first, tallies_second, tallies_loosely}
+use Rattle.allocative_tally.proofs.Counting.{counted_field, counted_inline, counted_narrow, tallies_both}
+use Rattle.allocative_tally.proofs.Counting.{tallies_as, tallies_first, tallies_second}
 use Rattle.allocative_tally.proofs.Counting.{tallies_more, tallies_within, fits_bytes}
 use Rattle.allocative_tally.proofs.Sizes.{checked_is}
 

@@ -1,5 +1,5 @@
 -- How merged forests compose.
-use Rattle.std.proofs.Common.{◌≡◌, ◌≤◌, ℕ, suc, ◌+◌, ◌-◌, ◌<◌, ◌^◌, Bool, true, false, cond, List, [], ◌∷◌, ◌++◌}
+use Rattle.std.proofs.Common.{◌≡◌, ℕ, suc, ◌+◌, ◌-◌, ◌<◌, ◌^◌, Bool, true, false, cond, List, [], ◌∷◌, ◌++◌}
 use Rattle.std.proofs.Common.{refl, sym, ap, subst, ◌∙◌, arith, append-nil}
 use Rattle.allocative.proofs.Common.{Key, Forest, Empty, First, Again, followed_by, entry_of, add_all, held, all_bytes}
 use Rattle.std.proofs.lemmas.List.Sums.{fold-append, sum_by-append}

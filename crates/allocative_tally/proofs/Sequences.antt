@@ -1,11 +1,11 @@
--- How slices and buffers are counted.
+-- How texts, boxes, slices and buffers are counted.
 use Rattle.std.proofs.Common.{◌≡◌, ◌≤◌, ◌<◌, ◌+◌, ◌-◌, ◌*◌, ◌^◌, ℕ, true, false, Bool, codes, Option, Some, None}
 use Rattle.std.proofs.Common.{List, ◌++◌}
-use Rattle.std.proofs.Common.{length, refl, sym, ap, subst, ◌∙◌, arith}
+use Rattle.std.proofs.Common.{length, refl, sym, ap, ◌∙◌, arith}
 use Rattle.allocative_graph.specs.Shows.{is_shown_each}
-use Rattle.allocative.proofs.Common.{Key, Showing, Nothing, Both, Inside, Field, each_shows, slice_shows}
+use Rattle.allocative.proofs.Common.{Key, Showing, InsideAs, Field, each_shows, slice_shows}
 use Rattle.allocative.proofs.Common.{bytes_shown, buffer_shows, checked, with_room, without_room, without_size}
-use Rattle.allocative.specs.Bodies.{cut_shows, is_cut}
+use Rattle.allocative.specs.Bodies.{cut_shows, is_cut, text_shows, is_text}
 use Rattle.allocative.proofs.Bodies.{checked_fits}
 use Rattle.allocative_tally.specs.Shapes.{Shape, Unique, Wide, NoEntry, Beside, EntryAt, slice_shape, buffer_shape}
 use Rattle.allocative_tally.specs.Tallies.{Tallies, AddsEntry}
@@ -64,3 +64,23 @@ buffer_counted some room pointer items unused =
 pub container_counted : {k : Key} {n : ℕ} {p : Showing} {a a' : Sum} {s s' : Shape} → 8 ≤ n → AddsEntry n a a' →
     Tallies (Some 8) p s s' → Tallies (Some n) (Field k (Some n) p) (EntryAt Wide k a s) (EntryAt Wide k a' s')
 container_counted room own buffer = counted_field refl (counted_inline own buffer (fits_bytes room))
+
+-- A text is five entries.
+pub text_counted : {n c : ℕ} {a a' b b' d d' e e' f f' : Sum} → n ≤ c → AddsEntry 24 a a' → AddsEntry 8 b b' →
+    AddsEntry c d d' → AddsEntry n e e' → AddsEntry (c - n) f f' →
+    Tallies (Some 24) (Field (codes "String") (Some 24) (text_shows n c))
+    (EntryAt Wide (codes "String") a (EntryAt Unique (codes "ptr") b (EntryAt Wide (codes "capacity") d
+    (Beside (EntryAt Wide (codes "u8") e NoEntry) (EntryAt Wide (codes "unused_capacity") f NoEntry)))))
+    (EntryAt Wide (codes "String") a' (EntryAt Unique (codes "ptr") b' (EntryAt Wide (codes "capacity") d'
+    (Beside (EntryAt Wide (codes "u8") e' NoEntry) (EntryAt Wide (codes "unused_capacity") f' NoEntry)))))
+text_counted {n} {c} room own pointer capacity used unused =
+    container_counted (omega arith) own (tallies_as (λ h x. is_text x)
+    (counted_unique pointer (counted_inline capacity (tallies_both (counted_leaf used) (counted_leaf unused))
+    (fits_bytes (omega (arith, room))))))
+
+-- A box is its own entry, with a unique entry inside it, which has what the value shows.
+pub box_counted : {w : Option ℕ} {p : Showing} {a a' b b' : Sum} {s s' : Shape} → AddsEntry 8 a a' → AddsEntry 8 b b' →
+    Tallies w p s s' → Tallies (Some 8) (Field (codes "Box") (Some 8) (InsideAs true (codes "ptr") 8 p))
+    (EntryAt Wide (codes "Box") a (EntryAt Unique (codes "ptr") b s))
+    (EntryAt Wide (codes "Box") a' (EntryAt Unique (codes "ptr") b' s'))
+box_counted own pointer value = container_counted (omega arith) own (counted_unique pointer value)

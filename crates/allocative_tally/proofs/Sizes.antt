@@ -1,5 +1,5 @@
 -- Declared sizes have room for what is inside.
-use Rattle.std.proofs.Common.{◌≡◌, ◌≤◌, ◌<◌, ◌+◌, ◌-◌, ◌*◌, ◌%◌, ◌^◌, ℕ, suc, max, Bool, true, false, nat_lt}
+use Rattle.std.proofs.Common.{◌≡◌, ◌≤◌, ◌+◌, ◌^◌, ℕ, suc, Bool, true, false, nat_lt}
 use Rattle.std.proofs.Common.{Option, Some}
 use Rattle.std.proofs.Common.{None, refl, subst, arith, if◌then◌else◌}
 use Rattle.allocative_described.specs.Sizes.{checked, up, size_sum, size_max, size_up}
@@ -89,64 +89,3 @@ room_grouped (Some m) (Some n) (Some k) d h = omega (arith, h)
 -- An entry of a size that has room for a bound fits what is within the bound.
 pub fits_room : {size : Option ℕ} (w : Option ℕ) {n : ℕ} → size ≡ Some n → HasRoom size w → FitsEntry w n
 fits_room w e h = record { fits = subst (λ (s : Option ℕ). HasRoom s w) e h }
-
--- An option has room for its value.
-pub fits_option : (w : Option ℕ) (a n : ℕ) → size_up (size_sum (Some 1) w) a ≡ Some n → FitsEntry w n
-fits_option w a n e = fits_room w e (room_then _ _ w (room_up (size_sum (Some 1) w) a) (room_second (Some 1) w))
-
--- A pair has room for its fields.
-pub fits_pair : (w v : Option ℕ) (a n : ℕ) → size_up (size_sum w v) a ≡ Some n → FitsEntry (both_bounds w v) n
-fits_pair w v a n e = fits_room (both_bounds w v) e (room_then _ _ (both_bounds w v) (room_up (size_sum w v) a)
-    (room_sum w v))
-
--- A value of one of two cases has room for each that has room in the greater.
-pub fits_choice : (v w u : Option ℕ) (a n : ℕ) → size_up (size_sum (Some 1) (size_max v w)) a ≡ Some n →
-    HasRoom (size_max v w) u → FitsEntry u n
-fits_choice v w u a n e h = fits_room u e (room_then _ _ u (room_up (size_sum (Some 1) (size_max v w)) a)
-    (room_then _ _ u (room_second (Some 1) (size_max v w)) h))
-
--- The sum of three sizes has room for all.
-room_three : (u v w : Option ℕ) → HasRoom (size_sum (size_sum u v) w) (both_bounds u (both_bounds v w))
-room_three u v w = room_then _ _ (both_bounds u (both_bounds v w))
-    (room_then _ _ (both_bounds (both_bounds u v) w) (room_sum (size_sum u v) w)
-    (room_both (size_sum u v) w (both_bounds u v) w (room_sum u v) (λ d i. i)))
-    (room_grouped u v w)
-
--- The sum of four sizes has room for all.
-room_four : (u v w x : Option ℕ) →
-    HasRoom (size_sum (size_sum (size_sum u v) w) x) (both_bounds u (both_bounds v (both_bounds w x)))
-room_four u v w x = room_then _ _ (both_bounds u (both_bounds v (both_bounds w x))) (room_three (size_sum u v) w x)
-    (room_then _ _ (both_bounds u (both_bounds v (both_bounds w x)))
-    (room_both (size_sum u v) (both_bounds w x) (both_bounds u v) (both_bounds w x) (room_sum u v) (λ d i. i))
-    (room_grouped u v (both_bounds w x)))
-
--- The sum of five sizes has room for all.
-room_five : (u v w x y : Option ℕ) → HasRoom (size_sum (size_sum (size_sum (size_sum u v) w) x) y)
-    (both_bounds u (both_bounds v (both_bounds w (both_bounds x y))))
-room_five u v w x y =
-    let r = both_bounds w (both_bounds x y) in
-    room_then _ _ (both_bounds u (both_bounds v r)) (room_four (size_sum u v) w x y)
-    (room_then _ _ (both_bounds u (both_bounds v r))
-    (room_both (size_sum u v) r (both_bounds u v) r (room_sum u v) (λ d i. i)) (room_grouped u v r))
-
--- A tuple of three has room for its fields.
-pub fits_tuple3 : (u v w : Option ℕ) (a n : ℕ) → size_up (size_sum (size_sum u v) w) a ≡ Some n →
-    FitsEntry (both_bounds u (both_bounds v w)) n
-fits_tuple3 u v w a n e = fits_room (both_bounds u (both_bounds v w)) e
-    (room_then _ _ (both_bounds u (both_bounds v w)) (room_up (size_sum (size_sum u v) w) a) (room_three u v w))
-
--- A tuple of four has room for its fields.
-pub fits_tuple4 : (u v w x : Option ℕ) (a n : ℕ) → size_up (size_sum (size_sum (size_sum u v) w) x) a ≡ Some n →
-    FitsEntry (both_bounds u (both_bounds v (both_bounds w x))) n
-fits_tuple4 u v w x a n e = fits_room (both_bounds u (both_bounds v (both_bounds w x))) e
-    (room_then _ _ (both_bounds u (both_bounds v (both_bounds w x)))
-    (room_up (size_sum (size_sum (size_sum u v) w) x) a) (room_four u v w x))
-
--- A tuple of five has room for its fields.
-pub fits_tuple5 : (u v w x y : Option ℕ) (a n : ℕ) →
-    size_up (size_sum (size_sum (size_sum (size_sum u v) w) x) y) a ≡ Some n →
-    FitsEntry (both_bounds u (both_bounds v (both_bounds w (both_bounds x y)))) n
-fits_tuple5 u v w x y a n e =
-    fits_room (both_bounds u (both_bounds v (both_bounds w (both_bounds x y)))) e
-    (room_then _ _ (both_bounds u (both_bounds v (both_bounds w (both_bounds x y))))
-    (room_up (size_sum (size_sum (size_sum (size_sum u v) w) x) y) a) (room_five u v w x y))

@@ -1,10 +1,11 @@
 //! Types that are one of several: `Option`, `Result` and `Either`.
-#![tactic(auto, using(crate::proofs::Rules::counting))]
+#![tactic(auto, using(crate::proofs::Fields::values))]
 
 ghost use Rattle.std.specs.Prelude.{codes};
 ghost use Rattle.allocative_tally.specs.Shapes.{Wide, EntryAt, Beside};
 
-use crate::tally::{CountError, Entries, InlineSum, Sum, Tallied, Tally, count_field};
+use crate::field::{FieldSum, FieldTally, count, count_own};
+use crate::tally::{CountError, Entries, InlineSum, Sum, Tallied, Tally};
 use allocative::{Described, Refusal, Visitor};
 use either::{Either, Left, Right};
 
@@ -12,24 +13,22 @@ use either::{Either, Left, Right};
 #[derive(Drop)]
 pub struct OptionTally<S> {
     own: Sum,
-    some: Sum,
-    value: S,
+    some: FieldTally<S>,
 }
 
 impl<S: Tally> Tally for OptionTally<S> {
     ghost shape = { λ t. EntryAt Wide (codes "Option") t.own
-        (EntryAt Wide (codes "Some") t.some (S.shape t.value)) };
+        (EntryAt Wide (codes "Some") t.some.own (S.shape t.some.value)) };
 
     fn none() -> Self {
         OptionTally {
             own: Sum::none(),
-            some: Sum::none(),
-            value: S::none(),
+            some: FieldTally::none(),
         }
     }
 
     fn enter(&self, visitor: &mut Visitor<'_>) -> Result<(), Refusal> {
-        let some = InlineSum("Some", self.some, &self.value);
+        let some = FieldSum("Some", &self.some);
         InlineSum("Option", self.own, some).enter(visitor)
     }
 }
@@ -37,15 +36,12 @@ impl<S: Tally> Tally for OptionTally<S> {
 impl<T: Tallied> Tallied for Option<T> {
     type Tally = OptionTally<T::Tally>;
 
-    fn tally(&self, tally: &mut OptionTally<T::Tally>) -> Result<(), CountError> {
-        let Some(size) = <Option<T>>::size() else {
-            return Err(CountError);
-        };
-        tally.own.add(size)?;
+    fn tally(&self, tally: &mut Self::Tally) -> Result<(), CountError> {
+        count_own(&mut tally.own, <Option<T>>::size())?;
         match self {
             None => Ok(()),
             Some(value) => {
-                count_field(&mut tally.some, &mut tally.value, value)?;
+                count(&mut tally.some, value)?;
                 Ok(())
             }
         }
@@ -56,30 +52,26 @@ impl<T: Tallied> Tallied for Option<T> {
 #[derive(Drop)]
 pub struct ResultTally<P, Q> {
     own: Sum,
-    ok: Sum,
-    err: Sum,
-    ok_value: P,
-    err_value: Q,
+    ok: FieldTally<P>,
+    err: FieldTally<Q>,
 }
 
 impl<P: Tally, Q: Tally> Tally for ResultTally<P, Q> {
     ghost shape = { λ t. EntryAt Wide (codes "Result") t.own
-        (Beside (EntryAt Wide (codes "Ok") t.ok (P.shape t.ok_value))
-        (EntryAt Wide (codes "Err") t.err (Q.shape t.err_value))) };
+        (Beside (EntryAt Wide (codes "Ok") t.ok.own (P.shape t.ok.value))
+        (EntryAt Wide (codes "Err") t.err.own (Q.shape t.err.value))) };
 
     fn none() -> Self {
         ResultTally {
             own: Sum::none(),
-            ok: Sum::none(),
-            err: Sum::none(),
-            ok_value: P::none(),
-            err_value: Q::none(),
+            ok: FieldTally::none(),
+            err: FieldTally::none(),
         }
     }
 
     fn enter(&self, visitor: &mut Visitor<'_>) -> Result<(), Refusal> {
-        let ok = InlineSum("Ok", self.ok, &self.ok_value);
-        let err = InlineSum("Err", self.err, &self.err_value);
+        let ok = FieldSum("Ok", &self.ok);
+        let err = FieldSum("Err", &self.err);
         InlineSum("Result", self.own, (ok, err)).enter(visitor)
     }
 }
@@ -87,18 +79,15 @@ impl<P: Tally, Q: Tally> Tally for ResultTally<P, Q> {
 impl<T: Tallied, E: Tallied> Tallied for Result<T, E> {
     type Tally = ResultTally<T::Tally, E::Tally>;
 
-    fn tally(&self, tally: &mut ResultTally<T::Tally, E::Tally>) -> Result<(), CountError> {
-        let Some(size) = <Result<T, E>>::size() else {
-            return Err(CountError);
-        };
-        tally.own.add(size)?;
+    fn tally(&self, tally: &mut Self::Tally) -> Result<(), CountError> {
+        count_own(&mut tally.own, <Result<T, E>>::size())?;
         match self {
             Ok(value) => {
-                count_field(&mut tally.ok, &mut tally.ok_value, value)?;
+                count(&mut tally.ok, value)?;
                 Ok(())
             }
             Err(value) => {
-                count_field(&mut tally.err, &mut tally.err_value, value)?;
+                count(&mut tally.err, value)?;
                 Ok(())
             }
         }
@@ -109,30 +98,26 @@ impl<T: Tallied, E: Tallied> Tallied for Result<T, E> {
 #[derive(Drop)]
 pub struct EitherTally<P, Q> {
     own: Sum,
-    left: Sum,
-    right: Sum,
-    left_value: P,
-    right_value: Q,
+    left: FieldTally<P>,
+    right: FieldTally<Q>,
 }
 
 impl<P: Tally, Q: Tally> Tally for EitherTally<P, Q> {
     ghost shape = { λ t. EntryAt Wide (codes "Either") t.own
-        (Beside (EntryAt Wide (codes "Left") t.left (P.shape t.left_value))
-        (EntryAt Wide (codes "Right") t.right (Q.shape t.right_value))) };
+        (Beside (EntryAt Wide (codes "Left") t.left.own (P.shape t.left.value))
+        (EntryAt Wide (codes "Right") t.right.own (Q.shape t.right.value))) };
 
     fn none() -> Self {
         EitherTally {
             own: Sum::none(),
-            left: Sum::none(),
-            right: Sum::none(),
-            left_value: P::none(),
-            right_value: Q::none(),
+            left: FieldTally::none(),
+            right: FieldTally::none(),
         }
     }
 
     fn enter(&self, visitor: &mut Visitor<'_>) -> Result<(), Refusal> {
-        let left = InlineSum("Left", self.left, &self.left_value);
-        let right = InlineSum("Right", self.right, &self.right_value);
+        let left = FieldSum("Left", &self.left);
+        let right = FieldSum("Right", &self.right);
         InlineSum("Either", self.own, (left, right)).enter(visitor)
     }
 }
@@ -140,18 +125,15 @@ impl<P: Tally, Q: Tally> Tally for EitherTally<P, Q> {
 impl<L: Tallied, R: Tallied> Tallied for Either<L, R> {
     type Tally = EitherTally<L::Tally, R::Tally>;
 
-    fn tally(&self, tally: &mut EitherTally<L::Tally, R::Tally>) -> Result<(), CountError> {
-        let Some(size) = <Either<L, R>>::size() else {
-            return Err(CountError);
-        };
-        tally.own.add(size)?;
+    fn tally(&self, tally: &mut Self::Tally) -> Result<(), CountError> {
+        count_own(&mut tally.own, <Either<L, R>>::size())?;
         match self {
             Left(value) => {
-                count_field(&mut tally.left, &mut tally.left_value, value)?;
+                count(&mut tally.left, value)?;
                 Ok(())
             }
             Right(value) => {
-                count_field(&mut tally.right, &mut tally.right_value, value)?;
+                count(&mut tally.right, value)?;
                 Ok(())
             }
         }

@@ -1,5 +1,5 @@
 //! Parts of values that are counted first.
-#![tactic(auto, using(crate::proofs::Rules::counting))]
+#![tactic(auto)]
 
 ghost use Rattle.std.specs.Prelude.{IfOk, None};
 ghost use Rattle.allocative_graph.specs.Shows.{each_shows};

@@ -1,5 +1,5 @@
-//! Fields, for the tallies of structs and enums.
-#![tactic(auto, using(crate::proofs::Fields::starts_new))]
+//! Entries of declared sizes: of fields, and of whole values.
+#![tactic(auto, using(crate::proofs::Fields::field_tallied))]
 
 ghost use Rattle.std.specs.Prelude.{◌≡◌, ◌≤◌, ◌+◌, ◌^◌, ℕ, Some, IfOk, IfErr};
 ghost use Rattle.allocative_tally.specs.Shapes.{Wide, EntryAt};
@@ -8,8 +8,9 @@ ghost use Rattle.allocative_tally.specs.Fields.{AddsSize, HasNothing};
 ghost use Rattle.allocative.specs.Shows as shows;
 
 use crate::counted::Counted;
-use crate::tally::{CountError, Entries, InlineSum, Sum, Tallied, Tally, count_field};
+use crate::tally::{CountError, Entries, InlineSum, Sum, Tallied, Tally};
 use allocative::{Declared, Described, IntoKey, Part, Refusal, Visitor};
+use std::marker::PhantomData;
 
 /// The values of one field, counted: its entries, and what its values show inside them.
 #[derive(Drop)]
@@ -37,7 +38,9 @@ pub fn count<T: Tallied>(field: &mut FieldTally<T::Tally>, value: &T) -> Result<
     ensures { IfOk result (λ _. TalliesField T.size (T.may_show value.now)
         field.old.own (T.Tally.shape field.old.value) field.new.own (T.Tally.shape field.new.value)) }
 {
-    count_field(&mut field.own, &mut field.value, value)
+    count_own(&mut field.own, T::size())?;
+    value.tally(&mut field.value)?;
+    Ok(())
 }
 
 /// Counts one more entry of a declared size. If the size is missing or the bytes of all do not fit a word, it returns
@@ -64,6 +67,30 @@ impl<'a, K: IntoKey, S: Tally> Entries for FieldSum<'a, K, S> {
 
     fn enter(self, visitor: &mut Visitor<'_>) -> Result<(), Refusal> {
         InlineSum(self.0, self.1.own, &self.1.value).enter(visitor)
+    }
+}
+
+/// Values of a type that show an entry of its name, counted, with what another tally counts inside it.
+#[derive(Drop)]
+pub struct NamedTally<T, S> {
+    pub(crate) own: Sum,
+    pub(crate) inside: S,
+    name: PhantomData<T>,
+}
+
+impl<T: Described, S: Tally> Tally for NamedTally<T, S> {
+    ghost shape = { λ t. EntryAt Wide T.name t.own (S.shape t.inside) };
+
+    fn none() -> Self {
+        NamedTally {
+            own: Sum::none(),
+            inside: S::none(),
+            name: PhantomData,
+        }
+    }
+
+    fn enter(&self, visitor: &mut Visitor<'_>) -> Result<(), Refusal> {
+        InlineSum(T::name(), self.own, &self.inside).enter(visitor)
     }
 }
 

@@ -10,37 +10,33 @@ ghost use Rattle.allocative.specs.Runs.{IsOfRun, pair_shows};
 ghost use Rattle.allocative_tally.specs.Shapes.{Wide, Narrow, EntryAt, Beside};
 ghost use Rattle.allocative_tally.specs.Tallies.{Tallies, FitsData};
 
-use crate::tally::{CountError, Entries, InlineSum, NarrowSum, Sum, Tallied, Tally, count_field};
+use crate::field::{FieldSum, FieldTally, NamedTally, count};
+use crate::tally::{CountError, Entries, InlineSum, NarrowSum, Sum, Tallied, Tally};
 use allocative::{Described, Refusal, Visitor};
 use std::collections::{BTreeMap, HashMap};
 use std::hash::Hash;
-use std::marker::PhantomData;
 
 /// Pairs of maps, counted.
 #[derive(Drop)]
 pub struct PairsTally<P, Q> {
-    key: Sum,
-    value: Sum,
-    keys: P,
-    values: Q,
+    key: FieldTally<P>,
+    value: FieldTally<Q>,
 }
 
 impl<P: Tally, Q: Tally> Tally for PairsTally<P, Q> {
-    ghost shape = { λ t. Beside (EntryAt Wide (codes "key") t.key (P.shape t.keys))
-        (EntryAt Wide (codes "value") t.value (Q.shape t.values)) };
+    ghost shape = { λ t. Beside (EntryAt Wide (codes "key") t.key.own (P.shape t.key.value))
+        (EntryAt Wide (codes "value") t.value.own (Q.shape t.value.value)) };
 
     fn none() -> Self {
         PairsTally {
-            key: Sum::none(),
-            value: Sum::none(),
-            keys: P::none(),
-            values: Q::none(),
+            key: FieldTally::none(),
+            value: FieldTally::none(),
         }
     }
 
     fn enter(&self, visitor: &mut Visitor<'_>) -> Result<(), Refusal> {
-        let keys = InlineSum("key", self.key, &self.keys);
-        let values = InlineSum("value", self.value, &self.values);
+        let keys = FieldSum("key", &self.key);
+        let values = FieldSum("value", &self.value);
         (keys, values).enter(visitor)
     }
 }
@@ -59,96 +55,91 @@ pub fn count_pairs<'a, K: Tallied + 'a, V: Tallied + 'a, I: Iterator<Item = (&'a
 {
     for pair in pairs {
         let (key, value) = pair;
-        count_field(&mut tally.key, &mut tally.keys, key)?;
-        count_field(&mut tally.value, &mut tally.values, value)?;
+        count(&mut tally.key, key)?;
+        count(&mut tally.value, value)?;
     }
     Ok(())
 }
 
-/// Whether the fields of so many pairs have at most the 8 bytes of the entry `data`. `Err` if a size is missing, or the
-/// sum of both does not fit a word.
-fn fits_data<K: Described, V: Described>(count: usize) -> Result<bool, CountError>
-    ensures { IfOk result (FitsData (size_sum K.size V.size) count) }
+/// The declared size of a pair's key and value in bytes. `None` if a size is missing, or the sum exceeds a word.
+fn pair_size<K: Described, V: Described>() -> Option<usize>
+    ensures { result ≡ size_sum K.size V.size }
 {
-    let (Some(key), Some(value)) = (K::size(), V::size()) else {
-        return Err(CountError);
-    };
-    let Some(pair) = key.checked_add(value) else {
-        return Err(CountError);
-    };
-    Ok(pair.saturating_mul(count) <= 8)
+    K::size()?.checked_add(V::size()?)
 }
 
-/// Maps, counted: those whose pairs have at most the 8 bytes of the entry `data`, and those whose pairs have more.
+/// Whether so many items of a declared size have at most the 8 bytes of the entry `data`. `Err` if the size is missing.
+pub(crate) fn fits_data(size: Option<usize>, count: usize) -> Result<bool, CountError>
+    ensures { IfOk result (FitsData size count) }
+{
+    let Some(bytes) = size else {
+        return Err(CountError);
+    };
+    Ok(bytes.saturating_mul(count) <= 8)
+}
+
+/// Entries `data` of maps and sets, counted: those whose items have at most its 8 bytes, and those whose items have
+/// more.
 #[derive(Drop)]
-pub struct MapTally<M, P, Q> {
-    own: Sum,
-    small: Sum,
-    small_pairs: PairsTally<P, Q>,
-    large: Sum,
-    large_pairs: PairsTally<P, Q>,
-    map: PhantomData<M>,
+pub struct DataTally<S> {
+    pub(crate) small: Sum,
+    pub(crate) small_items: S,
+    pub(crate) large: Sum,
+    pub(crate) large_items: S,
 }
 
-impl<M: Described, P: Tally, Q: Tally> Tally for MapTally<M, P, Q> {
-    ghost shape = { λ t. EntryAt Wide M.name t.own
-        (Beside (EntryAt Wide (codes "data") t.small (⟦<PairsTally<P, Q> as Tally>⟧.shape t.small_pairs))
-        (EntryAt Narrow (codes "data") t.large (⟦<PairsTally<P, Q> as Tally>⟧.shape t.large_pairs))) };
+impl<S: Tally> Tally for DataTally<S> {
+    ghost shape = { λ t. Beside (EntryAt Wide (codes "data") t.small (S.shape t.small_items))
+        (EntryAt Narrow (codes "data") t.large (S.shape t.large_items)) };
 
     fn none() -> Self {
-        MapTally {
-            own: Sum::none(),
+        DataTally {
             small: Sum::none(),
-            small_pairs: PairsTally::none(),
+            small_items: S::none(),
             large: Sum::none(),
-            large_pairs: PairsTally::none(),
-            map: PhantomData,
+            large_items: S::none(),
         }
     }
 
     fn enter(&self, visitor: &mut Visitor<'_>) -> Result<(), Refusal> {
-        let small = InlineSum("data", self.small, &self.small_pairs);
-        let large = NarrowSum("data", self.large, &self.large_pairs);
-        InlineSum(M::name(), self.own, (small, large)).enter(visitor)
+        let small = InlineSum("data", self.small, &self.small_items);
+        let large = NarrowSum("data", self.large, &self.large_items);
+        (small, large).enter(visitor)
     }
 }
 
 impl<K: Tallied + Eq + Hash, V: Tallied> Tallied for HashMap<K, V> {
-    type Tally = MapTally<HashMap<K, V>, K::Tally, V::Tally>;
+    type Tally = NamedTally<HashMap<K, V>, DataTally<PairsTally<K::Tally, V::Tally>>>;
 
-    fn tally(
-        &self,
-        tally: &mut MapTally<HashMap<K, V>, K::Tally, V::Tally>,
-    ) -> Result<(), CountError> {
+    fn tally(&self, tally: &mut Self::Tally) -> Result<(), CountError> {
         tally.own.add(48)?;
-        let is_small = fits_data::<K, V>(self.len())?;
+        let data = &mut tally.inside;
+        let is_small = fits_data(pair_size::<K, V>(), self.len())?;
         if is_small {
-            tally.small.add(8)?;
-            count_pairs(self.iter(), &mut tally.small_pairs)?;
+            data.small.add(8)?;
+            count_pairs(self.iter(), &mut data.small_items)?;
             return Ok(());
         }
-        tally.large.add(8)?;
-        count_pairs(self.iter(), &mut tally.large_pairs)?;
+        data.large.add(8)?;
+        count_pairs(self.iter(), &mut data.large_items)?;
         Ok(())
     }
 }
 
 impl<K: Tallied + Ord, V: Tallied> Tallied for BTreeMap<K, V> {
-    type Tally = MapTally<BTreeMap<K, V>, K::Tally, V::Tally>;
+    type Tally = NamedTally<BTreeMap<K, V>, DataTally<PairsTally<K::Tally, V::Tally>>>;
 
-    fn tally(
-        &self,
-        tally: &mut MapTally<BTreeMap<K, V>, K::Tally, V::Tally>,
-    ) -> Result<(), CountError> {
+    fn tally(&self, tally: &mut Self::Tally) -> Result<(), CountError> {
         tally.own.add(24)?;
-        let is_small = fits_data::<K, V>(self.len())?;
+        let data = &mut tally.inside;
+        let is_small = fits_data(pair_size::<K, V>(), self.len())?;
         if is_small {
-            tally.small.add(8)?;
-            count_pairs(self.iter(), &mut tally.small_pairs)?;
+            data.small.add(8)?;
+            count_pairs(self.iter(), &mut data.small_items)?;
             return Ok(());
         }
-        tally.large.add(8)?;
-        count_pairs(self.iter(), &mut tally.large_pairs)?;
+        data.large.add(8)?;
+        count_pairs(self.iter(), &mut data.large_items)?;
         Ok(())
     }
 }

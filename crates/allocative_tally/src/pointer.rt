@@ -1,5 +1,5 @@
 //! Boxes, which own what they point to.
-#![tactic(auto, using(crate::proofs::Rules::counting))]
+#![tactic(auto, using(crate::proofs::Sequences::box_counted))]
 
 ghost use Rattle.std.specs.Prelude.{codes};
 ghost use Rattle.allocative_tally.specs.Shapes.{Unique, Wide, EntryAt};

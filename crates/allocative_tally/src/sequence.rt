@@ -9,6 +9,7 @@ ghost use Rattle.allocative_tally.specs.Shapes.{Wide, EntryAt, Beside, NoEntry, 
 ghost use Rattle.allocative_tally.specs.Tallies.{Tallies};
 
 use crate::counted::count_each;
+use crate::field::NamedTally;
 use crate::tally::{CountError, Entries, InlineSum, Sum, Tallied, Tally, UniqueSum};
 use allocative::{Described, Refusal, Visitor};
 use std::collections::VecDeque;
@@ -41,28 +42,6 @@ impl<T: Described, S: Tally> Tally for BufferTally<T, S> {
         let slice = InlineSum(T::name(), self.slice, ());
         let unused = InlineSum("unused_capacity", self.unused, ());
         UniqueSum("ptr", self.pointer, ((slice, &self.item), unused)).enter(visitor)
-    }
-}
-
-/// Vectors, counted.
-#[derive(Drop)]
-pub struct VecTally<T, S> {
-    own: Sum,
-    buffer: BufferTally<T, S>,
-}
-
-impl<T: Described, S: Tally> Tally for VecTally<T, S> {
-    ghost shape = { λ t. EntryAt Wide (codes "Vec") t.own (⟦<BufferTally<T, S> as Tally>⟧.shape t.buffer) };
-
-    fn none() -> Self {
-        VecTally {
-            own: Sum::none(),
-            buffer: BufferTally::none(),
-        }
-    }
-
-    fn enter(&self, visitor: &mut Visitor<'_>) -> Result<(), Refusal> {
-        InlineSum("Vec", self.own, &self.buffer).enter(visitor)
     }
 }
 
@@ -142,34 +121,12 @@ pub fn count_buffer<T: Tallied>(
 }
 
 impl<T: Tallied> Tallied for Vec<T> {
-    type Tally = VecTally<T, T::Tally>;
+    type Tally = NamedTally<Vec<T>, BufferTally<T, T::Tally>>;
 
-    fn tally(&self, tally: &mut VecTally<T, T::Tally>) -> Result<(), CountError> {
+    fn tally(&self, tally: &mut Self::Tally) -> Result<(), CountError> {
         tally.own.add(24)?;
-        count_buffer(self, &mut tally.buffer)?;
+        count_buffer(self, &mut tally.inside)?;
         Ok(())
-    }
-}
-
-/// Deques, counted.
-#[derive(Drop)]
-pub struct VecDequeTally<T, S> {
-    own: Sum,
-    buffer: BufferTally<T, S>,
-}
-
-impl<T: Described, S: Tally> Tally for VecDequeTally<T, S> {
-    ghost shape = { λ t. EntryAt Wide (codes "VecDeque") t.own (⟦<BufferTally<T, S> as Tally>⟧.shape t.buffer) };
-
-    fn none() -> Self {
-        VecDequeTally {
-            own: Sum::none(),
-            buffer: BufferTally::none(),
-        }
-    }
-
-    fn enter(&self, visitor: &mut Visitor<'_>) -> Result<(), Refusal> {
-        InlineSum("VecDeque", self.own, &self.buffer).enter(visitor)
     }
 }
 
@@ -205,11 +162,11 @@ pub fn count_ring<T: Tallied>(
 }
 
 impl<T: Tallied> Tallied for VecDeque<T> {
-    type Tally = VecDequeTally<T, T::Tally>;
+    type Tally = NamedTally<VecDeque<T>, BufferTally<T, T::Tally>>;
 
-    fn tally(&self, tally: &mut VecDequeTally<T, T::Tally>) -> Result<(), CountError> {
+    fn tally(&self, tally: &mut Self::Tally) -> Result<(), CountError> {
         tally.own.add(32)?;
-        count_ring(self, &mut tally.buffer)?;
+        count_ring(self, &mut tally.inside)?;
         Ok(())
     }
 }

@@ -4,7 +4,7 @@
 ghost use Rattle.std.specs.Prelude.{◌≡◌, ◌≤◌, ◌+◌, ◌^◌, true, false, IfOk, IfErr};
 ghost use Rattle.allocative_tally.specs.Shapes.{Shape, NoEntry, Beside, EntryAt};
 ghost use Rattle.allocative_tally.specs.Shapes.{Wide, Narrow, Unique as unique_width, IsNothing, shape_shows};
-ghost use Rattle.allocative_tally.specs.Tallies.{Tallies, TalliesField, AddsEntry, EntersShape};
+ghost use Rattle.allocative_tally.specs.Tallies.{Tallies, AddsEntry, EntersShape};
 
 use allocative::{Allocative, Described, Inside, IntoKey, Part, Refusal, Unique, Visitor};
 use thiserror::Error;
@@ -108,6 +108,16 @@ impl Entries for () {
     }
 }
 
+impl Tally for () {
+    ghost shape = { λ _. NoEntry };
+
+    fn none() -> Self {}
+
+    fn enter(&self, visitor: &mut Visitor<'_>) -> Result<(), Refusal> {
+        Entries::enter((), visitor)
+    }
+}
+
 impl<'a, S: Tally> Entries for &'a S {
     ghost shape = { λ s. S.shape s.now };
 
@@ -169,23 +179,4 @@ impl<K: IntoKey, P: Entries> Entries for NarrowSum<K, P> {
         }
         Inside(self.0, self.1.bytes, Shown(self.2)).enter(visitor)
     }
-}
-
-/// Counts one more field of a declared size, with what its value shows inside it. It returns `Err` if the size is
-/// missing, or a count exceeds a word.
-#[inline(always)]
-pub fn count_field<T: Tallied>(
-    sum: &mut Sum,
-    tally: &mut T::Tally,
-    value: &T,
-) -> Result<(), CountError>
-    ensures { IfOk result (λ _. TalliesField T.size (T.may_show value.now)
-        sum.old (T.Tally.shape tally.old) sum.new (T.Tally.shape tally.new)) }
-{
-    let Some(size) = T::size() else {
-        return Err(CountError);
-    };
-    sum.add(size)?;
-    value.tally(tally)?;
-    Ok(())
 }

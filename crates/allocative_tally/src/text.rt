@@ -1,5 +1,5 @@
 //! Texts.
-#![tactic(auto, using(crate::proofs::Rules::counting))]
+#![tactic(auto, using(crate::proofs::Sequences::text_counted))]
 
 ghost use Rattle.std.specs.Prelude.{codes};
 ghost use Rattle.allocative_tally.specs.Shapes.{Unique, Wide, EntryAt, Beside, NoEntry};

@@ -1,40 +1,37 @@
 //! Tuples, which show one entry for each field.
-#![tactic(auto, using(crate::proofs::Rules::counting))]
+#![tactic(auto, using(crate::proofs::Fields::values))]
 
 ghost use Rattle.std.specs.Prelude.{codes};
 ghost use Rattle.allocative_tally.specs.Shapes.{Wide, EntryAt, Beside};
 
-use crate::tally::{CountError, Entries, InlineSum, Sum, Tallied, Tally, count_field};
+use crate::field::{FieldSum, FieldTally, count, count_own};
+use crate::tally::{CountError, Entries, InlineSum, Sum, Tallied, Tally};
 use allocative::{Described, Refusal, Visitor};
 
 /// Pairs, counted.
 #[derive(Drop)]
 pub struct Tuple2Tally<P, Q> {
     own: Sum,
-    first: Sum,
-    second: Sum,
-    first_value: P,
-    second_value: Q,
+    first: FieldTally<P>,
+    second: FieldTally<Q>,
 }
 
 impl<P: Tally, Q: Tally> Tally for Tuple2Tally<P, Q> {
     ghost shape = { λ t. EntryAt Wide (codes "tuple2") t.own
-        (Beside (EntryAt Wide (codes "0") t.first (P.shape t.first_value))
-        (EntryAt Wide (codes "1") t.second (Q.shape t.second_value))) };
+        (Beside (EntryAt Wide (codes "0") t.first.own (P.shape t.first.value))
+        (EntryAt Wide (codes "1") t.second.own (Q.shape t.second.value))) };
 
     fn none() -> Self {
         Tuple2Tally {
             own: Sum::none(),
-            first: Sum::none(),
-            second: Sum::none(),
-            first_value: P::none(),
-            second_value: Q::none(),
+            first: FieldTally::none(),
+            second: FieldTally::none(),
         }
     }
 
     fn enter(&self, visitor: &mut Visitor<'_>) -> Result<(), Refusal> {
-        let first = InlineSum("0", self.first, &self.first_value);
-        let second = InlineSum("1", self.second, &self.second_value);
+        let first = FieldSum("0", &self.first);
+        let second = FieldSum("1", &self.second);
         InlineSum("tuple2", self.own, (first, second)).enter(visitor)
     }
 }
@@ -42,13 +39,10 @@ impl<P: Tally, Q: Tally> Tally for Tuple2Tally<P, Q> {
 impl<A: Tallied, B: Tallied> Tallied for (A, B) {
     type Tally = Tuple2Tally<A::Tally, B::Tally>;
 
-    fn tally(&self, tally: &mut Tuple2Tally<A::Tally, B::Tally>) -> Result<(), CountError> {
-        let Some(size) = <(A, B)>::size() else {
-            return Err(CountError);
-        };
-        tally.own.add(size)?;
-        count_field(&mut tally.first, &mut tally.first_value, &self.0)?;
-        count_field(&mut tally.second, &mut tally.second_value, &self.1)?;
+    fn tally(&self, tally: &mut Self::Tally) -> Result<(), CountError> {
+        count_own(&mut tally.own, <(A, B)>::size())?;
+        count(&mut tally.first, &self.0)?;
+        count(&mut tally.second, &self.1)?;
         Ok(())
     }
 }
@@ -57,36 +51,30 @@ impl<A: Tallied, B: Tallied> Tallied for (A, B) {
 #[derive(Drop)]
 pub struct Tuple3Tally<P, Q, R> {
     own: Sum,
-    first: Sum,
-    second: Sum,
-    third: Sum,
-    first_value: P,
-    second_value: Q,
-    third_value: R,
+    first: FieldTally<P>,
+    second: FieldTally<Q>,
+    third: FieldTally<R>,
 }
 
 impl<P: Tally, Q: Tally, R: Tally> Tally for Tuple3Tally<P, Q, R> {
     ghost shape = { λ t. EntryAt Wide (codes "tuple3") t.own
-        (Beside (EntryAt Wide (codes "0") t.first (P.shape t.first_value))
-        (Beside (EntryAt Wide (codes "1") t.second (Q.shape t.second_value))
-        (EntryAt Wide (codes "2") t.third (R.shape t.third_value)))) };
+        (Beside (EntryAt Wide (codes "0") t.first.own (P.shape t.first.value))
+        (Beside (EntryAt Wide (codes "1") t.second.own (Q.shape t.second.value))
+        (EntryAt Wide (codes "2") t.third.own (R.shape t.third.value)))) };
 
     fn none() -> Self {
         Tuple3Tally {
             own: Sum::none(),
-            first: Sum::none(),
-            second: Sum::none(),
-            third: Sum::none(),
-            first_value: P::none(),
-            second_value: Q::none(),
-            third_value: R::none(),
+            first: FieldTally::none(),
+            second: FieldTally::none(),
+            third: FieldTally::none(),
         }
     }
 
     fn enter(&self, visitor: &mut Visitor<'_>) -> Result<(), Refusal> {
-        let first = InlineSum("0", self.first, &self.first_value);
-        let second = InlineSum("1", self.second, &self.second_value);
-        let third = InlineSum("2", self.third, &self.third_value);
+        let first = FieldSum("0", &self.first);
+        let second = FieldSum("1", &self.second);
+        let third = FieldSum("2", &self.third);
         InlineSum("tuple3", self.own, (first, (second, third))).enter(visitor)
     }
 }
@@ -94,17 +82,11 @@ impl<P: Tally, Q: Tally, R: Tally> Tally for Tuple3Tally<P, Q, R> {
 impl<A: Tallied, B: Tallied, C: Tallied> Tallied for (A, B, C) {
     type Tally = Tuple3Tally<A::Tally, B::Tally, C::Tally>;
 
-    fn tally(
-        &self,
-        tally: &mut Tuple3Tally<A::Tally, B::Tally, C::Tally>,
-    ) -> Result<(), CountError> {
-        let Some(size) = <(A, B, C)>::size() else {
-            return Err(CountError);
-        };
-        tally.own.add(size)?;
-        count_field(&mut tally.first, &mut tally.first_value, &self.0)?;
-        count_field(&mut tally.second, &mut tally.second_value, &self.1)?;
-        count_field(&mut tally.third, &mut tally.third_value, &self.2)?;
+    fn tally(&self, tally: &mut Self::Tally) -> Result<(), CountError> {
+        count_own(&mut tally.own, <(A, B, C)>::size())?;
+        count(&mut tally.first, &self.0)?;
+        count(&mut tally.second, &self.1)?;
+        count(&mut tally.third, &self.2)?;
         Ok(())
     }
 }
@@ -113,42 +95,34 @@ impl<A: Tallied, B: Tallied, C: Tallied> Tallied for (A, B, C) {
 #[derive(Drop)]
 pub struct Tuple4Tally<P, Q, R, U> {
     own: Sum,
-    first: Sum,
-    second: Sum,
-    third: Sum,
-    fourth: Sum,
-    first_value: P,
-    second_value: Q,
-    third_value: R,
-    fourth_value: U,
+    first: FieldTally<P>,
+    second: FieldTally<Q>,
+    third: FieldTally<R>,
+    fourth: FieldTally<U>,
 }
 
 impl<P: Tally, Q: Tally, R: Tally, U: Tally> Tally for Tuple4Tally<P, Q, R, U> {
     ghost shape = { λ t. EntryAt Wide (codes "tuple4") t.own
-        (Beside (EntryAt Wide (codes "0") t.first (P.shape t.first_value))
-        (Beside (EntryAt Wide (codes "1") t.second (Q.shape t.second_value))
-        (Beside (EntryAt Wide (codes "2") t.third (R.shape t.third_value))
-        (EntryAt Wide (codes "3") t.fourth (U.shape t.fourth_value))))) };
+        (Beside (EntryAt Wide (codes "0") t.first.own (P.shape t.first.value))
+        (Beside (EntryAt Wide (codes "1") t.second.own (Q.shape t.second.value))
+        (Beside (EntryAt Wide (codes "2") t.third.own (R.shape t.third.value))
+        (EntryAt Wide (codes "3") t.fourth.own (U.shape t.fourth.value))))) };
 
     fn none() -> Self {
         Tuple4Tally {
             own: Sum::none(),
-            first: Sum::none(),
-            second: Sum::none(),
-            third: Sum::none(),
-            fourth: Sum::none(),
-            first_value: P::none(),
-            second_value: Q::none(),
-            third_value: R::none(),
-            fourth_value: U::none(),
+            first: FieldTally::none(),
+            second: FieldTally::none(),
+            third: FieldTally::none(),
+            fourth: FieldTally::none(),
         }
     }
 
     fn enter(&self, visitor: &mut Visitor<'_>) -> Result<(), Refusal> {
-        let first = InlineSum("0", self.first, &self.first_value);
-        let second = InlineSum("1", self.second, &self.second_value);
-        let third = InlineSum("2", self.third, &self.third_value);
-        let fourth = InlineSum("3", self.fourth, &self.fourth_value);
+        let first = FieldSum("0", &self.first);
+        let second = FieldSum("1", &self.second);
+        let third = FieldSum("2", &self.third);
+        let fourth = FieldSum("3", &self.fourth);
         InlineSum("tuple4", self.own, (first, (second, (third, fourth)))).enter(visitor)
     }
 }
@@ -156,18 +130,12 @@ impl<P: Tally, Q: Tally, R: Tally, U: Tally> Tally for Tuple4Tally<P, Q, R, U> {
 impl<A: Tallied, B: Tallied, C: Tallied, D: Tallied> Tallied for (A, B, C, D) {
     type Tally = Tuple4Tally<A::Tally, B::Tally, C::Tally, D::Tally>;
 
-    fn tally(
-        &self,
-        tally: &mut Tuple4Tally<A::Tally, B::Tally, C::Tally, D::Tally>,
-    ) -> Result<(), CountError> {
-        let Some(size) = <(A, B, C, D)>::size() else {
-            return Err(CountError);
-        };
-        tally.own.add(size)?;
-        count_field(&mut tally.first, &mut tally.first_value, &self.0)?;
-        count_field(&mut tally.second, &mut tally.second_value, &self.1)?;
-        count_field(&mut tally.third, &mut tally.third_value, &self.2)?;
-        count_field(&mut tally.fourth, &mut tally.fourth_value, &self.3)?;
+    fn tally(&self, tally: &mut Self::Tally) -> Result<(), CountError> {
+        count_own(&mut tally.own, <(A, B, C, D)>::size())?;
+        count(&mut tally.first, &self.0)?;
+        count(&mut tally.second, &self.1)?;
+        count(&mut tally.third, &self.2)?;
+        count(&mut tally.fourth, &self.3)?;
         Ok(())
     }
 }
@@ -176,48 +144,38 @@ impl<A: Tallied, B: Tallied, C: Tallied, D: Tallied> Tallied for (A, B, C, D) {
 #[derive(Drop)]
 pub struct Tuple5Tally<P, Q, R, U, W> {
     own: Sum,
-    first: Sum,
-    second: Sum,
-    third: Sum,
-    fourth: Sum,
-    fifth: Sum,
-    first_value: P,
-    second_value: Q,
-    third_value: R,
-    fourth_value: U,
-    fifth_value: W,
+    first: FieldTally<P>,
+    second: FieldTally<Q>,
+    third: FieldTally<R>,
+    fourth: FieldTally<U>,
+    fifth: FieldTally<W>,
 }
 
 impl<P: Tally, Q: Tally, R: Tally, U: Tally, W: Tally> Tally for Tuple5Tally<P, Q, R, U, W> {
     ghost shape = { λ t. EntryAt Wide (codes "tuple5") t.own
-        (Beside (EntryAt Wide (codes "0") t.first (P.shape t.first_value))
-        (Beside (EntryAt Wide (codes "1") t.second (Q.shape t.second_value))
-        (Beside (EntryAt Wide (codes "2") t.third (R.shape t.third_value))
-        (Beside (EntryAt Wide (codes "3") t.fourth (U.shape t.fourth_value))
-        (EntryAt Wide (codes "4") t.fifth (W.shape t.fifth_value)))))) };
+        (Beside (EntryAt Wide (codes "0") t.first.own (P.shape t.first.value))
+        (Beside (EntryAt Wide (codes "1") t.second.own (Q.shape t.second.value))
+        (Beside (EntryAt Wide (codes "2") t.third.own (R.shape t.third.value))
+        (Beside (EntryAt Wide (codes "3") t.fourth.own (U.shape t.fourth.value))
+        (EntryAt Wide (codes "4") t.fifth.own (W.shape t.fifth.value)))))) };
 
     fn none() -> Self {
         Tuple5Tally {
             own: Sum::none(),
-            first: Sum::none(),
-            second: Sum::none(),
-            third: Sum::none(),
-            fourth: Sum::none(),
-            fifth: Sum::none(),
-            first_value: P::none(),
-            second_value: Q::none(),
-            third_value: R::none(),
-            fourth_value: U::none(),
-            fifth_value: W::none(),
+            first: FieldTally::none(),
+            second: FieldTally::none(),
+            third: FieldTally::none(),
+            fourth: FieldTally::none(),
+            fifth: FieldTally::none(),
         }
     }
 
     fn enter(&self, visitor: &mut Visitor<'_>) -> Result<(), Refusal> {
-        let first = InlineSum("0", self.first, &self.first_value);
-        let second = InlineSum("1", self.second, &self.second_value);
-        let third = InlineSum("2", self.third, &self.third_value);
-        let fourth = InlineSum("3", self.fourth, &self.fourth_value);
-        let fifth = InlineSum("4", self.fifth, &self.fifth_value);
+        let first = FieldSum("0", &self.first);
+        let second = FieldSum("1", &self.second);
+        let third = FieldSum("2", &self.third);
+        let fourth = FieldSum("3", &self.fourth);
+        let fifth = FieldSum("4", &self.fifth);
         InlineSum(
             "tuple5",
             self.own,
@@ -230,19 +188,13 @@ impl<P: Tally, Q: Tally, R: Tally, U: Tally, W: Tally> Tally for Tuple5Tally<P, 
 impl<A: Tallied, B: Tallied, C: Tallied, D: Tallied, E: Tallied> Tallied for (A, B, C, D, E) {
     type Tally = Tuple5Tally<A::Tally, B::Tally, C::Tally, D::Tally, E::Tally>;
 
-    fn tally(
-        &self,
-        tally: &mut Tuple5Tally<A::Tally, B::Tally, C::Tally, D::Tally, E::Tally>,
-    ) -> Result<(), CountError> {
-        let Some(size) = <(A, B, C, D, E)>::size() else {
-            return Err(CountError);
-        };
-        tally.own.add(size)?;
-        count_field(&mut tally.first, &mut tally.first_value, &self.0)?;
-        count_field(&mut tally.second, &mut tally.second_value, &self.1)?;
-        count_field(&mut tally.third, &mut tally.third_value, &self.2)?;
-        count_field(&mut tally.fourth, &mut tally.fourth_value, &self.3)?;
-        count_field(&mut tally.fifth, &mut tally.fifth_value, &self.4)?;
+    fn tally(&self, tally: &mut Self::Tally) -> Result<(), CountError> {
+        count_own(&mut tally.own, <(A, B, C, D, E)>::size())?;
+        count(&mut tally.first, &self.0)?;
+        count(&mut tally.second, &self.1)?;
+        count(&mut tally.third, &self.2)?;
+        count(&mut tally.fourth, &self.3)?;
+        count(&mut tally.fifth, &self.4)?;
         Ok(())
     }
 }

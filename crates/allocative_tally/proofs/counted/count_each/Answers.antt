@@ -1,5 +1,5 @@
 -- One item more is counted.
-use Rattle.std.proofs.Common.{◌≡◌, ◌<◌, length, take, arith, refl}
+use Rattle.std.proofs.Common.{◌<◌, length, arith, refl}
 use Rattle.std.proofs.lemmas.List.{take_more}
 use Rattle.allocative_tally.proofs.Counting.{tallies_none, tallies_more}
 use Rattle.allocative_tally.proofs.counted.count_each.Goals as goal

@@ -12,7 +12,7 @@ loop-pair-init g c = tallies_none refl
 pub loop-pair-preserved : goal.loop-pair-preserved
 loop-pair-preserved g c = rw map-append (pair_more _ _ _ _ (map deref_pair c.loop-pair.yielded)
     (deref_pair c.in-Some.pair)
-    c.loop-pair.invariant c.in_ok-count_field.ensures c.in_ok-count_field-2.ensures)
+    c.loop-pair.invariant c.in_ok-count.ensures c.in_ok-count-2.ensures)
 
 pub returns : goal.returns
 returns g c =

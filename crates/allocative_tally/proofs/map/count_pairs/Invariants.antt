@@ -11,7 +11,7 @@ abbrev pub invariant-loop-pair : goal.invariant-loop-pair
 invariant-loop-pair g l = Tallies None
     (each_shows (pair_shows g.K.Described.size g.K.Allocative.may_show g.V.Described.size g.V.Allocative.may_show)
     (map deref_pair l.yielded))
-    (Beside (EntryAt Wide (codes "key") l.initial.tally.key (g.K.Tally.Tally.shape l.initial.tally.keys))
-    (EntryAt Wide (codes "value") l.initial.tally.value (g.V.Tally.Tally.shape l.initial.tally.values)))
-    (Beside (EntryAt Wide (codes "key") l.tally.key (g.K.Tally.Tally.shape l.tally.keys))
-    (EntryAt Wide (codes "value") l.tally.value (g.V.Tally.Tally.shape l.tally.values)))
+    (Beside (EntryAt Wide (codes "key") l.initial.tally.key.own (g.K.Tally.Tally.shape l.initial.tally.key.value))
+    (EntryAt Wide (codes "value") l.initial.tally.value.own (g.V.Tally.Tally.shape l.initial.tally.value.value)))
+    (Beside (EntryAt Wide (codes "key") l.tally.key.own (g.K.Tally.Tally.shape l.tally.key.value))
+    (EntryAt Wide (codes "value") l.tally.value.own (g.V.Tally.Tally.shape l.tally.value.value)))

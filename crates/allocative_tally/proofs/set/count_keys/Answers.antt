@@ -10,7 +10,7 @@ loop-key-init g c = tallies_none refl
 
 pub loop-key-preserved : goal.loop-key-preserved
 loop-key-preserved g c = rw map-append (tallies_more _ (map deref c.loop-key.yielded) (deref c.in-Some.key)
-    c.loop-key.invariant (c.in_ok-count_field.ensures.under (codes "key")))
+    c.loop-key.invariant (c.in_ok-count.ensures.under (codes "key")))
 
 pub returns : goal.returns
 returns g c =

@@ -10,5 +10,5 @@ use Rattle.allocative_tally.proofs.set.count_keys.Given as goal
 abbrev pub invariant-loop-key : goal.invariant-loop-key
 invariant-loop-key g l = Tallies None
     (each_shows (field_of (codes "key") g.K.Described.size g.K.Allocative.may_show) (map deref l.yielded))
-    (EntryAt Wide (codes "key") l.initial.tally.key (g.K.Tally.Tally.shape l.initial.tally.keys))
-    (EntryAt Wide (codes "key") l.tally.key (g.K.Tally.Tally.shape l.tally.keys))
+    (EntryAt Wide (codes "key") l.initial.tally.key.own (g.K.Tally.Tally.shape l.initial.tally.key.value))
+    (EntryAt Wide (codes "key") l.tally.key.own (g.K.Tally.Tally.shape l.tally.key.value))

@@ -1,8 +1,11 @@
 -- The tuple's entry, and inside it each field.
-use Rattle.allocative_tally.proofs.Values.{tuple5_counted}
+use Rattle.allocative_tally.proofs.Fields.{whole_counted, both_counted, field_counted, holding_tuples}
 use Rattle.allocative_tally.proofs.tuple.Tuple5Tallied.tally.Goals as goal
 
 pub returns : goal.returns
-returns g c = tuple5_counted _ _ _ _ _ _ _ c.in-Some.ensures c.in_ok-add.ensures.ok
-    c.in_ok-count_field.ensures c.in_ok-count_field-2.ensures c.in_ok-count_field-3.ensures
-    c.in_ok-count_field-4.ensures c.in_ok-count_field-5.ensures
+returns g c = whole_counted c.size.ensures c.in_ok-count_own.ensures.ok
+    (both_counted (field_counted c.in_ok-count.ensures)
+    (both_counted (field_counted c.in_ok-count-2.ensures)
+    (both_counted (field_counted c.in_ok-count-3.ensures)
+    (both_counted (field_counted c.in_ok-count-4.ensures)
+    (field_counted c.in_ok-count-5.ensures))))) (search holding_tuples depth 10)
