@@ -238,10 +238,6 @@ pub counted_field : {k : Key} {size : Option ℕ} {n : ℕ} {p : Showing} {s t :
     Tallies (Some n) (Inside k n p) s t → Tallies size (Field k size p) s t
 counted_field {k = k} {p = p} {s} {t} e c = rw e (tallies_as (λ h x. sized x) c)
 
--- A value inside an entry fits it, if the entry has the value's size.
-pub fits_size : {size : Option ℕ} {n : ℕ} → size ≡ Some n → FitsEntry size n
-fits_size e = record { fits = λ d h. subst (IsWithin d) e h }
-
 -- What a number of bytes allows fits an entry of as many or more.
 pub fits_bytes : {m n : ℕ} → m ≤ n → FitsEntry (Some m) n
 fits_bytes h = record { fits = λ d i. omega (arith, h, i) }
@@ -251,8 +247,3 @@ pub tallies_more : {T : Type 0} {w : Option ℕ} (p : T → Showing) (xs : List 
     Tallies None (each_shows p xs) s t → Tallies w (p x) t u → Tallies None (each_shows p (xs ++ x ∷ [])) s u
 tallies_more p xs x a b =
     tallies_as (λ h (y, z, v, w, e). each_append p xs (x ∷ []) h (y, z, v, each_one p x z w, e)) (tallies_then a b)
-
--- What follows after Ok follows from what is known after Ok.
-pub if_ok : {T : Type 0} {P Q : T → Type 0} (r : Result T Refusal) → ((x : T) → P x → Q x) → IfOk r P → IfOk r Q
-if_ok (Ok u) f h = f u h
-if_ok (Err e) f h = tt

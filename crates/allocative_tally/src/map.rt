@@ -1,18 +1,19 @@
 //! Maps, which show the fields `key` and `value` for each pair, inside an inline entry `data` of 8 bytes.
 #![tactic(auto)]
 
-ghost use Rattle.std.specs.Prelude.{◌≡◌, ◌≤◌, ◌<◌, ◌*◌, true, false, codes, IfOk, None, Some};
+ghost use Rattle.std.specs.Prelude.{◌≡◌, ◌&&◌, ◌≤◌, ◌<◌, ◌*◌, true, false, codes, IfOk, None, Some};
 ghost use Rattle.std.specs.Iterator.{IsFinite};
 ghost use Rattle.std.specs.Map.Iter.{deref_pair};
 ghost use Rattle.allocative_described.specs.Sizes.{size_sum};
 ghost use Rattle.allocative_graph.specs.Shows.{each_shows};
 ghost use Rattle.allocative.specs.Runs.{IsOfRun, pair_shows};
+ghost use Rattle.allocative.specs.StdShows.{in_any_order};
 ghost use Rattle.allocative_tally.specs.Shapes.{Wide, Narrow, EntryAt, Beside};
 ghost use Rattle.allocative_tally.specs.Tallies.{Tallies, FitsData};
 
 use crate::field::{FieldSum, FieldTally, NamedTally, count};
 use crate::tally::{CountError, Entries, InlineSum, NarrowSum, Sum, Tallied, Tally};
-use allocative::{Described, Refusal, Visitor};
+use allocative::{Described, Pairs, Part, Refusal, Visitor};
 use std::collections::{BTreeMap, HashMap};
 use std::hash::Hash;
 
@@ -141,5 +142,37 @@ impl<K: Tallied + Ord, V: Tallied> Tallied for BTreeMap<K, V> {
         data.large.add(8)?;
         count_pairs(self.iter(), &mut data.large_items)?;
         Ok(())
+    }
+}
+
+/// The fields `key` and `value` for each pair of a map, as `Pairs` enters them, counted first.
+#[derive(Drop)]
+pub struct CountedPairs<V>(pub V);
+
+impl<'a, K: Tallied + Ord, V: Tallied> Part for CountedPairs<&'a BTreeMap<K, V>> {
+    ghost may_show = { λ m. each_shows (pair_shows K.size K.may_show V.size V.may_show) m.0.now.entries };
+
+    ghost is_exact = { K.is_exact && V.is_exact };
+
+    fn enter(self, visitor: &mut Visitor<'_>) -> Result<(), Refusal> {
+        let mut tally = PairsTally::none();
+        match count_pairs(self.0.iter(), &mut tally) {
+            Ok(()) => Tally::enter(&tally, visitor),
+            Err(_) => Pairs(self.0).enter(visitor),
+        }
+    }
+}
+
+impl<'a, K: Tallied + Eq + Hash, V: Tallied> Part for CountedPairs<&'a HashMap<K, V>> {
+    ghost may_show = { λ m. in_any_order (pair_shows K.size K.may_show V.size V.may_show) m.0.now.entries };
+
+    ghost is_exact = { K.is_exact && V.is_exact };
+
+    fn enter(self, visitor: &mut Visitor<'_>) -> Result<(), Refusal> {
+        let mut tally = PairsTally::none();
+        match count_pairs(self.0.iter(), &mut tally) {
+            Ok(()) => Tally::enter(&tally, visitor),
+            Err(_) => Pairs(self.0).enter(visitor),
+        }
     }
 }

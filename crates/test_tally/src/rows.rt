@@ -1,6 +1,13 @@
 //! Rows of values of several levels.
 
+ghost use Rattle.std.specs.Prelude.{codes, true};
+ghost use Rattle.allocative.specs.Shows as shows;
+ghost use Rattle.allocative.specs.Runs.{pair_shows};
+ghost use Rattle.allocative.specs.StdShows.{in_any_order};
+
 use crate::profiles::{expect, same, same_roots};
+use allocative::{Allocative, Described, Inside, Part, Refusal, Visitor, profile_value};
+use allocative_tally::map::CountedPairs;
 use std::collections::{BTreeMap, BTreeSet, HashMap, HashSet, VecDeque};
 use std::test::Fail;
 
@@ -53,4 +60,41 @@ fn sets_and_deques(rt: HostRuntime) -> Result<(), Fail> {
     deque.push_back(1)?;
     let boxed: Result<Box<u64>, u8> = Ok(Box::new(rt.alloc(), 1)?);
     same(&rt, &(keys, ordered, map, deque, boxed))
+}
+
+/// Two maps whose pairs are counted first.
+#[derive(Drop)]
+struct Index(BTreeMap<u32, u64>, HashMap<u32, u64>);
+
+#[tactic(auto, using(allocative::proofs::Parts::parts))]
+impl Allocative for Index {
+    ghost may_show = { λ x. shows.Inside (codes "Index") 72 (shows.Both
+        (shows.each_shows (pair_shows ⟦<u32 as Described>⟧.size ⟦<u32 as Allocative>⟧.may_show
+        ⟦<u64 as Described>⟧.size ⟦<u64 as Allocative>⟧.may_show) x.0.entries)
+        (in_any_order (pair_shows ⟦<u32 as Described>⟧.size ⟦<u32 as Allocative>⟧.may_show
+        ⟦<u64 as Described>⟧.size ⟦<u64 as Allocative>⟧.may_show) x.1.entries)) };
+
+    ghost is_exact = { true };
+
+    fn visit(&self, visitor: &mut Visitor<'_>) -> Result<(), Refusal> {
+        let pairs = (CountedPairs(&self.0), CountedPairs(&self.1));
+        Inside("Index", 72, pairs).enter(visitor)
+    }
+}
+
+#[test]
+fn pairs_in_a_visit(rt: HostRuntime) -> Result<(), Fail> {
+    let mut ordered: BTreeMap<u32, u64> = BTreeMap::new(rt.alloc());
+    ordered.insert(1, 2)?;
+    ordered.insert(3, 4)?;
+    let mut hashed: HashMap<u32, u64> = HashMap::new(rt.alloc());
+    hashed.insert(5, 6)?;
+    let text = profile_value(rt.alloc(), &Index(ordered, hashed))?
+        .flamegraph()
+        .write()?;
+    assert_eq!(rt;
+        text.as_str(),
+        "Index 36\nIndex;key;u32 12\nIndex;value;u64 24\n"
+    );
+    Ok(())
 }
