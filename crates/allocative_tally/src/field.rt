@@ -70,7 +70,10 @@ impl<'a, K: IntoKey, S: Tally> Entries for FieldSum<'a, K, S> {
     }
 }
 
-/// Values of a type that show an entry of its name, counted, with what another tally counts inside it.
+/// Values that show an entry of a type's name, counted, with what another tally counts inside it.
+///
+/// `T` is any type of that name, as `Vec<()>` for each vector: with the values' own types, tallies of ten levels would
+/// be refused.
 #[derive(Drop)]
 pub struct NamedTally<T, S> {
     pub(crate) own: Sum,

@@ -110,7 +110,7 @@ impl<S: Tally> Tally for DataTally<S> {
 }
 
 impl<K: Tallied + Eq + Hash, V: Tallied> Tallied for HashMap<K, V> {
-    type Tally = NamedTally<HashMap<K, V>, DataTally<PairsTally<K::Tally, V::Tally>>>;
+    type Tally = NamedTally<HashMap<(), ()>, DataTally<PairsTally<K::Tally, V::Tally>>>;
 
     fn tally(&self, tally: &mut Self::Tally) -> Result<(), CountError> {
         tally.own.add(48)?;
@@ -128,7 +128,7 @@ impl<K: Tallied + Eq + Hash, V: Tallied> Tallied for HashMap<K, V> {
 }
 
 impl<K: Tallied + Ord, V: Tallied> Tallied for BTreeMap<K, V> {
-    type Tally = NamedTally<BTreeMap<K, V>, DataTally<PairsTally<K::Tally, V::Tally>>>;
+    type Tally = NamedTally<BTreeMap<(), ()>, DataTally<PairsTally<K::Tally, V::Tally>>>;
 
     fn tally(&self, tally: &mut Self::Tally) -> Result<(), CountError> {
         tally.own.add(24)?;

@@ -121,7 +121,7 @@ pub fn count_buffer<T: Tallied>(
 }
 
 impl<T: Tallied> Tallied for Vec<T> {
-    type Tally = NamedTally<Vec<T>, BufferTally<T, T::Tally>>;
+    type Tally = NamedTally<Vec<()>, BufferTally<T, T::Tally>>;
 
     fn tally(&self, tally: &mut Self::Tally) -> Result<(), CountError> {
         tally.own.add(24)?;
@@ -162,7 +162,7 @@ pub fn count_ring<T: Tallied>(
 }
 
 impl<T: Tallied> Tallied for VecDeque<T> {
-    type Tally = NamedTally<VecDeque<T>, BufferTally<T, T::Tally>>;
+    type Tally = NamedTally<VecDeque<()>, BufferTally<T, T::Tally>>;
 
     fn tally(&self, tally: &mut Self::Tally) -> Result<(), CountError> {
         tally.own.add(32)?;

@@ -55,7 +55,7 @@ pub fn count_keys<'a, K: Tallied + 'a, I: Iterator<Item = &'a K> + Drop>(
 }
 
 impl<K: Tallied + Eq + Hash> Tallied for HashSet<K> {
-    type Tally = NamedTally<HashSet<K>, DataTally<KeysTally<K::Tally>>>;
+    type Tally = NamedTally<HashSet<()>, DataTally<KeysTally<K::Tally>>>;
 
     fn tally(&self, tally: &mut Self::Tally) -> Result<(), CountError> {
         tally.own.add(48)?;
@@ -73,7 +73,7 @@ impl<K: Tallied + Eq + Hash> Tallied for HashSet<K> {
 }
 
 impl<K: Tallied + Ord> Tallied for BTreeSet<K> {
-    type Tally = NamedTally<BTreeSet<K>, DataTally<KeysTally<K::Tally>>>;
+    type Tally = NamedTally<BTreeSet<()>, DataTally<KeysTally<K::Tally>>>;
 
     fn tally(&self, tally: &mut Self::Tally) -> Result<(), CountError> {
         tally.own.add(24)?;
