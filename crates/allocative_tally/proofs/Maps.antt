@@ -1,21 +1,31 @@
--- How pairs and maps are counted.
-use Rattle.std.proofs.Common.{◌≡◌, ◌≤◌, ◌+◌, ◌*◌, ℕ, true, false, codes, Option, Some, None, List}
-use Rattle.std.proofs.Common.{[], ◌∷◌, ◌++◌, length, refl, ap, subst, ◌∙◌, arith}
+-- How pairs, fields of items, and the containers that have them are counted.
+use Rattle.std.proofs.Common.{◌≡◌, ◌≤◌, ◌+◌, ◌*◌, ℕ, true, false, codes, Option, Some, None, List, [], ◌∷◌, ◌++◌}
+use Rattle.std.proofs.Common.{length, refl, ap, subst, ◌∙◌, arith, ◌<◌, inl, inr}
 use Rattle.std.proofs.lemmas.List.Sorted.{IsPermutation-refl}
 use Rattle.std.proofs.lemmas.Iterator.{YieldsList, items_from_drains}
-use Rattle.allocative_described.specs.Sizes.{size_sum}
+use Rattle.allocative_described.specs.Sizes.{size_sum, checked, size_max, size_product, size_up}
 use Rattle.allocative_graph.specs.Owned.{direct}
 use Rattle.allocative_graph.proofs.Owned.{direct-following}
 use Rattle.allocative.specs.Runs.{IsOfRun, field_of, pair_shows}
 use Rattle.allocative.specs.StdShows.{in_any_order}
-use Rattle.allocative.proofs.Common.{Key, Forest, Showing, Inside, Field, sized, each_shows}
-use Rattle.allocative_tally.specs.Shapes.{Shape, Wide, Narrow, Beside, EntryAt}
+use Rattle.allocative.proofs.Common.{Key, Forest, Showing, Inside, Field, sized, each_shows, Both}
+use Rattle.allocative.proofs.Common.{table_shows}
+use Rattle.allocative_tally.specs.Shapes.{Shape, Wide, Narrow, Beside, EntryAt, Unique, NoEntry}
 use Rattle.allocative_tally.specs.Tallies.{Tallies, TalliesField, AddsEntry, FitsData}
 use Rattle.allocative_tally.specs.declared.tally.Sum.{Sum}
-use Rattle.allocative_tally.proofs.Counting.{counted_field, counted_inline, counted_narrow, tallies_both}
-use Rattle.allocative_tally.proofs.Counting.{tallies_as, tallies_first, tallies_second}
-use Rattle.allocative_tally.proofs.Counting.{tallies_more, tallies_within, fits_bytes}
-use Rattle.allocative_tally.proofs.Sizes.{checked_is}
+use Rattle.allocative_tally.proofs.Counting.{counted_field, counted_inline, counted_narrow, tallies_both, tallies_as}
+use Rattle.allocative_tally.proofs.Counting.{tallies_first, tallies_second, tallies_more, tallies_within, fits_bytes}
+use Rattle.allocative_tally.proofs.Counting.{counted_unique, tallies_none}
+use Rattle.allocative_tally.proofs.Sizes.{checked_is, not_greater}
+use Rattle.std.proofs.lemmas.Nat.{mul-le}
+use Rattle.smallvec.specs.SmallVec.{SmallVec, IsSpilled}
+use Rattle.allocative_described.specs.RawTable.{IsRawTableSize}
+use Rattle.allocative.specs.Bodies.{data_shows}
+use Rattle.allocative.specs.PackShows.{index_data_shows, is_index_data, small_vec_inside, lies_inline, is_spilled}
+use Rattle.allocative_tally.specs.Fields.{AddsSize, TalliesRun}
+use Rattle.allocative_tally.proofs.Fields.{Holds, holds_up, holds_second, holds_first_of, holds_second_of}
+use Rattle.allocative_tally.proofs.Fields.{holds_itself, holds_bytes, whole_counted, bare_counted}
+use Rattle.allocative_tally.proofs.Sequences.{inside_counted}
 
 -- ---- the bytes of pairs
 -- A field has its declared size.
@@ -121,3 +131,118 @@ large_counted p xs m n {k = k} {t = t} in_run up fits same bytes room own inner 
 -- The pairs in their own order are the pairs in some order.
 pub own_order : {T : Type 0} (p : T → Showing) (xs : List T) (f : Forest) → each_shows p xs f → in_any_order p xs f
 own_order p xs f x = (xs, IsPermutation-refl xs, x)
+
+-- ---- fields of items
+-- A size that holds n items holds the fields of at most n items.
+fields_least : {T : Type 0} (m n : ℕ) (w : Option ℕ) (k : Key) (p : T → Showing) (xs : List T) → length xs ≤ n →
+    Holds (Some m) (size_product (Some n) w) → (f : Forest) → each_shows (field_of k w p) xs f → direct f ≤ m
+fields_least m n None k p xs room h f x = let y = not_greater None m h.room in cc
+fields_least m n (Some s) k p xs room h f x =
+    let y = not_greater (size_product (Some n) (Some s)) m h.room in
+    let all : n * s ≡ y.0 = checked_is (n * s) y.0 y.1 in
+    let bytes : direct f ≡ s * length xs = keys_direct (Some s) s k p xs f refl x in
+    omega (arith, all, bytes, mul-le (length xs) s n s room (omega arith), y.2)
+
+-- Fields of at most n items are within a size that holds n items.
+fields_within : {T : Type 0} (size : Option ℕ) (n : ℕ) (w : Option ℕ) (k : Key) (p : T → Showing) (xs : List T)
+    {s t : Shape} → length xs ≤ n → Holds size (size_product (Some n) w) →
+    Tallies None (each_shows (field_of k w p) xs) s t → Tallies size (each_shows (field_of k w p) xs) s t
+fields_within None n w k p xs room h c = c
+fields_within (Some m) n w k p xs room h c = record {
+  counted = c.counted;
+  allowed = c.allowed;
+  within = fields_least m n w k p xs room h c.counted c.allowed;
+  merged = c.merged;
+}
+
+-- If every run gives the same items, the fields of a run were counted as those of the items.
+fields_counted : {S A T : Type 0} {steps : S → Option A → S → Type 0} {start : S} {v : A → T} {size w : Option ℕ}
+    {p : T → Showing} (n : ℕ) (k : Key) (xs : List T) {a a' : Sum} {s s' : Shape} → YieldsList steps v start xs →
+    length xs ≤ n → Holds size (size_product (Some n) w) → TalliesRun steps start v w p a s a' s' →
+    Tallies size (each_shows (field_of k w p) xs) (EntryAt Wide k a s) (EntryAt Wide k a' s')
+fields_counted {size = size} {w} {p} n k xs given room holds run =
+    fields_within size n w k p xs room holds (tallies_as (of_run given) (run.under k))
+
+-- The product of two sizes does not depend on their order.
+product_order : (n : ℕ) (w : Option ℕ) → size_product (Some n) w ≡ size_product w (Some n)
+product_order n None = refl
+product_order n (Some s) = ap checked (omega arith)
+
+-- An array is its own entry with a field for each item inside it.
+pub array_counted : {S A T : Type 0} {steps : S → Option A → S → Type 0} {start : S} {v : A → T} {found w : Option ℕ}
+    {k : Key} {p : T → Showing} (n : ℕ) (xs : List T) {a a' b b' : Sum} {s s' : Shape} → length xs ≡ n →
+    YieldsList steps v start xs → found ≡ size_product (Some n) w → AddsSize found a a' →
+    TalliesRun steps start v w p b s b' s' →
+    Tallies (size_product (Some n) w) (Field k (size_product w (Some (length xs))) (data_shows w p xs))
+    (EntryAt Wide k a (EntryAt Wide (codes "data") b s)) (EntryAt Wide k a' (EntryAt Wide (codes "data") b' s'))
+array_counted {w = w} n xs e given size own run =
+    rw (e, ← product_order n w) (whole_counted size own
+    (fields_counted n (codes "data") xs given (omega (arith, e)) holds_itself run) holds_itself)
+
+-- ---- small vectors
+-- The size of a small vector with n places.
+abbrev pub small_vec_size : ℕ → Option ℕ → ℕ → Option ℕ
+small_vec_size n w align = size_up (size_sum (Some 8) (size_max (Some 16) (size_product (Some n) w))) align
+
+-- A small vector whose items are in place has a field for each item inside its entry.
+pub inline_counted : {S A T : Type 0} {steps : S → Option A → S → Type 0} {start : S} {v : A → T} {found w : Option ℕ}
+    {k : Key} {p : T → Showing} (n align : ℕ) (xs : SmallVec T) {a a' b b' : Sum} {s s' t : Shape} →
+    ¬ IsSpilled n xs → length xs.items ≤ n → YieldsList steps v start xs.items → found ≡ small_vec_size n w align →
+    AddsSize found a a' → TalliesRun steps start v w p b s b' s' →
+    Tallies (small_vec_size n w align) (Field k (small_vec_size n w align) (small_vec_inside n w p xs))
+    (EntryAt Wide k a (Beside (EntryAt Wide (codes "data") b s) t))
+    (EntryAt Wide k a' (Beside (EntryAt Wide (codes "data") b' s') t))
+inline_counted {w = w} n align xs {t = t} is room given size own run =
+    let holds : Holds (small_vec_size n w align) (size_product (Some n) w) =
+    holds_up _ align (holds_second (Some 8) _ (holds_second_of (Some 16) (size_product (Some n) w) holds_itself)) in
+    whole_counted size own (tallies_as (λ h x. lies_inline is x)
+    (tallies_first t (fields_counted n (codes "data") xs.items given room holds run))) holds_itself
+
+-- A small vector whose items are in an allocation has them inside a pointer.
+pub spilled_counted : {S A T : Type 0} {steps : S → Option A → S → Type 0} {start : S} {v : A → T} {found w : Option ℕ}
+    {k : Key} {p : T → Showing} (n align : ℕ) (xs : SmallVec T) {a a' b b' d d' : Sum} {s s' t : Shape} →
+    IsSpilled n xs → YieldsList steps v start xs.items → found ≡ small_vec_size n w align → AddsSize found a a' →
+    AddsEntry 8 b b' → TalliesRun steps start v w p d s d' s' →
+    Tallies (small_vec_size n w align) (Field k (small_vec_size n w align) (small_vec_inside n w p xs))
+    (EntryAt Wide k a (Beside t (EntryAt Unique (codes "ptr") b (EntryAt Wide (codes "data") d s))))
+    (EntryAt Wide k a' (Beside t (EntryAt Unique (codes "ptr") b' (EntryAt Wide (codes "data") d' s'))))
+spilled_counted {w = w} n align xs {t = t} is given size own pointer run =
+    let holds : Holds (small_vec_size n w align) (Some 8) =
+    holds_up _ align (holds_second (Some 8) _ (holds_first_of (Some 16) (size_product (Some n) w)
+    (holds_bytes (omega arith)))) in
+    whole_counted size own (tallies_as (λ h x. is_spilled is x)
+    (tallies_second t (counted_unique pointer (tallies_as (of_run given) (run.under (codes "data")))))) holds
+
+-- ---- containers in the order of insertion
+-- No items have no hash table.
+pub no_table_counted : {n : ℕ} {s : Shape} → n ≡ 0 → Tallies (Some 8) (table_shows n) s s
+no_table_counted e = tallies_none (inl (e, refl))
+
+-- The hash table of some items is a unique entry with the table's bytes inside it.
+pub table_counted : {n : ℕ} {bytes : Option ℕ} {a a' b b' : Sum} → 0 < n → IsRawTableSize (Some 8) n bytes →
+    AddsEntry 8 a a' → AddsSize bytes b b' → Tallies (Some 8) (table_shows n)
+    (EntryAt Unique (codes "raw_table") a (EntryAt Wide (codes "alloc") b NoEntry))
+    (EntryAt Unique (codes "raw_table") a' (EntryAt Wide (codes "alloc") b' NoEntry))
+table_counted {bytes = bytes} some is table buckets =
+    tallies_as (λ h x. inr (some, (bytes, is, x))) (counted_unique table (bare_counted refl buckets))
+
+-- A container in the order of insertion is its own entry, with its items, its unused places and its table inside it.
+pub index_counted : {S A T : Type 0} {steps : S → Option A → S → Type 0} {start : S} {v : A → T} {found size : Option ℕ}
+    {k : Key} {p : T → Showing} (xs : List T) {left places n : ℕ} {a a' b b' u u' : Sum} {s s' t t' : Shape} →
+    YieldsList steps v start xs → found ≡ size → left ≡ places → n ≡ length xs → AddsEntry 72 a a' → AddsEntry 8 b b' →
+    Tallies None (IsOfRun steps start v (each_shows p)) s s' → AddsSize (size_product found (Some left)) u u' →
+    Tallies (Some 8) (table_shows n) t t' →
+    Tallies (Some 72)
+    (Inside k 72 (Both (index_data_shows size (each_shows p xs) places) (table_shows (length xs))))
+    (EntryAt Wide k a (Beside (EntryAt Unique (codes "data") b
+    (Beside s (EntryAt Wide (codes "unused_capacity") u NoEntry))) t))
+    (EntryAt Wide k a' (Beside (EntryAt Unique (codes "data") b'
+    (Beside s' (EntryAt Wide (codes "unused_capacity") u' NoEntry))) t'))
+index_counted {found = found} {size} xs {places = room} {u = u} {u'} given e i j own pointer items unused table =
+    let places : AddsSize (size_product size (Some room)) u u' =
+    subst (λ (w : Option ℕ). AddsSize (size_product w (Some room)) u u') e
+    (subst (λ (m : ℕ). AddsSize (size_product found (Some m)) u u') i unused) in
+    inside_counted (omega arith) own (tallies_both
+    (tallies_as (λ h x. is_index_data x) (counted_unique pointer (tallies_both (tallies_as (of_run given) items)
+    (bare_counted refl places))))
+    (rw j at table))

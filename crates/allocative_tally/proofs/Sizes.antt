@@ -60,7 +60,7 @@ room_max_second (Some m) None d h = tt
 room_max_second (Some m) (Some n) d h = omega (arith, h)
 
 -- What has a bound has room only for what has one that is not greater.
-not_greater : (w : Option ℕ) (m : ℕ) → HasRoom (Some m) w → (k : ℕ) × (w ≡ Some k) × (k ≤ m)
+pub not_greater : (w : Option ℕ) (m : ℕ) → HasRoom (Some m) w → (k : ℕ) × (w ≡ Some k) × (k ≤ m)
 not_greater None m h = absurd (omega (arith, h (suc m) tt))
 not_greater (Some k) m h = (k, refl, h k (omega arith))
 

@@ -2,9 +2,12 @@
 #![tactic(auto, using(crate::proofs::Fields::field_tallied))]
 
 ghost use Rattle.std.specs.Prelude.{◌≡◌, ◌≤◌, ◌+◌, ◌^◌, ℕ, Some, IfOk, IfErr};
+ghost use Rattle.std.specs.Iterator.{IsFinite};
+ghost use Rattle.std.specs.Map.Iter.{deref};
+ghost use Rattle.allocative_described.specs.Sizes.{size_product};
 ghost use Rattle.allocative_tally.specs.Shapes.{Wide, EntryAt};
 ghost use Rattle.allocative_tally.specs.Tallies.{TalliesField};
-ghost use Rattle.allocative_tally.specs.Fields.{AddsSize, HasNothing};
+ghost use Rattle.allocative_tally.specs.Fields.{AddsSize, HasNothing, TalliesRun};
 ghost use Rattle.allocative.specs.Shows as shows;
 
 use crate::counted::Counted;
@@ -55,6 +58,36 @@ pub fn count_own(sum: &mut Sum, size: Option<usize>) -> Result<(), CountError>
         return Err(CountError);
     };
     sum.add(bytes)?;
+    Ok(())
+}
+
+/// Counts one more entry of the bytes of `count` items of a declared size. It returns `Err` as `count_own` does.
+#[inline(always)]
+pub fn count_bytes(sum: &mut Sum, size: Option<usize>, count: usize) -> Result<(), CountError>
+    ensures ok { IfOk result (λ _. AddsSize (size_product size (Some count)) sum.old sum.new) }
+    ensures kept { IfErr result (λ _. sum.new ≡ sum.old) }
+    ensures exceeds { IfErr result (λ _. (n : ℕ) → size_product size (Some count) ≡ Some n
+        → 2 ^ 64 ≤ sum.old.bytes + n) }
+{
+    let Some(item) = size else {
+        return Err(CountError);
+    };
+    count_own(sum, item.checked_mul(count))
+}
+
+/// Counts one more value of a field for each item that an iterator gives. It returns `Err` as `count` does.
+pub fn count_fields<'a, T: Tallied + 'a, I: Iterator<Item = &'a T> + Drop>(
+    items: I,
+    field: &mut FieldTally<T::Tally>,
+) -> Result<(), CountError>
+    requires can { I.can_next items }
+    requires ends { IsFinite (I.remaining items) }
+    ensures { IfOk result (λ _. TalliesRun I.next_gives items deref T.size T.may_show
+        field.old.own (T.Tally.shape field.old.value) field.new.own (T.Tally.shape field.new.value)) }
+{
+    for item in items {
+        count(field, item)?;
+    }
     Ok(())
 }
 

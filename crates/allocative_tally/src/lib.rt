@@ -6,6 +6,7 @@ pub mod counted;
 pub mod field;
 pub mod map;
 pub mod number;
+pub mod pack;
 pub mod pointer;
 pub mod profile;
 pub mod sequence;

@@ -1,15 +1,16 @@
-//! Vectors and deques.
+//! Vectors, deques and arrays.
 #![tactic(auto, using(crate::proofs::Rules::sequences))]
 
 ghost use Rattle.std.specs.Prelude.{◌≡◌, codes, IfOk, None, Some, length, vec_capacity};
 ghost use Rattle.std.specs.VecDeque.{deque_capacity};
 ghost use Rattle.allocative_graph.specs.Shows.{slice_shows, is_shown_each};
-ghost use Rattle.allocative.specs.Bodies.{bytes_shown, buffer_shows, cut_shows};
+ghost use Rattle.allocative.specs.Bodies.{buffer_shows, cut_shows};
 ghost use Rattle.allocative_tally.specs.Shapes.{Wide, EntryAt, Beside, NoEntry, buffer_shape, slice_shape};
 ghost use Rattle.allocative_tally.specs.Tallies.{Tallies};
+ghost use Rattle.allocative_tally.specs.Fields.{CountsRoom};
 
 use crate::counted::count_each;
-use crate::field::NamedTally;
+use crate::field::{FieldSum, FieldTally, NamedTally, count_bytes, count_fields, count_own};
 use crate::tally::{CountError, Entries, InlineSum, Sum, Tallied, Tally, UniqueSum};
 use allocative::{Described, Refusal, Visitor};
 use std::collections::VecDeque;
@@ -47,7 +48,7 @@ impl<T: Described, S: Tally> Tally for BufferTally<T, S> {
 
 // Whether items of a declared size are shown one by one.
 #[inline(always)]
-fn are_shown_each<T: Described>(size: usize) -> bool
+pub(crate) fn are_shown_each<T: Described>(size: usize) -> bool
     ensures { result ≡ is_shown_each T.needs_drop size }
 {
     T::needs_drop() && size != 0
@@ -69,26 +70,33 @@ pub fn count_slice<T: Tallied>(
         count_each(items, tally)?;
         return Ok(());
     }
-    let Some(bytes) = size.checked_mul(items.len()) else {
-        return Err(CountError);
-    };
-    sum.add(bytes)?;
+    count_bytes(sum, Some(size), items.len())?;
     Ok(())
 }
 
-/// Counts unused places.
+/// Counts the pointer and the unused places of a buffer of `count` items, and returns the declared size of an item;
+/// `None` if there is no buffer. It returns `Err` if the size is missing, or a count exceeds a word.
 #[inline(always)]
-pub fn count_unused(sum: &mut Sum, size: usize, count: usize) -> Result<(), CountError>
-    ensures { IfOk result (λ _. Tallies None
-        (bytes_shown (codes "unused_capacity") (Some size) count)
-        (EntryAt Wide (codes "unused_capacity") sum.old NoEntry)
-        (EntryAt Wide (codes "unused_capacity") sum.new NoEntry)) }
+pub(crate) fn count_room<T: Described>(
+    count: usize,
+    capacity: usize,
+    pointer: &mut Sum,
+    unused: &mut Sum,
+) -> Result<Option<usize>, CountError>
+    ensures { IfOk result (CountsRoom T.size count capacity pointer.old unused.old pointer.new unused.new) }
 {
-    let Some(bytes) = size.checked_mul(count) else {
+    let Some(size) = T::size() else {
         return Err(CountError);
     };
-    sum.add(bytes)?;
-    Ok(())
+    if size == 0 {
+        return Ok(None);
+    }
+    if count.max(capacity) == 0 {
+        return Ok(None);
+    }
+    pointer.add(8)?;
+    count_bytes(unused, Some(size), capacity.saturating_sub(count))?;
+    Ok(Some(size))
 }
 
 /// Counts the buffer of a vector.
@@ -103,20 +111,16 @@ pub fn count_buffer<T: Tallied>(
         (⟦<BufferTally<T, T::Tally> as Tally>⟧.shape tally.old)
         (⟦<BufferTally<T, T::Tally> as Tally>⟧.shape tally.new)) }
 {
-    let Some(size) = T::size() else {
-        return Err(CountError);
+    let room = count_room::<T>(
+        items.len(),
+        items.capacity(),
+        &mut tally.pointer,
+        &mut tally.unused,
+    )?;
+    let Some(size) = room else {
+        return Ok(());
     };
-    if size == 0 {
-        return Ok(());
-    }
-    let count = items.len();
-    let capacity = items.capacity();
-    if count == 0 && capacity == 0 {
-        return Ok(());
-    }
-    tally.pointer.add(8)?;
     count_slice(items.as_slice(), size, &mut tally.slice, &mut tally.item)?;
-    count_unused(&mut tally.unused, size, capacity.saturating_sub(count))?;
     Ok(())
 }
 
@@ -142,22 +146,18 @@ pub fn count_ring<T: Tallied>(
         (⟦<BufferTally<T, T::Tally> as Tally>⟧.shape tally.old)
         (⟦<BufferTally<T, T::Tally> as Tally>⟧.shape tally.new)) }
 {
-    let Some(size) = T::size() else {
-        return Err(CountError);
+    let room = count_room::<T>(
+        ring.len(),
+        ring.capacity(),
+        &mut tally.pointer,
+        &mut tally.unused,
+    )?;
+    let Some(size) = room else {
+        return Ok(());
     };
-    if size == 0 {
-        return Ok(());
-    }
-    let count = ring.len();
-    let capacity = ring.capacity();
-    if count == 0 && capacity == 0 {
-        return Ok(());
-    }
     let (front, back) = ring.as_slices();
-    tally.pointer.add(8)?;
     count_slice(front, size, &mut tally.slice, &mut tally.item)?;
     count_slice(back, size, &mut tally.slice, &mut tally.item)?;
-    count_unused(&mut tally.unused, size, capacity.saturating_sub(count))?;
     Ok(())
 }
 
@@ -167,6 +167,40 @@ impl<T: Tallied> Tallied for VecDeque<T> {
     fn tally(&self, tally: &mut Self::Tally) -> Result<(), CountError> {
         tally.own.add(32)?;
         count_ring(self, &mut tally.inside)?;
+        Ok(())
+    }
+}
+
+/// Arrays, counted: an entry of the item's name, with a field `data` for each item inside it.
+#[derive(Drop)]
+pub struct ArrayTally<T, S> {
+    own: Sum,
+    items: FieldTally<S>,
+    name: PhantomData<T>,
+}
+
+impl<T: Described, S: Tally> Tally for ArrayTally<T, S> {
+    ghost shape = { λ t. EntryAt Wide T.name t.own (EntryAt Wide (codes "data") t.items.own (S.shape t.items.value)) };
+
+    fn none() -> Self {
+        ArrayTally {
+            own: Sum::none(),
+            items: FieldTally::none(),
+            name: PhantomData,
+        }
+    }
+
+    fn enter(&self, visitor: &mut Visitor<'_>) -> Result<(), Refusal> {
+        InlineSum(T::name(), self.own, FieldSum("data", &self.items)).enter(visitor)
+    }
+}
+
+impl<T: Tallied, const N: usize> Tallied for [T; N] {
+    type Tally = ArrayTally<T, T::Tally>;
+
+    fn tally(&self, tally: &mut Self::Tally) -> Result<(), CountError> {
+        count_own(&mut tally.own, <[T; N]>::size())?;
+        count_fields(self.iter(), &mut tally.items)?;
         Ok(())
     }
 }

@@ -1,15 +1,10 @@
 //! Sets, which show a field `key` for each key, inside an inline entry `data` of 8 bytes.
 #![tactic(auto)]
 
-ghost use Rattle.std.specs.Prelude.{codes, IfOk, None};
-ghost use Rattle.std.specs.Iterator.{IsFinite};
-ghost use Rattle.std.specs.Map.Iter.{deref};
-ghost use Rattle.allocative_graph.specs.Shows.{each_shows};
-ghost use Rattle.allocative.specs.Runs.{IsOfRun, field_of};
-ghost use Rattle.allocative_tally.specs.Shapes.{Wide, Narrow, EntryAt, Beside};
-ghost use Rattle.allocative_tally.specs.Tallies.{Tallies, FitsData};
+ghost use Rattle.std.specs.Prelude.{codes};
+ghost use Rattle.allocative_tally.specs.Shapes.{Wide, EntryAt};
 
-use crate::field::{FieldSum, FieldTally, NamedTally, count};
+use crate::field::{FieldSum, FieldTally, NamedTally, count_fields};
 use crate::map::{DataTally, fits_data};
 use crate::tally::{CountError, Entries, Tallied, Tally};
 use allocative::{Described, Refusal, Visitor};
@@ -36,24 +31,6 @@ impl<P: Tally> Tally for KeysTally<P> {
     }
 }
 
-/// Counts each key that an iterator gives.
-pub fn count_keys<'a, K: Tallied + 'a, I: Iterator<Item = &'a K> + Drop>(
-    keys: I,
-    tally: &mut KeysTally<K::Tally>,
-) -> Result<(), CountError>
-    requires can { I.can_next keys }
-    requires ends { IsFinite (I.remaining keys) }
-    ensures { IfOk result (λ _. Tallies None
-        (IsOfRun I.next_gives keys deref (each_shows (field_of (codes "key") K.size K.may_show)))
-        (⟦<KeysTally<K::Tally> as Tally>⟧.shape tally.old)
-        (⟦<KeysTally<K::Tally> as Tally>⟧.shape tally.new)) }
-{
-    for key in keys {
-        count(&mut tally.key, key)?;
-    }
-    Ok(())
-}
-
 impl<K: Tallied + Eq + Hash> Tallied for HashSet<K> {
     type Tally = NamedTally<HashSet<()>, DataTally<KeysTally<K::Tally>>>;
 
@@ -63,11 +40,11 @@ impl<K: Tallied + Eq + Hash> Tallied for HashSet<K> {
         let is_small = fits_data(K::size(), self.len())?;
         if is_small {
             data.small.add(8)?;
-            count_keys(self.iter(), &mut data.small_items)?;
+            count_fields(self.iter(), &mut data.small_items.key)?;
             return Ok(());
         }
         data.large.add(8)?;
-        count_keys(self.iter(), &mut data.large_items)?;
+        count_fields(self.iter(), &mut data.large_items.key)?;
         Ok(())
     }
 }
@@ -81,11 +58,11 @@ impl<K: Tallied + Ord> Tallied for BTreeSet<K> {
         let is_small = fits_data(K::size(), self.len())?;
         if is_small {
             data.small.add(8)?;
-            count_keys(self.iter(), &mut data.small_items)?;
+            count_fields(self.iter(), &mut data.small_items.key)?;
             return Ok(());
         }
         data.large.add(8)?;
-        count_keys(self.iter(), &mut data.large_items)?;
+        count_fields(self.iter(), &mut data.large_items.key)?;
         Ok(())
     }
 }

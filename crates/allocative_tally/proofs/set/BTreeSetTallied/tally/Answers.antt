@@ -1,5 +1,5 @@
 -- The set's keys are counted with those of sets of its kind.
-use Rattle.std.proofs.Common.{◌∙◌, arith, rules, sym}
+use Rattle.std.proofs.Common.{◌∙◌, arith, codes, rules, sym}
 use Rattle.std.proofs.lemmas.Iterator.Consumers.{YieldsList-from_rest}
 use Rattle.allocative_tally.proofs.Maps.{small_counted, large_counted, of_run, keys_direct}
 use Rattle.allocative_tally.proofs.set.BTreeSetTallied.tally.Goals as goal
@@ -10,7 +10,7 @@ returns-then-is_small g c = small_counted _ c.args.self.now.keys _ 24
     (rw c.if-is_small.true at c.in_ok-is_small.ensures) (search rules)
     (λ f x. keys_direct _ _ _ _ c.args.self.now.keys f (sym c.size.ensures ∙ c.in_ok-is_small.ensures.is_size) x)
     (omega arith) c.in_ok-add.ensures.ok c.in_ok-add-2.ensures.ok
-    c.in_ok-count_keys.ensures
+    (c.in_ok-count_fields.ensures.under (codes "key"))
 
 pub returns : goal.returns
 returns g c = large_counted _ c.args.self.now.keys _ 24
@@ -18,4 +18,4 @@ returns g c = large_counted _ c.args.self.now.keys _ 24
     (rw c.if-is_small.false at c.in_ok-is_small.ensures) (search rules)
     (λ f x. keys_direct _ _ _ _ c.args.self.now.keys f (sym c.size.ensures ∙ c.in_ok-is_small.ensures.is_size) x)
     (omega arith) c.in_ok-add.ensures.ok c.in_ok-add-3.ensures.ok
-    c.in_ok-count_keys-2.ensures
+    (c.in_ok-count_fields-2.ensures.under (codes "key"))
