@@ -8,6 +8,9 @@ ghost use Rattle.allocative.specs.StdShows.{in_any_order};
 use crate::profiles::{expect, same, same_roots};
 use allocative::{Allocative, Described, Inside, Part, Refusal, Visitor, profile_value};
 use allocative_tally::map::CountedPairs;
+use indexmap::{IndexMap, IndexSet};
+use slab::Slab;
+use smallvec::SmallVec;
 use std::collections::{BTreeMap, BTreeSet, HashMap, HashSet, VecDeque};
 use std::test::Fail;
 
@@ -97,4 +100,39 @@ fn pairs_in_a_visit(rt: HostRuntime) -> Result<(), Fail> {
         "Index 36\nIndex;key;u32 12\nIndex;value;u64 24\n"
     );
     Ok(())
+}
+
+#[test]
+fn arrays(rt: HostRuntime) -> Result<(), Fail> {
+    let name = String::from_str(rt.alloc(), "Ada")?;
+    same(&rt, &([1u16, 2, 3], [Some(name), None]))
+}
+
+#[test]
+fn containers_in_order_of_insertion(rt: HostRuntime) -> Result<(), Fail> {
+    let no_pairs: IndexMap<u8, u64> = IndexMap::new(rt.alloc());
+    let pairs: IndexMap<u8, u64> = [(1, 2), (3, 4)].into_iter().collect(rt.alloc())?;
+    let no_values: IndexSet<u32> = IndexSet::new(rt.alloc());
+    let values: IndexSet<u32> = [1, 2].into_iter().collect(rt.alloc())?;
+    same(&rt, &(no_pairs, pairs, no_values, values))
+}
+
+#[test]
+fn small_vectors(rt: HostRuntime) -> Result<(), Fail> {
+    let in_place: SmallVec<u64, 2> = [1].into_iter().collect(rt.alloc())?;
+    let spilled: SmallVec<u64, 2> = [1, 2, 3].into_iter().collect(rt.alloc())?;
+    same(&rt, &(in_place, spilled))
+}
+
+#[test]
+fn slabs(rt: HostRuntime) -> Result<(), Fail> {
+    let empty: Slab<u32> = Slab::new(rt.alloc());
+    let mut numbers: Slab<u32> = Slab::new(rt.alloc());
+    numbers.insert(1)?;
+    let mut boxes: Slab<Box<u64>> = Slab::new(rt.alloc());
+    boxes.insert(Box::new(rt.alloc(), 1)?)?;
+    let key = boxes.insert(Box::new(rt.alloc(), 2)?)?;
+    boxes.insert(Box::new(rt.alloc(), 3)?)?;
+    boxes.try_remove(key);
+    same(&rt, &(empty, numbers, boxes))
 }
