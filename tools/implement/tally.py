@@ -15,7 +15,7 @@ if TYPE_CHECKING:
     from .text import Writer
 
 # Types of the library that have no tally.
-UNTALLIED = set("PhantomData ManuallyDrop IndexMap IndexSet SmallVec Slab Value Number OnceBox Error IdRc IdArc".split())
+UNTALLIED = set("PhantomData ManuallyDrop Value Number OnceBox Error IdRc IdArc".split())
 UNTALLIED |= {name for name in NUMBERS if name.startswith("Atomic")}
 # The modules of the library that have the words of the code.
 HOMES = {"field": {"CountedField", "FieldSum", "FieldTally", "count", "count_own"}}
@@ -37,7 +37,8 @@ class Part(NamedTuple):
 def reason(scope: Scope, kind: Type, parameters: tuple[str, ...]) -> str:
     """Why the values of a type have no tally, or nothing."""
     kind = scope.real(kind)
-    own, has_tally = scope.own(kind), kind.form == "path" or (kind.form == "tuple" and len(kind.parts) != 1)
+    has_tally = kind.form in ("path", "array", "constant") or (kind.form == "tuple" and len(kind.parts) != 1)
+    own = scope.own(kind)
     if own:
         has_tally = own.name in scope.wanted or "Tallied" in scope.module.implemented.get(own.name, ())
     elif kind.form == "path" and kind.name not in parameters:

@@ -243,6 +243,12 @@ class CommandTest(unittest.TestCase):
         answer = self.get("proofs/a/shown/ATallyTally/none/Answers.antt")
         self.assertIn("\n    (starts_both\n    (starts_field c.none-2.ensures)\n    (starts_field c.none-3.ensures))\n", answer)
 
+    def test_the_tally_of_the_pack(self) -> None:
+        text = "use indexmap::IndexMap;\nuse smallvec::SmallVec;\n#[derive(Drop)]\nstruct A {\n    a: [IndexMap<u8, String>; 3],\n    b: SmallVec<u64, 2>,\n}\n"
+        _, output, _ = self.run_it(text, "--counted")
+        self.assertIn("    a: FieldTally<<[IndexMap<u8, String>; 3] as Tallied>::Tally>,\n", output)
+        self.assertIn("    b: FieldTally<<SmallVec<u64, 2> as Tallied>::Tally>,\n", output)
+
     def test_the_tally_of_an_enum(self) -> None:
         text = "#[derive(Drop)]\nenum E {\n    None,\n    Of(Vec<u64>),\n    TwoOf(u64, u64),\n}\n"
         _, output, _ = self.run_it(text, "--counted")
