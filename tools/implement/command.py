@@ -32,7 +32,7 @@ FLAGS = {
     "--in-place": "write into the file itself, behind each type, between two comments",
     "--check": "write nothing, and end with status 1 if something is stale",
     "--skip-unknown": "pass over the fields that cannot be shown, with a comment",
-    "--counted": "write a tally of each type too, by which `Counted` enters each path once",
+    "--counted": "write a tally of each type that can have one, and count the items of fields before they are entered",
     "--add-lines": "add the line `mod shown;` to the file, and allocative to the crate's line in crates.txt",
 }
 
@@ -77,6 +77,8 @@ def run(chosen: argparse.Namespace) -> int:
         put(each, answer)
     if chosen.add_lines:
         add_lines(path, text, source, is_inline)
+    for name, why in source.untallied.items():
+        say(f"{name} has no tally, as {why}")
     if source.passed_over:
         say(source.passed_line())
     return 0

@@ -39,6 +39,7 @@ class Scope:
         self.wanted = set(wanted)
         self.outside = outside
         self.exact: set[str] = set()
+        self.tallied: set[str] = set()
         self.reason = cache(self.reason)
 
     def own(self, kind: Type) -> Definition | None:

@@ -10,10 +10,10 @@ from functools import cached_property
 
 from .counted import Counting
 from .known import Scope
-from .tally import HOMES, SHAPES, Tally
+from .tally import HOMES, MANY, SHAPES, Tally, find_tallied, reason
 from .text import LEVELS, WIDTH, Writer
 from .tokens import Fault, Tokens
-from .types import Definition, Member, Module, module_of, type_of
+from .types import Definition, Member, Module, Type, module_of, type_of
 
 BEGIN, END = "// allocative: begin", "// allocative: end"
 CODE = set("Allocative And Declared Described Field Inside Or Part Record Refusal Visitor Whole".split())
@@ -97,6 +97,7 @@ class Source:
         self.wanted = {each.name: self.judged(each) for each in wanted}
         self.module.types.update(self.wanted)
         self.scope.find_exact()
+        self.untallied = find_tallied(self) if chosen.counted else {}
 
     def find(self, text: str) -> Module:
         """The module of a text that is asked for."""
@@ -219,7 +220,7 @@ class Source:
             try:
                 self.check(definition, cycle)
                 found.append(Writer(self, definition, cycle))
-                if self.chosen.counted:
+                if name in self.scope.tallied:
                     found[-1].add(Tally(found[-1]))
             except Fault as fault:
                 self.fault(fault.at, f"{name}: {fault.what}")
@@ -237,6 +238,10 @@ class Source:
                 found |= more
                 waiting += more
         return found
+
+    def counts(self, kind: Type) -> bool:
+        """Whether fields of a type are counted first: if it has a tally, and holds any number of items."""
+        return self.chosen.counted and kind.name in MANY and not reason(self.scope, kind, ())
 
     def new_text(self, found: list[Writer]) -> str:
         """The text of the module `shown`, or of the file with its pieces."""

@@ -8,15 +8,17 @@ from typing import TYPE_CHECKING, Any, Callable, NamedTuple
 
 from .known import NUMBERS, Scope
 from .text import INDENT, MARK, WIDTH, bound, called, entered, holds, in_angles, joined, laid, pattern_of
-from .tokens import Fault
-from .types import Member, Type, Variant
+from .types import Definition, Member, Type, Variant
 
 if TYPE_CHECKING:
+    from .source import Source
     from .text import Writer
 
 # Types of the library that have no tally.
 UNTALLIED = set("PhantomData ManuallyDrop Value Number OnceBox Error IdRc IdArc".split())
 UNTALLIED |= {name for name in NUMBERS if name.startswith("Atomic")}
+# The containers of any number of items.
+MANY = set("Vec VecDeque BTreeMap BTreeSet HashMap HashSet IndexMap IndexSet".split())
 # The modules of the library that have the words of the code.
 HOMES = {"field": {"CountedField", "FieldSum", "FieldTally", "count", "count_own"}}
 HOMES["tally"] = {"CountError", "Entries", "InlineSum", "Sum", "Tallied", "Tally"}
@@ -40,12 +42,37 @@ def reason(scope: Scope, kind: Type, parameters: tuple[str, ...]) -> str:
     has_tally = kind.form in ("path", "array", "constant") or (kind.form == "tuple" and len(kind.parts) != 1)
     own = scope.own(kind)
     if own:
-        has_tally = own.name in scope.wanted or "Tallied" in scope.module.implemented.get(own.name, ())
+        has_tally = own.name in scope.tallied or "Tallied" in scope.module.implemented.get(own.name, ())
     elif kind.form == "path" and kind.name not in parameters:
         is_known = kind.name not in UNTALLIED and scope.is_of_library(kind)
         has_tally = is_known or (len(scope.path(kind)) > 1 and not scope.outside(scope.path(kind), ("Tallied",)))
     whys = (reason(scope, part, parameters) for part in kind.parts)
-    return next(filter(None, whys), "") if has_tally else f"`{kind.text}` has no tally"
+    return next(filter(None, whys), "") if has_tally else f"`{kind.text}` has none"
+
+
+def reason_of(source: Source, definition: Definition) -> str:
+    """Why a type that is written gets no tally, or nothing."""
+    is_enum, variants, types = definition.is_enum, definition.variants, definition.names("type")
+    whys = ["it holds itself"] if definition.name in source.reached(definition.name) else []
+    whys += ["it has a lifetime"] if definition.names("lifetime") else []
+    whys += [f"the field {each.name} is not shown whole" for each in definition.members if not each.is_whole]
+    whys += filter(None, (reason(source.scope, each.type, types) for each in definition.members))
+    whys += ["it is an enum of one variant"] if is_enum and len(variants) == 1 else []
+    if is_enum and types and any(each.is_entry for each in variants):
+        whys.append("it has parameters, and a variant of several fields")
+    return whys[0] if whys else ""
+
+
+def find_tallied(source: Source) -> dict[str, str]:
+    """Finds which of the types that are written get tallies, and returns why the others get none."""
+    found: dict[str, str] = {}
+    while True:
+        source.scope.tallied = source.wanted.keys() - found.keys()
+        more = {name: reason_of(source, source.wanted[name]) for name in source.scope.tallied}
+        more = {name: why for name, why in more.items() if why}
+        if not more:
+            return found
+        found |= more
 
 
 def paired(parts: list[Any], pair: Callable[[Any, Any], Any], none: Any) -> Any:
@@ -58,7 +85,6 @@ class Tally:
 
     def __init__(self, writer: Writer) -> None:
         self.writer, self.definition = writer, writer.definition
-        self.refuse()
         self.kinds: list[str] = []
         self.names: set[str] = set()
         self.answers: dict[str, str] = {}
@@ -69,20 +95,6 @@ class Tally:
         self.parameters = [f"S{number + 1}" for number in range(len(self.kinds))]
         self.name = writer.source.free(writer.name, "Tally")
         self.text = self.struct() + self.tally() + self.tallied()
-
-    def refuse(self) -> None:
-        """Refuses the types that have no tally."""
-        writer, definition, variants = self.writer, self.definition, self.definition.variants
-        whys = ["it holds itself"] if writer.cycle else ["it has a lifetime"] if writer.is_borrowed else []
-        whys += [f"the field {each.name} is not shown whole" for each in definition.members if not each.is_whole]
-        whys += filter(None, (reason(writer.scope, each.type, writer.types) for each in definition.members))
-        if definition.is_enum and len(variants) == 1:
-            whys.append("it is an enum of one variant")
-        if definition.is_enum and writer.types and any(each.is_entry for each in variants):
-            whys.append("it has parameters, and a variant of several fields")
-        if whys:
-            what = f"no tally, as {whys[0]}: write it in a file of its own, without `--counted`"
-            raise Fault(definition.at, what)
 
     # ---- the fields of a tally
     def free(self, name: str) -> str:

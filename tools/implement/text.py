@@ -23,8 +23,6 @@ NAME = re.compile(r"[A-Za-z_]\w*")
 OWN = re.compile(r"(?:\bself::)?\b([A-Za-z_]\w*)")
 CONTAINERS = {("Vec", 1): "vec_in", ("Option", 1): "option_in", ("Box", 1): "box_of"}
 CONTAINERS |= {("BTreeMap", 2): "btree_map_of", ("HashMap", 2): "hash_map_of"}
-# The containers of any number of items.
-MANY = {"Vec", "VecDeque", "BTreeMap", "BTreeSet", "HashMap", "HashSet", "IndexMap", "IndexSet"}
 LEVELS = {*CONTAINERS.values(), "both", "child", "field", "level_shows", "pair_in", "plain", "recursive"}
 LEVEL = re.compile(rf'(?<![\w."<])(?:{"|".join(sorted(LEVELS))})(?![\w.>"])|(?<=\()out-\w+')
 # Words of the written text, which a variant's constructor cannot be named by.
@@ -297,7 +295,7 @@ class Writer:
         word, arguments = "Field", [f'"{key}"', value]
         if member.size is not None:
             word, arguments = "Inside", [f'"{key}"', str(member.size), "()"]
-        elif self.source.chosen.counted and kind.name in MANY and not any(holds(kind, each) for each in self.types):
+        elif self.source.counts(kind) and not any(holds(kind, each) for each in self.types):
             word = "CountedField"
         self.used.add(word)
         return called(f"let {name} = ", word, arguments, ";", indent)

@@ -105,29 +105,32 @@ fn collectors() -> Vec<Workload> {
     all
 }
 
+/// Values, one by one and counted first. The plain side enters them one by one in either case.
 fn values() -> Vec<Workload> {
-    vec![
-        workload!(
-            "vector of 200,000 records".into(),
+    let mut all = Vec::new();
+    for (is_counted, word) in [(false, ""), (true, ", counted")] {
+        all.push(workload!(
+            format!("vector of 200,000 records{word}"),
             COLLECTED,
-            values::records(200_000)
-        ),
-        workload!(
-            "hashed map of 100,000 texts".into(),
+            values::records(200_000, is_counted)
+        ));
+        all.push(workload!(
+            format!("hashed map of 100,000 texts{word}"),
             COLLECTED,
-            values::map(100_000)
-        ),
-        workload!(
-            "vector of 100,000 vectors".into(),
+            values::map(100_000, is_counted)
+        ));
+        all.push(workload!(
+            format!("vector of 100,000 vectors{word}"),
             COLLECTED,
-            values::lists(100_000)
-        ),
-        workload!(
-            "tree of boxes, 32,768 leaves".into(),
-            COLLECTED,
-            values::boxes()
-        ),
-    ]
+            values::lists(100_000, is_counted)
+        ));
+    }
+    all.push(workload!(
+        "tree of boxes, 32,768 leaves".into(),
+        COLLECTED,
+        values::boxes()
+    ));
+    all
 }
 
 /// The least time of each step so far, and the answer.

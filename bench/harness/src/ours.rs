@@ -42,9 +42,9 @@ macro_rules! values {
 }
 
 values! {
-    records = bench_records(count: usize);
-    map = bench_map(count: usize);
-    lists = bench_lists(count: usize);
+    records = bench_records(count: usize, is_counted: bool);
+    map = bench_map(count: usize, is_counted: bool);
+    lists = bench_lists(count: usize, is_counted: bool);
     links = bench_links(depth: usize);
     boxes = bench_boxes();
     sizes = bench_sizes(measure: u32, kind: u32, count: usize);

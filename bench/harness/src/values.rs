@@ -80,7 +80,7 @@ impl<K: Shown, V: Shown> Shown for HashMap<K, V> {
     }
 }
 
-struct Record {
+struct Row {
     id: u64,
     name: String,
     x: u32,
@@ -89,8 +89,8 @@ struct Record {
     is_on: bool,
 }
 
-impl Shown for Record {
-    const NAME: &'static str = "Record";
+impl Shown for Row {
+    const NAME: &'static str = "Row";
     const NEEDS_DROP: bool = true;
 
     fn show(&self, visitor: &mut Visitor<'_>) {
@@ -141,8 +141,8 @@ fn name_of(number: usize) -> String {
     name
 }
 
-fn record(number: usize) -> Record {
-    Record {
+fn record(number: usize) -> Row {
+    Row {
         id: number as u64,
         name: name_of(number),
         x: 1,
@@ -168,18 +168,18 @@ fn measure<T: Shown>(value: &T) -> u64 {
     end(collector)
 }
 
-pub fn records(_: &Names, count: usize) -> u64 {
+pub fn records(_: &Names, count: usize, _is_counted: bool) -> u64 {
     measure(&(0..count).map(record).collect::<Vec<_>>())
 }
 
-pub fn map(_: &Names, count: usize) -> u64 {
+pub fn map(_: &Names, count: usize, _is_counted: bool) -> u64 {
     let map: HashMap<_, _> = (0..count)
         .map(|number| (number as u64, name_of(number)))
         .collect();
     measure(&map)
 }
 
-pub fn lists(_: &Names, count: usize) -> u64 {
+pub fn lists(_: &Names, count: usize, _is_counted: bool) -> u64 {
     measure(&(0..count).map(|_| vec![5u32; 8]).collect::<Vec<_>>())
 }
 

@@ -7,7 +7,7 @@ ghost use Rattle.allocative.specs.Visited.{Entered};
 ghost use Rattle.allocative_tally.specs.Tallies.{Tallies};
 
 use crate::tally::{CountError, Tallied, Tally};
-use allocative::{Allocative, Each, Part, Refusal, Visitor};
+use allocative::{Allocative, Described, Each, Part, Refusal, Visitor};
 
 /// Counts what each item shows.
 pub fn count_each<T: Tallied>(items: &[T], tally: &mut T::Tally) -> Result<(), CountError>
@@ -41,7 +41,8 @@ impl<'a, T: Tallied> Part for Counted<'a, T> {
     }
 }
 
-/// A value that is counted first wherever it is visited.
+/// A value that is counted first wherever it is visited, as by a ledger. It declares what the value's type declares, so
+/// each measure of it is that of the value.
 #[derive(Drop)]
 pub struct CountedValue<'a, T>(pub &'a T);
 
@@ -52,6 +53,32 @@ impl<'a, T: Tallied> Allocative for CountedValue<'a, T> {
 
     fn visit(&self, visitor: &mut Visitor<'_>) -> Result<(), Refusal> {
         Counted(self.0).enter(visitor)
+    }
+}
+
+impl<'a, T: Described> Described for CountedValue<'a, T> {
+    ghost name = { T.name };
+
+    ghost align = { T.align };
+
+    ghost needs_drop = { T.needs_drop };
+
+    ghost size = { T.size };
+
+    fn name() -> &'static str {
+        T::name()
+    }
+
+    fn align() -> usize {
+        T::align()
+    }
+
+    fn needs_drop() -> bool {
+        T::needs_drop()
+    }
+
+    fn size() -> Option<usize> {
+        T::size()
     }
 }
 

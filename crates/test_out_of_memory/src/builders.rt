@@ -1,6 +1,8 @@
 //! A builder that ran out of memory has failed with that cause for good.
-use crate::assertions::{assert_output, assert_refused, assert_same, made};
-use allocative::{FlameGraphBuilder, Identity, Key, Refusal, Visitor};
+use crate::assertions::{assert_count, assert_output, assert_refused, assert_same, made};
+use allocative::{FlameGraphBuilder, Identity, Key, Refusal, Visitor, size_of_owned};
+use allocative_tally::counted::CountedValue;
+use allocative_tally::profile::profile_counted;
 use std::alloc::AllocGlobal;
 use std::process::Abort;
 
@@ -179,4 +181,13 @@ fn a_root_is_refused(rt: HostRuntime) {
     let mut builder = new_builder(&rt);
     let visited = builder.visit_root(&Some(7u32));
     assert_visited(&rt, builder, visited, "Option 4\nOption;Some;u32 4\n");
+}
+
+#[test]
+fn counting_takes_no_memory(rt: HostRuntime) {
+    let numbers = made(&rt, || Ok(vec![in rt.alloc(); 1u64, 2]?));
+    let bytes = size_of_owned(&CountedValue(&numbers)).expect(&rt, "the bytes");
+    assert_count(&rt, bytes, 40);
+    let text = "Vec 16\nVec;ptr 8\nVec;ptr;u64 16\n";
+    assert_output(&rt, profile_counted(rt.alloc(), &numbers), text, "");
 }

@@ -264,15 +264,21 @@ class CommandTest(unittest.TestCase):
         for text, why in (
             ("struct A(Vec<A>);", "it holds itself"),
             ("struct A<'a, T>(T, PhantomData<&'a T>);", "it has a lifetime"),
-            ("struct A {\n    // allocative: skip\n    a: u64,\n}", "the field a is not shown whole"),
-            ("struct A(Vec<IdRc<u64>>);", "`IdRc<u64>` has no tally"),
+            ("struct A {\n    // allocative: size 8\n    a: u64,\n}", "the field a is not shown whole"),
+            ("struct A(Vec<IdRc<u64>>);", "`IdRc<u64>` has none"),
             ("enum A {\n    B(u64),\n}", "it is an enum of one variant"),
             ("enum A<T> {\n    B(u64, T),\n    C,\n}", "it has parameters, and a variant of several fields"),
         ):
             text = f"use allocative::IdRc;\nuse std::marker::PhantomData;\n#[derive(Drop)]\n{text}\n"
             status, output, told = self.run_it(text, "--counted")
-            self.assertEqual((status, output, len(told)), (4, "", 1))
-            self.assertIn(f"4: A: no tally, as {why}: write it in a file of its own", told[0])
+            self.assertEqual((status, told), (0, [f"implement: A has no tally, as {why}"]))
+            self.assertNotIn("Tally", output)
+
+    def test_fields_with_tallies_in_a_type_without(self) -> None:
+        text = "#[derive(Drop)]\nstruct B(Vec<u64>, IdRc<u64>, Vec<A>);\n#[derive(Drop)]\nstruct A(B, Vec<B>);\n"
+        _, output, told = self.run_it("use allocative::IdRc;\n" + text.replace("Vec<A>", "Vec<String>"), "--counted")
+        self.assertEqual(told, [f"implement: {name} has no tally, as `{why}` has none" for name, why in (("B", "IdRc<u64>"), ("A", "B"))])
+        self.assertEqual(output.count(" = CountedField("), 2)
 
     def test_lines_that_are_asked_for(self) -> None:
         with open(os.path.join(self.top, "crates.txt"), "w", encoding="utf-8") as file:
