@@ -8,7 +8,7 @@ ghost use Rattle.allocative_tally.specs.Shapes.{Beside, EntryAt, Wide};
 use super::*;
 use allocative::{Allocative, Described, Field, Part, Record, Refusal, Visitor, Whole};
 use allocative_tally::field::{CountedField, FieldSum, FieldTally, count, count_own};
-use allocative_tally::tally::{Entries, InlineSum, Sum, Tallied, Tally};
+use allocative_tally::tally::{CountError, Entries, InlineSum, Sum, Tallied, Tally};
 
 type NoteLayout = Record<(String, (u64, (String, ())))>;
 
@@ -91,7 +91,7 @@ impl Tally for NoteTally {
 impl Tallied for Note {
     type Tally = NoteTally;
 
-    fn tally(&self, tally: &mut Self::Tally) -> Result<(), Refusal> {
+    fn tally(&self, tally: &mut Self::Tally) -> Result<(), CountError> {
         count_own(&mut tally.own, <Note>::size())?;
         count(&mut tally.tenant, &self.tenant)?;
         count(&mut tally.key, &self.key)?;

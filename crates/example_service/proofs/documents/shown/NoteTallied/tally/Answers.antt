@@ -5,7 +5,7 @@ use Rattle.example_service.proofs.documents.shown.NoteTallied.tally.Goals as goa
 
 pub returns : goal.returns
 returns c =
-    whole_counted c.size.ensures c.in_ok-count_own.ensures
+    whole_counted c.size.ensures c.in_ok-count_own.ensures.ok
     (both_counted
     (field_counted c.in_ok-count.ensures)
     (both_counted
