@@ -1,16 +1,17 @@
 -- Numbers in chunks as one list: reads, a number that is put in, a chunk that is cut in two, and what a search finds.
 use Rattle.std.proofs.Common.{◌≡◌, ℕ, zero, suc, ◌+◌, ◌-◌, ◌<◌, ◌≤◌, List, [], ◌∷◌, ◌++◌, length, length-append, get_or}
-use Rattle.std.proofs.Common.{set, take, map, refl, sym, ap, subst₂, ◌∙◌, arith, inl, inr, append_assoc, append-nil}
-use Rattle.allocative_collectors.proofs.Common.{Less, Key, key_cmp, key_in, KeysRise, IsKeyGap}
-use Rattle.std.specs.List.{insert}
+use Rattle.std.proofs.Common.{set, take, map, refl, sym, ap, subst, subst₂, ◌∙◌, Some, arith, inl, inr, append_assoc, append-nil}
+use Rattle.allocative_collectors.proofs.Common.{Less, Greater, Key, key_cmp, key_in, KeysRise, IsKeyGap}
+use Rattle.std.specs.List.{insert, slice_get}
 use Rattle.std.proofs.lemmas.Bool.{cases_lt}
 use Rattle.std.proofs.lemmas.Grind.{flat_map-append}
 use Rattle.std.proofs.lemmas.List.{get_or-map, length-map, get_or-append_right, take_all}
+use Rattle.std.proofs.lemmas.Option.{get_or_from_slice_get, slice_get-get_or, slice_get_within}
 use Rattle.std.proofs.lemmas.List.Concat.{get_or-flat_map}
 use Rattle.std.proofs.lemmas.List.Edits.{insert-append_left, insert-append_right}
 use Rattle.allocative_collectors.specs.declared.children.Chunk.{Chunk}
 use Rattle.allocative_collectors.specs.Chunked.{numbers_in, flat, before, chunk_at}
-use Rattle.allocative_collectors.proofs.Searched.{smaller_up_to, greater_from}
+use Rattle.allocative_collectors.proofs.Searched.{smaller_up_to, greater_from, gap_between}
 
 -- ---- how many numbers stand before a chunk
 -- If there is a chunk i, `chunk_at` has its numbers.
@@ -61,6 +62,14 @@ pub in_chunk : (cs : List Chunk) (i j : ℕ) (e : Chunk) → i < length cs → j
     (before cs i + j < length (flat cs)) × (get_or (flat cs) (before cs i + j) 0
     ≡ get_or (numbers_in (get_or cs i e)) j 0)
 in_chunk cs i j e h lt = (omega (arith, ap length (chunk_is cs i e h), before_more cs i h, before_within cs (suc i)), get_or-flat_map numbers_in cs i j e 0 h lt)
+
+-- number j of a chunk that is read
+pub number_read : (cs : List Chunk) (i j n : ℕ) (x : Chunk) → i < length cs → x ≡ get_or cs i x →
+    slice_get (numbers_in x) j ≡ Some n
+    → (before cs i + j < length (flat cs)) × (get_or (flat cs) (before cs i + j) 0 ≡ n)
+number_read cs i j n x h read is =
+    let there = in_chunk cs i j x h (subst (λ (y : Chunk). j < length (numbers_in y)) read (slice_get_within (numbers_in x) j n is)) in
+    (there.0, there.1 ∙ (ap (λ (y : Chunk). get_or (numbers_in y) j 0) (sym read) ∙ get_or_from_slice_get (numbers_in x) j n 0 is))
 
 -- ---- a number that is put in
 -- a chunk with the same numbers
@@ -144,6 +153,31 @@ module _ (K : ℕ → Key) (cs : List Chunk) (rise : KeysRise (map K (flat cs)))
           ∙ sym (get_or-append_right (numbers_in c) (flat cs) (length (numbers_in c)) n 0 refl
           (omega (arith, before_suc c cs i))))
           ∙ sym (get_or-map K (flat (c ∷ cs)) n 0 [] within)
+
+  module _ (i : ℕ) (x : Chunk) (h : i < length cs) (read : x ≡ get_or cs i x) where
+    key_read : (j n : ℕ) → slice_get (numbers_in x) j ≡ Some n → key_in keys (before cs i + j) ≡ K n
+    key_read j n is =
+        let there = number_read cs i j n x h read is in
+        get_or-map K (flat cs) (before cs i + j) 0 [] there.0 ∙ ap K there.1
+
+    -- a key belongs at number j of the chunk if the key there is greater, and the one before is smaller
+    pub gap_at : (k : Key) (j n : ℕ) → slice_get (numbers_in x) j ≡ Some n → key_cmp (K n) k ≡ Greater →
+        (j ≡ 0 → i ≡ 0) → ((m : ℕ) → j ≡ m + 1 → key_cmp (K (get_or (numbers_in x) m 0)) k ≡ Less) →
+        IsKeyGap (map K (flat cs)) k (before cs i + j)
+    gap_at k j n is greater start smaller =
+        let within = slice_get_within (numbers_in x) j n is in
+        let order = λ (l : Key). key_cmp l k in
+        gap_between keys rise k (before cs i + j)
+        (omega (arith, (number_read cs i j n x h read is).0, length-map (flat cs) K))
+        (ap order (key_read j n is) ∙ greater)
+        (λ m behind. elim (cases_lt 0 j) [
+          | inl some ↦
+              let index : before cs i + (j - 1) ≡ m = omega arith in
+              ap (λ (q : ℕ). order (key_in keys q)) (sym index)
+              ∙ (ap order (key_read (j - 1) _ (slice_get-get_or (numbers_in x) (j - 1) 0 (omega arith)))
+              ∙ smaller (j - 1) (omega arith))
+          | inr none ↦ absurd (omega (arith, ap (before cs) (start (omega arith))))
+        ])
 
   pub firsts_rise : KeysRise (map (λ (c : Chunk). K c.first) cs)
   firsts_rise i j lt h =

@@ -1,5 +1,5 @@
 -- What a comparison with one key says of the others, if keys rise, and what a binary search finds.
-use Rattle.std.proofs.Common.{◌≡◌, ℕ, zero, suc, true, refl, ◌+◌, ◌<◌, ◌≤◌, List, [], ◌∷◌, length, get_or, map, Result}
+use Rattle.std.proofs.Common.{◌≡◌, ℕ, zero, suc, true, refl, ◌+◌, ◌-◌, ◌<◌, ◌≤◌, List, [], ◌∷◌, length, get_or, map, Result}
 use Rattle.std.proofs.Common.{Ok, Err, IfOk, IfErr, ap, subst₂, ◌∙◌, arith, inl, inr}
 use Rattle.allocative_collectors.proofs.Common.{Ordering, Less, Equal, Greater, is_lt, ordering_reverse, Key, key_cmp}
 use Rattle.allocative_collectors.proofs.Common.{key_in, KeysRise, IsKeyGap}
@@ -33,6 +33,15 @@ module _ (ks : List Key) (rise : KeysRise ks) (k : Key) where
         key_total.antisymm (key_in ks j) k ∙ ap ordering_reverse
         (key_total.trans k (key_in ks m) (key_in ks j) before (rise m j (omega arith) h))
   ]
+
+  -- a key belongs at a place if the key there is greater, and the one before is smaller
+  pub gap_between : (n : ℕ) → n < length ks → key_cmp (key_in ks n) k ≡ Greater →
+      ((m : ℕ) → n ≡ m + 1 → key_cmp (key_in ks m) k ≡ Less) → IsKeyGap ks k n
+  gap_between n h greater less = record {
+    in_range = omega arith;
+    smaller_before = λ j lt. smaller_up_to (n - 1) (omega arith) (less (n - 1) (omega arith)) j (omega arith);
+    greater_after = greater_from n greater;
+  }
 
   -- all keys are smaller if the last one is
   pub gap_behind : (n m : ℕ) → n ≡ length ks → m + 1 ≡ n → key_cmp (key_in ks m) k ≡ Less → IsKeyGap ks k n

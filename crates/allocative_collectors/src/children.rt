@@ -1,18 +1,18 @@
 //! The numbers of a node's children, in an order that the caller keeps.
-ghost use Rattle.std.specs.Prelude.{◌≡◌, ◌<◌, ◌≤◌, [], ◌++◌, length, IfOk, IfSome, OnOk, OnErr, IsTrue, slice_index_or};
+ghost use Rattle.std.specs.Prelude.{◌≡◌, ◌<◌, ◌≤◌, [], ◌++◌, length, IfOk, IfSome, OnOk, OnErr, IsTrue, slice_index_or, slice_get, Some};
 ghost use Rattle.std.specs.List.{insert};
-ghost use Rattle.allocative_collectors.specs.Chunked.{numbers, numbers_in, flat, chunk_at, IsPlace, IsPlaceIn, place_in, flat_place, IsLast};
+ghost use Rattle.allocative_collectors.specs.Chunked.{numbers, numbers_in, flat, IsPlace, IsPlaceIn, place_in, flat_place, IsLast};
 
 use smallvec::SmallVec;
 use std::alloc::{AllocError, Global};
 
 /// How many numbers are one list, and at how many a chunk is cut in two.
-const MOST: usize = 512;
+pub(crate) const MOST: usize = 512;
 
 /// Numbers in an order that the caller keeps.
 ///
 /// Up to `MOST` numbers are one list, of which four need no memory of their own. More are in chunks, so that a number
-/// that is put in the middle moves few others.
+/// that is put in the middle moves few others. If memory ran out, a longer list may have stayed one.
 #[derive(Drop)]
 pub(crate) enum Children {
     Few(SmallVec<u32, 4>),
@@ -24,6 +24,8 @@ pub(crate) enum Children {
 pub(crate) struct Chunk {
     pub(crate) first: u32,
     pub(crate) rest: Vec<u32>,
+    /// The starts of the keys of the first numbers, as far as they are known. They are guesses.
+    pub(crate) starts: Vec<u64>,
 }
 
 /// A place among numbers: a chunk, and a place in it. One list counts as one chunk.
@@ -84,27 +86,33 @@ impl Children {
         }
     }
 
-    /// Puts a number at a place. The only error is that memory runs out, and then the numbers are as they were.
-    pub(crate) fn insert(&mut self, place: Place, number: u32) -> Result<(), AllocError>
+    /// Puts a number at a place, with its key. The only error is that memory runs out, and then the numbers are as they
+    /// were.
+    pub(crate) fn insert(&mut self, place: Place, number: u32, key: &str) -> Result<(), AllocError>
         requires { IsPlace self.old place }
         ensures ok { OnOk result
             (numbers self.new ≡ insert (numbers self.old) (flat_place self.old place) number) }
         ensures err { OnErr result (numbers self.new ≡ numbers self.old) }
     {
         match self {
-            Children::Few(list) if list.len() < MOST => list.insert(place.index, number)?,
-            Children::Few(list) => {
-                let mut chunks = one_chunk(*list.allocator(), list.as_slice())?;
-                insert_in(&mut chunks, place, number)?;
-                *self = Children::Many(chunks);
-            }
-            Children::Many(chunks) => insert_in(chunks, place, number)?,
+            Children::Few(list) => list.insert(place.index, number)?,
+            Children::Many(chunks) => insert_in(chunks, place, number, start_of(key))?,
         }
         Ok(())
     }
 }
 
 impl Chunk {
+    /// The number at an index.
+    pub(crate) fn get(&self, index: usize) -> Option<u32>
+        ensures { IfSome result (λ number. slice_get (numbers_in self.now) index ≡ Some number) }
+    {
+        match index.checked_sub(1) {
+            Some(behind) => self.rest.get(behind).copied(),
+            None => Some(self.first),
+        }
+    }
+
     /// The last number.
     fn last(&self) -> u32
         ensures { result ≡ slice_index_or (numbers_in self.now) (length self.now.rest.items) 0 }
@@ -115,8 +123,8 @@ impl Chunk {
         }
     }
 
-    // Puts a number at a place of the chunk.
-    fn insert(&mut self, index: usize, number: u32) -> Result<(), AllocError>
+    // Puts a number at a place of the chunk, with the start of its key.
+    fn insert(&mut self, index: usize, number: u32, start: u64) -> Result<(), AllocError>
         requires { index ≤ length (numbers_in self.old) }
         ensures ok { OnOk result (numbers_in self.new ≡ insert (numbers_in self.old) index number) }
         ensures err { OnErr result (numbers_in self.new ≡ numbers_in self.old) }
@@ -127,6 +135,7 @@ impl Chunk {
         } else {
             self.rest.insert(index - 1, number)?;
         }
+        put_start(&mut self.starts, index, start);
         Ok(())
     }
 
@@ -138,9 +147,15 @@ impl Chunk {
         ensures err { OnErr result (numbers_in self.new ≡ numbers_in self.old) }
     {
         let half = self.rest.len() / 2;
+        let known = self.starts.len().min(half + 1);
+        let starts = self.starts.split_off(known)?;
         let mut rest = self.rest.split_off(half)?;
         let first = rest.remove(0);
-        Ok(Chunk { first, rest })
+        Ok(Chunk {
+            first,
+            rest,
+            starts,
+        })
     }
 }
 
@@ -156,10 +171,30 @@ fn last_in(chunks: &[Chunk]) -> Option<(u32, Place)>
     Some((end.last(), Place { chunk, index }))
 }
 
-// A list as one chunk.
-fn one_chunk(alloc: Global, list: &[u32]) -> Result<Vec<Chunk>, AllocError>
-    ensures { IfOk result
-        (λ chunks. (flat chunks.items ≡ list.now) × (chunk_at chunks.items 0 ≡ list.now)) }
+/// The first eight bytes of a key as a number, with zeros after a shorter key. Keys whose starts differ have the order
+/// of their starts.
+pub(crate) fn start_of(key: &str) -> u64 {
+    let mut bytes = [0; 8];
+    for (to, from) in bytes.iter_mut().zip(key.as_bytes()) {
+        *to = *from;
+    }
+    u64::from_be_bytes(bytes)
+}
+
+// Puts the start of a key at an index. If memory runs out, the later ones are forgotten.
+fn put_start(starts: &mut Vec<u64>, index: usize, start: u64) {
+    if index <= starts.len() && starts.insert(index, start).is_err() {
+        starts.truncate(index);
+    }
+}
+
+/// A list as one chunk, with the starts of the keys. The only error is that memory runs out.
+pub(crate) fn one_chunk(
+    alloc: Global,
+    list: &[u32],
+    starts: Vec<u64>,
+) -> Result<Vec<Chunk>, AllocError>
+    ensures { IfOk result (λ chunks. flat chunks.items ≡ list.now) }
 {
     let mut chunks = Vec::with_capacity(alloc, 2)?;
     if let Some((first, rest)) = list.split_first() {
@@ -167,28 +202,36 @@ fn one_chunk(alloc: Global, list: &[u32]) -> Result<Vec<Chunk>, AllocError>
         chunks.push(Chunk {
             first: *first,
             rest,
+            starts,
         })?;
     }
     Ok(chunks)
 }
 
-// Puts a number at a place of the chunks.
-fn insert_in(chunks: &mut Vec<Chunk>, place: Place, number: u32) -> Result<(), AllocError>
+// Puts a number at a place of the chunks, with the start of its key.
+fn insert_in(
+    chunks: &mut Vec<Chunk>,
+    place: Place,
+    number: u32,
+    start: u64,
+) -> Result<(), AllocError>
     requires { IsPlaceIn chunks.old.items place }
     ensures ok { OnOk result
         (flat chunks.new.items ≡ insert (flat chunks.old.items) (place_in chunks.old.items place) number) }
     ensures err { OnErr result (flat chunks.new.items ≡ flat chunks.old.items) }
 {
     if place.chunk < chunks.len() {
-        let Ok(()) = chunks[place.chunk].insert(place.index, number) else {
+        let Ok(()) = chunks[place.chunk].insert(place.index, number, start) else {
             return Err(AllocError);
         };
         cut_at(chunks, place.chunk);
     } else {
         let rest = Vec::new(*chunks.allocator());
+        let starts = Vec::new(*chunks.allocator());
         chunks.push(Chunk {
             first: number,
             rest,
+            starts,
         })?;
     }
     Ok(())

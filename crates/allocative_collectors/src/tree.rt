@@ -1,5 +1,5 @@
 //! The paths that were entered, as an arena of nodes that refer to one another by number.
-ghost use Rattle.std.specs.Prelude.{◌≡◌, ◌+◌, ◌^◌, ◌<◌, ◌≤◌, [], ◌∷◌, ◌++◌, length, map, IfOk, IfErr, IfSome, IfNone, OnOk, OnErr, IsTrue, ◌↔◌, false, sum_by};
+ghost use Rattle.std.specs.Prelude.{◌≡◌, ◌+◌, ◌^◌, ◌<◌, ◌≤◌, [], ◌∷◌, ◌++◌, length, map, IfOk, IfErr, IfSome, IfNone, OnOk, OnErr, IsTrue, ◌↔◌, false, sum_by, ℕ, slice_index_or};
 ghost use Rattle.std.specs.List.{All};
 ghost use Rattle.allocative_graph.specs.Graph.{total as graph_total};
 ghost use Rattle.allocative_graph.specs.Sums.{entered, below as bytes_below};
@@ -9,11 +9,11 @@ ghost use Rattle.allocative_collectors.specs.Listed.{root_sum, put, total, path_
 ghost use Rattle.allocative_collectors.specs.Places.{AddedAt, TellsWhy};
 ghost use Rattle.allocative_collectors.specs.Finishing.{size_at_place, is_short, MakesGraph, MakesGraphAlone};
 ghost use Rattle.allocative_collectors.specs.Shapes.{leaf, bytes_at, keys_of, key_at, KeysRise, HasKey, IsKeyGap};
-ghost use Rattle.allocative_collectors.specs.Chunked.{numbers, flat, IsPlace, IsPlaceIn, place_in, flat_place};
+ghost use Rattle.allocative_collectors.specs.Chunked.{numbers, numbers_in, flat, IsPlace, IsPlaceIn, place_in, flat_place};
 ghost use Rattle.allocative_collectors.specs.Nodes.{shape, IsTree};
 ghost use Rattle.allocative_collectors.specs.Warned.{warning_of};
 
-use crate::children::{Children, Chunk, Place};
+use crate::children::{Children, Chunk, MOST, Place, one_chunk, start_of};
 use crate::output::{FlameGraphOutput, WarnedPath};
 use allocative_graph::flamegraph::{FlameGraph, push_child};
 use allocative_graph::key::Key;
@@ -243,9 +243,7 @@ impl Tree {
             self.expect_follower(at, expected);
             return Ok(expected);
         }
-        let node = self.search_child(at, key)?;
-        self.follow_last(at, node);
-        Ok(node)
+        self.unexpected_child(at, key)
     }
 
     /// Whether the node `number` is the child of the node `at` that has the key.
@@ -287,9 +285,34 @@ impl Tree {
         self.expect_follower(at, child);
     }
 
-    /// The child of the node `at` that has the key, found by a search. It is made if there is none.
+    /// The child of the node `at` that has the key and was not expected. It is made if there is none.
     #[cold]
     #[inline(never)]
+    fn unexpected_child(&mut self, at: usize, key: &Key) -> Result<usize, AllocError>
+        requires { at < length self.old }
+        ensures entered { IfOk result (IsEntered self.old self.new at key.now 0 false) }
+        ensures err { OnErr result (self.new ≡ self.old) }
+    {
+        let node = self.search_child(at, key)?;
+        self.follow_last(at, node);
+        self.cut_long_list(at);
+        Ok(node)
+    }
+
+    /// Cuts the list of a node's children into chunks if it is long. If memory runs out it stays one list.
+    fn cut_long_list(&mut self, at: usize)
+        requires { at < length self.old }
+        ensures { self.new ≡ self.old }
+    {
+        if let Children::Few(list) = &self.nodes[at].children
+            && list.len() > MOST
+            && let Ok(chunks) = chunks_of(self.alloc, &self.nodes, list.as_slice())
+        {
+            self.nodes[at].children = Children::Many(chunks);
+        }
+    }
+
+    /// The child of the node `at` that has the key, found by a search. It is made if there is none.
     fn search_child(&mut self, at: usize, key: &Key) -> Result<usize, AllocError>
         requires { at < length self.old }
         ensures entered { IfOk result (IsEntered self.old self.new at key.now 0 false) }
@@ -303,7 +326,7 @@ impl Tree {
                     return Err(AllocError);
                 };
                 self.nodes.reserve(1)?;
-                self.nodes[at].children.insert(place, number)?;
+                self.nodes[at].children.insert(place, number, key.as_str())?;
                 self.nodes.push(Node::new(self.alloc, key.copy(), at))?;
                 Ok(node)
             }
@@ -370,8 +393,95 @@ fn find_in_list(nodes: &[Node], list: &[u32], key: &Key) -> Result<u32, usize>
     }
 }
 
-/// The same for numbers in chunks. First the chunk is found, by the key of its first number.
+/// The same for numbers in chunks. The starts of the keys give a place, which mostly proves right.
 fn find_in_chunks(nodes: &[Node], chunks: &[Chunk], key: &Key) -> Result<u32, Place>
+    requires rise { KeysRise (keys_of (map shape nodes.now) (flat chunks.now)) }
+    ensures found { IfOk result (HasKey (map shape nodes.now) (flat chunks.now) key.now) }
+    ensures place { IfErr result (IsPlaceIn chunks.now) }
+    ensures absent { IfErr result (λ place.
+        IsKeyGap (keys_of (map shape nodes.now) (flat chunks.now)) key.now (place_in chunks.now place)) }
+{
+    let place = guess_place(nodes, chunks, key);
+    match find_at(nodes, chunks, key, place) {
+        Some(found) => found,
+        None => search_chunks(nodes, chunks, key),
+    }
+}
+
+/// The place where the starts of the keys say that a key is or belongs. Nothing rests on it.
+fn guess_place(nodes: &[Node], chunks: &[Chunk], key: &Key) -> Place {
+    let start = start_of(key.as_str());
+    let after = chunks.partition_point(|chunk: &Chunk| -> bool {
+        guess_order(nodes, chunk, 0, key, start).is_le()
+    });
+    let chunk = after.saturating_sub(1);
+    let index = match chunks.get(chunk) {
+        Some(chunk) => guess_index(nodes, chunk, key, start),
+        None => 0,
+    };
+    Place { chunk, index }
+}
+
+/// The same in one chunk.
+fn guess_index(nodes: &[Node], chunk: &Chunk, key: &Key, start: u64) -> usize {
+    let mut low = 0;
+    let mut size = chunk.rest.len() + 1;
+    while size > 1 {
+        let half = size / 2;
+        if guess_order(nodes, chunk, low + half, key, start).is_lt() {
+            low += half;
+        }
+        size -= half;
+    }
+    low + usize::from(guess_order(nodes, chunk, low, key, start).is_lt())
+}
+
+/// How the key of a number of a chunk compares with a key, by their starts if they differ.
+fn guess_order(nodes: &[Node], chunk: &Chunk, index: usize, key: &Key, start: u64) -> Ordering {
+    match chunk.starts.get(index) {
+        Some(known) if *known != start => known.cmp(&start),
+        _ => match chunk.get(index) {
+            Some(number) => compare(nodes, number, key),
+            None => Ordering::Greater,
+        },
+    }
+}
+
+/// What the search finds if it ends at this place, or None if it ends at another one.
+fn find_at(nodes: &[Node], chunks: &[Chunk], key: &Key, place: Place) -> Option<Result<u32, Place>>
+    requires rise { KeysRise (keys_of (map shape nodes.now) (flat chunks.now)) }
+    ensures found { IfSome result (λ end. IfOk end
+        (HasKey (map shape nodes.now) (flat chunks.now) key.now)) }
+    ensures place { IfSome result (λ end. IfErr end (IsPlaceIn chunks.now)) }
+    ensures absent { IfSome result (λ end. IfErr end (λ place.
+        IsKeyGap (keys_of (map shape nodes.now) (flat chunks.now)) key.now (place_in chunks.now place))) }
+{
+    let chunk = chunks.get(place.chunk)?;
+    let number = chunk.get(place.index)?;
+    match compare(nodes, number, key) {
+        Ordering::Equal => Some(Ok(number)),
+        Ordering::Greater if is_behind(nodes, chunk, place, key) => Some(Err(place)),
+        _ => None,
+    }
+}
+
+/// Whether the number before a place of the chunk has a smaller key, or there is none.
+fn is_behind(nodes: &[Node], chunk: &Chunk, place: Place, key: &Key) -> bool
+    ensures start { IsTrue result → place.index ≡ 0 → place.chunk ≡ 0 }
+    ensures smaller { IsTrue result → (j : ℕ) → place.index ≡ j + 1 → key_cmp
+        (key_at (map shape nodes.now) (slice_index_or (numbers_in chunk.now) j 0)) key.now ≡ Ordering.Less }
+{
+    match place.index.checked_sub(1) {
+        Some(before) => match chunk.get(before) {
+            Some(number) => compare(nodes, number, key).is_lt(),
+            None => false,
+        },
+        None => place.chunk == 0,
+    }
+}
+
+/// The same for numbers in chunks. First the chunk is found, by the key of its first number.
+fn search_chunks(nodes: &[Node], chunks: &[Chunk], key: &Key) -> Result<u32, Place>
     requires rise { KeysRise (keys_of (map shape nodes.now) (flat chunks.now)) }
     ensures found { IfOk result (HasKey (map shape nodes.now) (flat chunks.now) key.now) }
     ensures place { IfErr result (IsPlaceIn chunks.now) }
@@ -398,6 +508,21 @@ fn find_in_chunks(nodes: &[Node], chunks: &[Chunk], key: &Key) -> Result<u32, Pl
             index: index + 1,
         }),
     }
+}
+
+/// A list of children as chunks. The only error is that memory runs out.
+fn chunks_of(alloc: Global, nodes: &[Node], list: &[u32]) -> Result<Vec<Chunk>, AllocError>
+    ensures { IfOk result (λ chunks. flat chunks.items ≡ list.now) }
+{
+    let mut starts = Vec::with_capacity(alloc, list.len())?;
+    for &number in list {
+        let start = match nodes.get(number as usize) {
+            Some(node) => start_of(node.key.as_str()),
+            None => 0,
+        };
+        starts.push(start)?;
+    }
+    one_chunk(alloc, list, starts)
 }
 
 /// The bytes of some nodes together.

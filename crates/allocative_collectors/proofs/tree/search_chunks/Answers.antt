@@ -8,8 +8,8 @@ use Rattle.allocative_collectors.specs.declared.children.Chunk.{Chunk}
 use Rattle.allocative_collectors.specs.Chunked.{flat, before}
 use Rattle.allocative_collectors.proofs.Searched.{searched}
 use Rattle.allocative_collectors.proofs.Chunks.{chunk_is, in_chunk, firsts_rise, rest_rises, gap_at_start, gap_in_chunk}
-use Rattle.allocative_collectors.proofs.tree.find_in_chunks.Goals as goal
-use Rattle.allocative_collectors.proofs.tree.find_in_chunks.Goals.{In-Err, After-as_slice}
+use Rattle.allocative_collectors.proofs.tree.search_chunks.Goals as goal
+use Rattle.allocative_collectors.proofs.tree.search_chunks.Goals.{In-Err, After-as_slice}
 
 pub returns-in-Ok-clause-found : goal.returns-in-Ok-clause-found
 returns-in-Ok-clause-found c =
@@ -46,7 +46,7 @@ within c =
     let some : c.in-Err.after ≢ 0 = c.if-after-eq0.false in
     omega (arith, c.in-Err.ensures.bound)
 
--- A step of `find_in_chunks`: it searches the numbers of the chunk before the gap, without the first one.
+-- A step of `search_chunks`: it searches the numbers of the chunk before the gap, without the first one.
 listed : (c : After-as_slice) → c.as_slice.result.now
     ≡ (let x = get_or c.args.chunks.now (c.in-Err.after - 1) c.index-chunks-chunk-2.result in x.rest.items)
 listed c = c.as_slice.ensures.value
