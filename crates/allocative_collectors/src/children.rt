@@ -7,7 +7,7 @@ use smallvec::SmallVec;
 use std::alloc::{AllocError, Global};
 
 /// How many numbers are one list, and at how many a chunk is cut in two.
-pub(crate) const MOST: usize = 512;
+pub(crate) const MOST: usize = 256;
 
 /// Numbers in an order that the caller keeps.
 ///
@@ -24,7 +24,8 @@ pub(crate) enum Children {
 pub(crate) struct Chunk {
     pub(crate) first: u32,
     pub(crate) rest: Vec<u32>,
-    /// The starts of the keys of the first numbers, as far as they are known. They are guesses.
+    /// The start of the first number's key, and below those of the others, as far as they are known. They are guesses.
+    pub(crate) start: u64,
     pub(crate) starts: Vec<u64>,
 }
 
@@ -131,11 +132,13 @@ impl Chunk {
     {
         if index == 0 {
             self.rest.insert(0, self.first)?;
+            put_start(&mut self.starts, 0, self.start);
             self.first = number;
+            self.start = start;
         } else {
             self.rest.insert(index - 1, number)?;
+            put_start(&mut self.starts, index - 1, start);
         }
-        put_start(&mut self.starts, index, start);
         Ok(())
     }
 
@@ -149,17 +152,19 @@ impl Chunk {
         let half = self.rest.len() / 2;
         let known = self.starts.len().min(half + 1);
         let starts = self.starts.split_off(known)?;
+        let start = self.starts.pop().unwrap_or(self.start);
         let mut rest = self.rest.split_off(half)?;
         let first = rest.remove(0);
         Ok(Chunk {
             first,
             rest,
+            start,
             starts,
         })
     }
 }
 
-// The last number of the chunks, and the place behind it.
+// The last number of the chunks, and the place behind it: in a new chunk, if the last one is full.
 fn last_in(chunks: &[Chunk]) -> Option<(u32, Place)>
     ensures place { IfSome result (λ end. IsPlaceIn chunks.now end.1) }
     ensures last { IfSome result
@@ -167,18 +172,27 @@ fn last_in(chunks: &[Chunk]) -> Option<(u32, Place)>
 {
     let chunk = chunks.len().checked_sub(1)?;
     let end = &chunks[chunk];
+    let number = end.last();
     let index = end.rest.len() + 1;
-    Some((end.last(), Place { chunk, index }))
+    if index < MOST {
+        return Some((number, Place { chunk, index }));
+    }
+    let behind = Place {
+        chunk: chunk + 1,
+        index: 0,
+    };
+    Some((number, behind))
 }
 
 /// The first eight bytes of a key as a number, with zeros after a shorter key. Keys whose starts differ have the order
 /// of their starts.
 pub(crate) fn start_of(key: &str) -> u64 {
-    let mut bytes = [0; 8];
-    for (to, from) in bytes.iter_mut().zip(key.as_bytes()) {
-        *to = *from;
+    let bytes = key.as_bytes();
+    let mut start: u64 = 0;
+    for index in 0..8 {
+        start = start.rotate_left(8) | u64::from(bytes.get(index).copied().unwrap_or(0));
     }
-    u64::from_be_bytes(bytes)
+    start
 }
 
 // Puts the start of a key at an index. If memory runs out, the later ones are forgotten.
@@ -192,16 +206,21 @@ fn put_start(starts: &mut Vec<u64>, index: usize, start: u64) {
 pub(crate) fn one_chunk(
     alloc: Global,
     list: &[u32],
-    starts: Vec<u64>,
+    mut starts: Vec<u64>,
 ) -> Result<Vec<Chunk>, AllocError>
     ensures { IfOk result (λ chunks. flat chunks.items ≡ list.now) }
 {
     let mut chunks = Vec::with_capacity(alloc, 2)?;
     if let Some((first, rest)) = list.split_first() {
         let rest = Vec::from_slice(alloc, rest)?;
+        let start = match starts.is_empty() {
+            true => 0,
+            false => starts.remove(0),
+        };
         chunks.push(Chunk {
             first: *first,
             rest,
+            start,
             starts,
         })?;
     }
@@ -231,6 +250,7 @@ fn insert_in(
         chunks.push(Chunk {
             first: number,
             rest,
+            start,
             starts,
         })?;
     }

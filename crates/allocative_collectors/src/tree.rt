@@ -411,40 +411,33 @@ fn find_in_chunks(nodes: &[Node], chunks: &[Chunk], key: &Key) -> Result<u32, Pl
 /// The place where the starts of the keys say that a key is or belongs. Nothing rests on it.
 fn guess_place(nodes: &[Node], chunks: &[Chunk], key: &Key) -> Place {
     let start = start_of(key.as_str());
-    let after = chunks.partition_point(|chunk: &Chunk| -> bool {
-        guess_order(nodes, chunk, 0, key, start).is_le()
-    });
-    let chunk = after.saturating_sub(1);
-    let index = match chunks.get(chunk) {
-        Some(chunk) => guess_index(nodes, chunk, key, start),
-        None => 0,
-    };
-    Place { chunk, index }
+    let after = chunks.partition_point(|chunk: &Chunk| -> bool { chunk.start < start });
+    match after.checked_sub(1) {
+        Some(chunk) => Place {
+            chunk,
+            index: guess_index(nodes, &chunks[chunk], key, start),
+        },
+        None => Place { chunk: 0, index: 0 },
+    }
 }
 
-/// The same in one chunk.
+/// The same in a chunk whose first key comes before.
 fn guess_index(nodes: &[Node], chunk: &Chunk, key: &Key, start: u64) -> usize {
     let mut low = 0;
-    let mut size = chunk.rest.len() + 1;
-    while size > 1 {
-        let half = size / 2;
-        if guess_order(nodes, chunk, low + half, key, start).is_lt() {
-            low += half;
+    let mut high = chunk.rest.len();
+    while low < high {
+        let middle = low + (high - low) / 2;
+        let is_less = match chunk.starts.get(middle) {
+            Some(known) if *known != start => *known < start,
+            _ => compare(nodes, chunk.rest[middle], key).is_lt(),
+        };
+        if is_less {
+            low = middle + 1;
+        } else {
+            high = middle;
         }
-        size -= half;
     }
-    low + usize::from(guess_order(nodes, chunk, low, key, start).is_lt())
-}
-
-/// How the key of a number of a chunk compares with a key, by their starts if they differ.
-fn guess_order(nodes: &[Node], chunk: &Chunk, index: usize, key: &Key, start: u64) -> Ordering {
-    match chunk.starts.get(index) {
-        Some(known) if *known != start => known.cmp(&start),
-        _ => match chunk.get(index) {
-            Some(number) => compare(nodes, number, key),
-            None => Ordering::Greater,
-        },
-    }
+    low + 1
 }
 
 /// What the search finds if it ends at this place, or None if it ends at another one.

@@ -1,9 +1,9 @@
--- What is searched lies in the chunk.
-use Rattle.std.proofs.Common.{◌+◌, ◌<◌, ◌≤◌}
+-- What is still searched lies in the chunk.
+use Rattle.std.proofs.Common.{◌-◌, ◌≤◌, length}
 use Rattle.allocative_collectors.proofs.tree.guess_index.Given as goal
 
-abbrev pub invariant-loop-size : goal.invariant-loop-size
-invariant-loop-size l = (0 < l.size) × (l.low + l.size ≤ l.initial.size)
+abbrev pub invariant-loop-low : goal.invariant-loop-low
+invariant-loop-low l = (l.low ≤ l.high) × (l.high ≤ length l.chunk.rest.items)
 
-abbrev pub decreases-loop-size : goal.decreases-loop-size
-decreases-loop-size l = l.size
+abbrev pub decreases-loop-low : goal.decreases-loop-low
+decreases-loop-low l = l.high - l.low
