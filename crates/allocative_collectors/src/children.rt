@@ -24,8 +24,9 @@ pub(crate) enum Children {
 pub(crate) struct Chunk {
     pub(crate) first: u32,
     pub(crate) rest: Vec<u32>,
-    /// The start of the first number's key, and below those of the others, as far as they are known. They are guesses.
+    /// The start of the first number's key. It is a guess, as those of the others are.
     pub(crate) start: u64,
+    /// The starts of the others' keys, from the first one on, as far as they are known.
     pub(crate) starts: Vec<u64>,
 }
 
@@ -152,6 +153,7 @@ impl Chunk {
         let half = self.rest.len() / 2;
         let known = self.starts.len().min(half + 1);
         let starts = self.starts.split_off(known)?;
+        // The last start that is left is that of the upper half's first number.
         let start = self.starts.pop().unwrap_or(self.start);
         let mut rest = self.rest.split_off(half)?;
         let first = rest.remove(0);
@@ -213,9 +215,10 @@ pub(crate) fn one_chunk(
     let mut chunks = Vec::with_capacity(alloc, 2)?;
     if let Some((first, rest)) = list.split_first() {
         let rest = Vec::from_slice(alloc, rest)?;
-        let start = match starts.is_empty() {
-            true => 0,
-            false => starts.remove(0),
+        let start = if starts.is_empty() {
+            0
+        } else {
+            starts.remove(0)
         };
         chunks.push(Chunk {
             first: *first,

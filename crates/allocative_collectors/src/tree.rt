@@ -411,7 +411,13 @@ fn find_in_chunks(nodes: &[Node], chunks: &[Chunk], key: &Key) -> Result<u32, Pl
 /// The place where the starts of the keys say that a key is or belongs. Nothing rests on it.
 fn guess_place(nodes: &[Node], chunks: &[Chunk], key: &Key) -> Place {
     let start = start_of(key.as_str());
-    let after = chunks.partition_point(|chunk: &Chunk| -> bool { chunk.start < start });
+    let after = chunks.partition_point(|chunk: &Chunk| -> bool {
+        if chunk.start == start {
+            compare(nodes, chunk.first, key).is_lt()
+        } else {
+            chunk.start < start
+        }
+    });
     match after.checked_sub(1) {
         Some(chunk) => Place {
             chunk,
