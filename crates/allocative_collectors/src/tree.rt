@@ -393,7 +393,8 @@ fn find_in_list(nodes: &[Node], list: &[u32], key: &Key) -> Result<u32, usize>
     }
 }
 
-/// The same for numbers in chunks. The starts of the keys give a place, which mostly proves right.
+/// The same for numbers in chunks. The starts of the keys give a place, which is tested. If it is not the one, the keys
+/// alone are searched.
 fn find_in_chunks(nodes: &[Node], chunks: &[Chunk], key: &Key) -> Result<u32, Place>
     requires rise { KeysRise (keys_of (map shape nodes.now) (flat chunks.now)) }
     ensures found { IfOk result (HasKey (map shape nodes.now) (flat chunks.now) key.now) }
@@ -427,7 +428,7 @@ fn guess_place(nodes: &[Node], chunks: &[Chunk], key: &Key) -> Place {
     }
 }
 
-/// The same in a chunk whose first key comes before.
+/// The index of that place in its chunk, whose first key comes before. Nothing rests on it.
 fn guess_index(nodes: &[Node], chunk: &Chunk, key: &Key, start: u64) -> usize {
     let mut low = 0;
     let mut high = chunk.rest.len();
@@ -446,7 +447,7 @@ fn guess_index(nodes: &[Node], chunk: &Chunk, key: &Key, start: u64) -> usize {
     low + 1
 }
 
-/// What the search finds if it ends at this place, or None if it ends at another one.
+/// What a search finds if it ends at this place. None says nothing.
 fn find_at(nodes: &[Node], chunks: &[Chunk], key: &Key, place: Place) -> Option<Result<u32, Place>>
     requires rise { KeysRise (keys_of (map shape nodes.now) (flat chunks.now)) }
     ensures found { IfSome result (λ end. IfOk end
@@ -479,7 +480,7 @@ fn is_behind(nodes: &[Node], chunk: &Chunk, place: Place, key: &Key) -> bool
     }
 }
 
-/// The same for numbers in chunks. First the chunk is found, by the key of its first number.
+/// What `find_in_chunks` finds, by the keys alone. First the chunk is found, by the key of its first number.
 fn search_chunks(nodes: &[Node], chunks: &[Chunk], key: &Key) -> Result<u32, Place>
     requires rise { KeysRise (keys_of (map shape nodes.now) (flat chunks.now)) }
     ensures found { IfOk result (HasKey (map shape nodes.now) (flat chunks.now) key.now) }
