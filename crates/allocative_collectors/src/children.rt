@@ -6,13 +6,16 @@ ghost use Rattle.allocative_collectors.specs.Chunked.{numbers, numbers_in, flat,
 use smallvec::SmallVec;
 use std::alloc::{AllocError, Global};
 
-/// How many numbers are one list, and at how many a chunk is cut in two.
-pub(crate) const MOST: usize = 256;
+/// How many numbers are one list at most.
+pub(crate) const LONGEST_LIST: usize = 512;
+
+/// At how many numbers a chunk is cut in two.
+const LONGEST_CHUNK: usize = 256;
 
 /// Numbers in an order that the caller keeps.
 ///
-/// Up to `MOST` numbers are one list, of which four need no memory of their own. More are in chunks, so that a number
-/// that is put in the middle moves few others. If memory ran out, a longer list may have stayed one.
+/// Up to `LONGEST_LIST` numbers are one list, of which four need no memory of their own. More are in chunks, so that a
+/// number that is put in the middle moves few others. If memory ran out, a longer list may have stayed one.
 #[derive(Drop)]
 pub(crate) enum Children {
     Few(SmallVec<u32, 4>),
@@ -176,7 +179,7 @@ fn last_in(chunks: &[Chunk]) -> Option<(u32, Place)>
     let end = &chunks[chunk];
     let number = end.last();
     let index = end.rest.len() + 1;
-    if index < MOST {
+    if index < LONGEST_CHUNK {
         return Some((number, Place { chunk, index }));
     }
     let behind = Place {
@@ -260,12 +263,12 @@ fn insert_in(
     Ok(())
 }
 
-// Cuts a chunk in two if it has more than `MOST` numbers. If memory runs out it stays whole.
+// Cuts a chunk in two if it has more than `LONGEST_CHUNK` numbers. If memory runs out it stays whole.
 fn cut_at(chunks: &mut Vec<Chunk>, at: usize)
     requires { at < length chunks.old.items }
     ensures { flat chunks.new.items ≡ flat chunks.old.items }
 {
-    if chunks[at].rest.len() < MOST || chunks.reserve(1).is_err() {
+    if chunks[at].rest.len() < LONGEST_CHUNK || chunks.reserve(1).is_err() {
         return;
     }
     let Ok(upper) = chunks[at].cut() else {

@@ -13,7 +13,7 @@ ghost use Rattle.allocative_collectors.specs.Chunked.{numbers, numbers_in, flat,
 ghost use Rattle.allocative_collectors.specs.Nodes.{shape, IsTree};
 ghost use Rattle.allocative_collectors.specs.Warned.{warning_of};
 
-use crate::children::{Children, Chunk, MOST, Place, one_chunk, start_of};
+use crate::children::{Children, Chunk, LONGEST_LIST, Place, one_chunk, start_of};
 use crate::output::{FlameGraphOutput, WarnedPath};
 use allocative_graph::flamegraph::{FlameGraph, push_child};
 use allocative_graph::key::Key;
@@ -305,7 +305,7 @@ impl Tree {
         ensures { self.new ≡ self.old }
     {
         if let Children::Few(list) = &self.nodes[at].children
-            && list.len() > MOST
+            && list.len() > LONGEST_LIST
             && let Ok(chunks) = chunks_of(self.alloc, &self.nodes, list.as_slice())
         {
             self.nodes[at].children = Children::Many(chunks);

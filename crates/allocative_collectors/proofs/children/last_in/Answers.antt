@@ -35,13 +35,13 @@ last c =
       behind = all;
     }
 
-pub returns-then-index-lt-MOST-clause-place : goal.returns-then-index-lt-MOST-clause-place
-returns-then-index-lt-MOST-clause-place c =
-    omega (arith, read (goal.at.returns-then-index-lt-MOST-clause-place c).After-len-index)
+pub returns-then-index-lt-LONGEST_CHUNK-clause-place : goal.returns-then-index-lt-LONGEST_CHUNK-clause-place
+returns-then-index-lt-LONGEST_CHUNK-clause-place c =
+    omega (arith, read (goal.at.returns-then-index-lt-LONGEST_CHUNK-clause-place c).After-len-index)
 
-pub returns-then-index-lt-MOST-clause-last : goal.returns-then-index-lt-MOST-clause-last
-returns-then-index-lt-MOST-clause-last c =
-    let here = (goal.at.returns-then-index-lt-MOST-clause-last c).After-len-index in
+pub returns-then-index-lt-LONGEST_CHUNK-clause-last : goal.returns-then-index-lt-LONGEST_CHUNK-clause-last
+returns-then-index-lt-LONGEST_CHUNK-clause-last c =
+    let here = (goal.at.returns-then-index-lt-LONGEST_CHUNK-clause-last c).After-len-index in
     let l = last here in
     let more = before_more c.args.chunks.now c.in_ok-chunk.chunk (omega (arith, is_last here)) in
     record { some = l.some; is = l.is; behind = omega (arith, l.behind, read here) }
