@@ -88,7 +88,7 @@ fn count_table(count: usize, table: &mut Sum, buckets: &mut Sum) -> Result<(), C
 }
 
 impl<K: Tallied + Eq + Hash, V: Tallied> Tallied for IndexMap<K, V> {
-    type Tally = NamedTally<IndexMap<K, V>, IndexTally<PairsTally<K::Tally, V::Tally>>>;
+    type Tally = NamedTally<IndexMap<(), ()>, IndexTally<PairsTally<K::Tally, V::Tally>>>;
 
     fn tally(&self, tally: &mut Self::Tally) -> Result<(), CountError> {
         let inside = &mut tally.inside;
@@ -106,7 +106,7 @@ impl<K: Tallied + Eq + Hash, V: Tallied> Tallied for IndexMap<K, V> {
 }
 
 impl<T: Tallied + Eq + Hash> Tallied for IndexSet<T> {
-    type Tally = NamedTally<IndexSet<T>, IndexTally<ValuesTally<T::Tally>>>;
+    type Tally = NamedTally<IndexSet<()>, IndexTally<ValuesTally<T::Tally>>>;
 
     fn tally(&self, tally: &mut Self::Tally) -> Result<(), CountError> {
         let inside = &mut tally.inside;
@@ -208,7 +208,7 @@ fn count_slab<T: Tallied>(
 }
 
 impl<T: Tallied> Tallied for Slab<T> {
-    type Tally = NamedTally<Slab<T>, BufferTally<T, T::Tally>>;
+    type Tally = NamedTally<Slab<()>, BufferTally<T, T::Tally>>;
 
     fn tally(&self, tally: &mut Self::Tally) -> Result<(), CountError> {
         tally.own.add(40)?;
