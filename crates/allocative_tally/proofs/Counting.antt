@@ -1,9 +1,9 @@
 -- How what was counted composes as what is shown does.
 use Rattle.std.proofs.Common.{◌≡◌, ◌≤◌, ◌<◌, ◌+◌, ◌^◌, ℕ, Bool, true, false, List, [], ◌∷◌, ◌++◌, Option, Some}
 use Rattle.std.proofs.Common.{None}
-use Rattle.std.proofs.Common.{Result, Ok, Err, IfOk, refl, sym, subst, ◌∙◌, arith}
+use Rattle.std.proofs.Common.{refl, sym, subst, ◌∙◌, arith}
 use Rattle.std.proofs.lemmas.Bool.{false≢true}
-use Rattle.allocative.proofs.Common.{Refusal, Key, Forest, Empty, followed_by, entry_of, Showing, Nothing, Both}
+use Rattle.allocative.proofs.Common.{Key, Forest, Empty, followed_by, entry_of, Showing, Nothing, Both}
 use Rattle.allocative.proofs.Common.{InsideAs, Inside, Field, sized, each_shows}
 use Rattle.allocative_graph.specs.Owned.{direct}
 use Rattle.allocative_graph.proofs.Owned.{direct-following}
