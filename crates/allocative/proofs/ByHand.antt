@@ -2,9 +2,10 @@
 use Rattle.std.proofs.Common.{◌≡◌, ℕ, suc, Bool, true, false, Some, Result, Ok, refl, ap, subst, arith}
 use Rattle.allocative.proofs.Common.{Refusal, Key, Identity, Live, Outer, State, Showing, Nothing, Both, Inside}
 use Rattle.allocative.proofs.Common.{Unique, AddsForest, forgotten, OpensEntry, ClosesEntry, OpensShared}
-use Rattle.allocative.proofs.Common.{enters_first, Visitor, with_state, Visited, Entered}
+use Rattle.allocative.proofs.Common.{enters_first, Visitor, with_state, Visited, Entered, Means, OnlyIf}
 use Rattle.allocative.specs.Visited.{AnyEffect}
 use Rattle.allocative.proofs.Exact.{inexact}
+use Rattle.allocative.proofs.Meaning.{entered_if, means_same, visited_as}
 use Rattle.allocative.proofs.Visits.{adds_nothing, adds_both, adds_inline, adds_unique}
 
 -- What the collector was shown, the visit shows.
@@ -38,6 +39,13 @@ pub content_forgotten : {q : Showing} {k : Key} {n : ℕ} {i : Identity} {s t : 
 content_forgotten (enters_first {c = c} {d = d} r h e) =
     let f : d.open_visitors ≡ suc c.open_visitors = ap (λ (x : Live). x.open_visitors) e in
     forgotten refl (omega (arith, f))
+
+-- A part that was entered is the visit of x, if x is y and what the part shows means what y shows. With the showing of
+-- all values given, the goal is not computed at x.
+pub visited_at : {d e : Bool} {T : Type 0} (show : T → Showing) {x y : T} {p : Showing} {a b : Visitor}
+    {r : Result (Unit {0}) Refusal} → x ≡ y → Entered e p a b r → OnlyIf d e → Means d p (show y) →
+    Visited d (show x) AnyEffect a b r
+visited_at show is h o m = rw is (visited_as (entered_if h o means_same) m)
 
 -- The rules for implementations that enter by hand.
 pub ruleset by_hand = (shown_by_hand, shown_before, inline_alone, unique_alone, content_forgotten)
