@@ -4,6 +4,7 @@ from __future__ import annotations
 
 import argparse
 import contextlib
+import glob
 import os
 import re
 import shutil
@@ -14,7 +15,8 @@ from .text import MARK
 from .tokens import Fault
 
 STALE, ARGUMENTS, FILES, FAULTS = 1, 2, 3, 4
-TALLIES = {"Tallied": "tally", "TallyTally": "none"}
+# The folders of answers, in that of a module.
+ANSWERS = ("+*", "*Allocative/*visit", "*Tallied/tally", "*TallyTally/none")
 HEAD = re.compile(r"(?:(?://!|#!\[).*\n|\s*\n)*")
 ABOUT = """Writes the implementations of Described and Allocative for the structs and enums of a source file:
 of the types that are named, or of all that have none. They go to standard output, as the text of a module
@@ -140,13 +142,8 @@ def add_lines(path: str, text: str, source: Source, is_inline: bool) -> None:
 
 def old_answers(folder: str) -> list[str]:
     """The answers that were written for a module before."""
-    found = []
-    for first in sorted(os.listdir(folder)) if os.path.isdir(folder) else []:
-        inner = [f"{first}/visit", f"{first}/+visit"] if first.endswith("Allocative") else []
-        inner = [first] if first.startswith("+") else inner
-        inner += [f"{first}/{name}" for end, name in TALLIES.items() if first.endswith(end)]
-        found += [os.path.join(folder, each, "Answers.antt") for each in inner]
-    return [path for path in found if os.path.exists(path) and read(path).startswith(MARK)]
+    found = [glob.glob(os.path.join(glob.escape(folder), each, "Answers.antt")) for each in ANSWERS]
+    return [path for path in sum(found, []) if read(path).startswith(MARK)]
 
 
 def read(path: str) -> str:

@@ -186,12 +186,8 @@ class Source:
     def check(self, definition: Definition, cycle: list[Definition]) -> None:
         """Refuses the types that are not written."""
         what = ""
-        is_hard = definition.parameters and len(definition.members) > 2
         if not definition.variants:
             what = "it has no variants, so there is no value to visit: leave it out"
-        elif definition.is_enum and len(definition.variants) == 1 and (cycle or is_hard):
-            form = "that holds itself" if cycle else "with parameters and more than two fields"
-            what = f"an enum of one variant {form}: write it as a struct"
         elif cycle and definition.parameters:
             what = f"a type with parameters that holds itself: {BY_HAND}"
         elif len(cycle) > 2 or (len(cycle) == 2 and any(each.is_enum for each in cycle)):

@@ -7,7 +7,7 @@ from functools import reduce
 from typing import TYPE_CHECKING, Any, Callable, NamedTuple
 
 from .known import NUMBERS, Scope
-from .text import INDENT, MARK, WIDTH, bound, called, entered, holds, in_angles, joined, laid, pattern_of
+from .text import INDENT, WIDTH, bound, called, entered, holds, in_angles, joined, laid, pattern_of
 from .types import Definition, Member, Type, Variant
 
 if TYPE_CHECKING:
@@ -23,7 +23,6 @@ MANY = set("Vec VecDeque BTreeMap BTreeSet HashMap HashSet IndexMap IndexSet".sp
 HOMES = {"field": {"CountedField", "FieldSum", "FieldTally", "count", "count_own"}}
 HOMES["tally"] = {"CountError", "Entries", "InlineSum", "Sum", "Tallied", "Tally"}
 SHAPES = {"Beside", "EntryAt", "NoEntry", "Wide"}
-LEMMA = re.compile(r"\b(?:starts_\w+|\w+_counted|holding)\b")
 HUMP = re.compile(r"(?<=[a-z0-9])(?=[A-Z])")
 
 
@@ -52,13 +51,12 @@ def reason(scope: Scope, kind: Type, parameters: tuple[str, ...]) -> str:
 
 def reason_of(source: Source, definition: Definition) -> str:
     """Why a type that is written gets no tally, or nothing."""
-    is_enum, variants, types = definition.is_enum, definition.variants, definition.names("type")
+    types = definition.names("type")
     whys = ["it holds itself"] if definition.name in source.reached(definition.name) else []
     whys += ["it has a lifetime"] if definition.names("lifetime") else []
     whys += [f"the field {each.name} is not shown whole" for each in definition.members if not each.is_whole]
     whys += filter(None, (reason(source.scope, each.type, types) for each in definition.members))
-    whys += ["it is an enum of one variant"] if is_enum and len(variants) == 1 else []
-    if is_enum and types and any(each.is_entry for each in variants):
+    if definition.is_enum and types and any(each.is_entry for each in definition.variants):
         whys.append("it has parameters, and a variant of several fields")
     return whys[0] if whys else ""
 
@@ -81,13 +79,12 @@ def paired(parts: list[Any], pair: Callable[[Any, Any], Any], none: Any) -> Any:
 
 
 class Tally:
-    """Writes the tally of a type. `text` is its text, and `answers` has the answers by their folder."""
+    """Writes the tally of a type. `text` is its text; the answers are kept with those of the type."""
 
     def __init__(self, writer: Writer) -> None:
         self.writer, self.definition = writer, writer.definition
         self.kinds: list[str] = []
         self.names: set[str] = set()
-        self.answers: dict[str, str] = {}
         self.arms = [(each, self.part(each)) for each in self.definition.variants]
         parts = tuple(part for _, part in self.arms if part)
         self.root = Part(self.free("own"), writer.name, "", parts if self.definition.is_enum else parts[0].inside)
@@ -143,7 +140,7 @@ class Tally:
         none = [f"{part.name}: {'FieldTally' if part.kind else 'Sum'}::none()" for part in self.flat]
         lines = "".join(f"\n{' ' * 12}{each}," for each in none) + f"\n{INDENT}" if none[1:] else f" {none[0]} "
         starts = self.starts(self.root, "starts_whole _")[1:-1]
-        self.answer(f"{self.name}Tally/none", [("returns", starts)], bool(self.parameters))
+        self.writer.answer(f"{self.name}Tally/none", [("returns", starts)])
         return (
             f"#[tactic(auto)]\n{head}    ghost shape = {{ λ t. {self.shape(self.root)[1:-1]} }};\n\n"
             f"    fn none() -> Self {{\n{INDENT}{self.name} {{{lines}}}\n    }}\n\n"
@@ -171,7 +168,7 @@ class Tally:
         else:
             body += "".join(self.counting(part, f"&self.{part.key}", INDENT) for part in self.root.inside)
             body += f"{INDENT}Ok(())\n"
-        self.answer(f"{writer.name}Tallied/tally", self.counted(), bool(writer.types))
+        writer.answer(f"{writer.name}Tallied/tally", self.counted(), writer.lemma)
         return (
             f"#[tactic(auto)]\n{writer.head('Tallied', 'Tallied')}    type Tally = {kind};\n\n"
             f"    fn tally(&self, tally: &mut Self::Tally) -> Result<(), CountError> {{\n{body}    }}\n}}\n"
@@ -184,7 +181,7 @@ class Tally:
 
     def arm(self, variant: Variant, part: Part | None) -> str:
         """The lines that count the fields of a variant."""
-        names, indent = bound(variant.names, 44), " " * 16
+        names, indent = bound(variant.names, 44, "self tally count count_own"), " " * 16
         head = f"{' ' * 12}{self.writer.name}::{variant.name}{pattern_of(variant, names)} => "
         if not part:
             return f"{head}Ok(()),\n"
@@ -209,26 +206,16 @@ class Tally:
         if not self.definition.is_enum:
             return [("returns", whole("", fields(self.root.inside, "")))]
         found = []
-        for variant, part in self.arms:
-            arm, last = f"-in-{variant.name}", f"-{variant.name}"
-            proof = "nothing_counted"
+        for (variant, part), fact in zip(self.arms, self.writer.facts):
+            arm = f"-in-{variant.name}" if self.arms[1:] else ""
+            proof, last = "nothing_counted", f"-{variant.name}"
             if part:
                 last = f"_ok-count{arm}{ordinal(len(part.inside or (part,)))}"
-                proof = fields((part,), arm) if part.kind else f"({whole(arm, fields(part.inside, arm))})"
+                proof = fields((part,), arm) if part.kind else f"({whole(arm or '-2', fields(part.inside, arm))})"
                 proof = placed(paired([*self.root.inside], lambda one, later: [one, later], None), part, proof)
-            found.append((f"returns-in{last}", f"rw c{arm.replace('-', '.', 1)}.is ({whole('', proof)})"))
+            goal = f"returns-in{last}" if arm else "returns"
+            found.append((goal, f"tallies_as (λ f. rw {fact} (λ x. x))\n    ({whole('', proof)})"))
         return found
-
-    def answer(self, folder: str, proofs: list[tuple[str, str]], is_generic: bool) -> None:
-        """Keeps the answers of a function."""
-        path, given = (*self.writer.source.text_at, *folder.split("/")), "g c" if is_generic else "c"
-        body = "".join(f"\npub {goal} : goal.{goal}\n{goal} {given} =\n    {proof}\n" for goal, proof in proofs)
-        words = sorted(set(LEMMA.findall(body)))
-        lines = [", ".join(words[at : at + 4]) for at in range(0, len(words), 4)]
-        uses = "".join(f"use Rattle.allocative_tally.proofs.Fields.{{{line}}}\n" for line in lines)
-        uses = ("use Rattle.std.proofs.Common.{rules}\n" if "rules" in body else "") + uses
-        goals = ".".join(("Rattle", self.writer.source.crate.name, "proofs", *path, "Goals"))
-        self.answers["/".join(path)] = f"{MARK}\n{uses}use {goals} as goal\n{body}"
 
 
 def ordinal(at: int) -> str:

@@ -16,10 +16,11 @@ WIDTH = 100
 GROUP = 5
 INDENT = " " * 8
 EMPTY = type_of("()")
-Proof = tuple[str, str, str]
+Proof = tuple[str, str]
 LETTERS = [*"abcdefghijklmnopqrstuvw"]
 MARK = "-- Written by bin/implement."
 NAME = re.compile(r"[A-Za-z_]\w*")
+WORD = re.compile(r"[\w-]+")
 OWN = re.compile(r"(?:\bself::)?\b([A-Za-z_]\w*)")
 CONTAINERS = {("Vec", 1): "vec_in", ("Option", 1): "option_in", ("Box", 1): "box_of"}
 CONTAINERS |= {("BTreeMap", 2): "btree_map_of", ("HashMap", 2): "hash_map_of"}
@@ -27,12 +28,23 @@ LEVELS = {*CONTAINERS.values(), "both", "child", "field", "level_shows", "pair_i
 LEVEL = re.compile(rf'(?<![\w."<])(?:{"|".join(sorted(LEVELS))})(?![\w.>"])|(?<=\()out-\w+')
 # Words of the written text, which a variant's constructor cannot be named by.
 CLAUSE_WORDS = {"codes", "true", "false", "elim", "where", "deriving", "record", "data", "open", "let", "in"}
+# What answers cite, by its module.
+LEMMAS = {
+    "std.proofs.Common": "refl rules ◌≡◌",
+    "allocative.proofs.ByHand": "visited_at",
+    "allocative.proofs.Levels": "means_recursive",
+    "allocative.proofs.Meaning": "entered_loosely exact_same means_field means_same visited_as visited_if",
+    "allocative.proofs.Parts": "exact",
+    "allocative_tally.proofs.Counting": "tallies_as",
+    "allocative_tally.proofs.Fields": "both_counted field_counted first_counted holding nothing_counted second_counted "
+    "starts_both starts_entry starts_field starts_none starts_whole whole_counted",
+}
 DESCRIBED = {"align": "usize", "needs_drop": "bool", "size": "Option<usize>"}
 
 
-def bound(names: list[str], room: int) -> list[str]:
-    """Names for the parts of fields: their own where these are names and short, else letters."""
-    is_plain = all(NAME.fullmatch(name) and name not in ("visitor", "self", "tally") for name in names)
+def bound(names: list[str], room: int, taken: str = "visitor self tally is") -> list[str]:
+    """Names for the parts of fields: their own where these are names that are not taken, and short, else letters."""
+    is_plain = all(NAME.fullmatch(name) and name not in taken.split() for name in names)
     if is_plain and len(", ".join(names)) <= room:
         return names
     return LETTERS[: len(names)] + [f"a{number}" for number in range(len(LETTERS), len(names))]
@@ -93,10 +105,16 @@ class Writer:
         self.is_level = self.cycle[:1] == [self.name]
         self.nothing = "plain shows.Nothing" if self.is_level else "shows.Nothing"
         self.is_borrowed = bool(definition.names("lifetime"))
+        # Whether the entry of a value is of a size that the visit asks for.
+        self.is_sized = self.is_borrowed or bool(cycle)
         self.layout = self.record = source.free(self.name, "Layout")
         self.declared_at = f"{source.declared_at}.{self.name}"
         self.used = {"Allocative", "Described", "Part", "Record", "Refusal", "Visitor", "codes"}
         self.answers: dict[str, str] = {}
+        # Of an enum: what its answers import of its own, their lemma, and how the proof for each variant begins.
+        self.uses: dict[str, list[str]] = {}
+        self.lemma = ""
+        self.facts: list[str] = []
         members = [member for each in cycle or [definition] for member in each.shown]
         self.flags = sorted(set().union(*map(self.flags_of, members)))
         self.variant_records: dict[str, str] = {}
@@ -108,7 +126,6 @@ class Writer:
         """Writes the tally of the type behind its implementations."""
         self.text += "\n" + tally.text
         self.used |= {"Entries", *NAME.findall(tally.text)}
-        self.answers |= tally.answers
 
     # ---- heads
     def declared(self, words: list[str]) -> str:
@@ -242,9 +259,7 @@ class Writer:
         if flags and not self.definition.is_enum:
             kinds = [member.type.text if member.size is None else "" for member in self.members]
             flags = [f"⟦<{kind} as Allocative>⟧.is_exact" if kind else "true" for kind in kinds]
-        while len(flags) > GROUP:
-            flags = [f"({flag(group)})" for group in grouped(flags)]
-        text = flag(flags) if flags else "true"
+        text = joined([*flags], lambda parts: f"({' && ('.join(parts)}{')' * len(parts)}")[1:-1] if flags else "true"
         self.used |= {word for word in ("true", "◌&&◌") if word.strip("◌") in text}
         return f"    ghost is_exact = {{ {text} }};\n\n"
 
@@ -304,7 +319,7 @@ class Writer:
         """The lines that make the parts and enter them under the type's own entry."""
         inside = joined(names, tuple_of)
         word, arguments = "Whole", ["self", inside]
-        if self.is_borrowed or self.cycle:
+        if self.is_sized:
             word, arguments = "Declared", [f'"{self.name}"', f"<{self.record}>::size()", inside]
         self.used.add(word)
         return "".join(indent + part for part in parts) + f"{indent}{entered(word, arguments, indent)}\n"
@@ -317,7 +332,7 @@ class Writer:
         parts = [self.part(each, each.name, name, f"&self.{each.name}", INDENT) for each, name in pairs]
         inside = f"({self.inside(words)})" if words or self.is_level else self.nothing
         gap = " " if len(words) > 1 or self.cycle else f"\n{INDENT}"
-        self.keep_answers([], [])
+        self.struct_answers()
         return self.implementation(gap + inside, self.enter(parts, names, INDENT))
 
     # ---- enums
@@ -331,11 +346,11 @@ class Writer:
             cases = [variant.name + ("Case" if variant.name in CLAUSE_WORDS else "") for variant in variants]
             pairs = zip([variant.name for variant in variants], cases)
             opened, value = "TheVariants", "x"
-            listed = [case if case == name else f"{name} as {case}" for name, case in pairs]
+            listed = [case if case == name else f"«{name}» as {case}" for name, case in pairs]
         arms = "".join(map(self.word_arm, variants, cases))
         use = f"    ghost use {self.declared_at}.{opened}.{{{', '.join(listed)}}};\n\n"
         body = f"{INDENT}match self {{\n{''.join(map(self.code_arm, variants))}{INDENT}}}\n"
-        self.keep_answers(cases, listed)
+        self.enum_answers(cases, listed)
         return self.implementation(f" (elim {value} [\n{arms}    ])", body, use)
 
     def refuse_parts(self) -> None:
@@ -376,79 +391,82 @@ class Writer:
         return f"{pattern} => {{\n{self.enter(parts, names, ' ' * 16)}{indent}}}\n"
 
     # ---- answers
-    def keep_answers(self, cases: list[str], listed: list[str]) -> None:
-        """Keeps the answers that the proof of the visit needs; those of an enum by its variants."""
-        definition, cycle, search = self.definition, self.definition.cycle, "search ({})"
-        given = "g c" if self.types or definition.names("const") else "c"
-        if definition.is_enum and self.is_level:
-            self.level_answers()
-        elif len(cases) > 1:
-            names = [variant.name for variant in definition.variants]
-            proofs = [(f"returns-in-{name}", given, f"rw c.in-{name}.is ({search})") for name in names]
-            self.answer("visit", proofs, ", exact" if self.types and self.flags else "")
-        elif cases and self.members and not definition.parameters:
-            self.single_answer(cases[0], listed[0])
-        elif self.is_borrowed and not definition.is_enum:
-            self.answer("visit", [("returns", given, search)])
-        elif self.is_level and not self.flags:
-            goals = [f"{name}Allocative::visit-returns" for name in self.cycle] if cycle else ["returns"]
-            self.answer(f"+{cycle}" if cycle else "+visit", [(goal, "t c", search) for goal in goals])
+    def enum_answers(self, cases: list[str], opened: list[str]) -> None:
+        """Keeps the answers of the visit of an enum, for each variant."""
+        variants, taken, proofs = self.definition.variants, set(), []
+        self.uses = {self.declared_at: [self.name, f"out-{self.name}", "the_lemmas"]}
+        self.uses[f"{self.declared_at}.{'TheOpen' if self.is_level else 'TheVariants'}"] = opened
+        at = ".".join((self.source.crate.name, "specs.contracts", *self.source.text_at, f"{self.name}Allocative.TheImpl"))
+        self.uses[f"Rattle.{at}"] = ["ghosts"]
+        self.lemma = self.one_variant(variants[0], cases[0]) if len(variants) == 1 else ""
+        self.facts = [*map(self.fact, variants, cases)]
+        for variant, fact in zip(variants, self.facts):
+            arm = "" if self.lemma else f"-in-{variant.name}"
+            proofs.append((f"returns{arm}", self.proof(taken, self.is_level, arm, fact, variant.is_entry)))
+        self.answer(f"{self.name}Allocative/{'+' * self.is_level}visit", proofs, self.lemma)
 
-    def single_answer(self, case: str, listed: str) -> None:
-        """The answer for an enum of one variant, which states that each value is of that variant."""
-        names = bound([""] * len(self.definition.members), 0)
-        value, some = " ".join([case, *names]), "".join(f"({name} : _) × " for name in names)
-        uses = "use Rattle.allocative.proofs.Meaning.{visited_as}\n"
-        uses += f"use {self.declared_at}.{{{self.name}}}\nuse {self.declared_at}.TheVariants.{{{listed}}}\n"
-        lemma = f"\nis-{case} : (x : {self.name}) → {some}(x ≡ {value})\n"
-        lemma += f"is-{case} ({value}) = ({', '.join(names)}, refl)\n"
-        proof = f"\n    let is = (is-{case} c.args.self.now).{len(names)} in\n"
-        proof += "    rw is (visited_as (rw is at c.enter.ensures) (search ({})))"
-        self.answer("visit", [("returns", "c", proof)], "", uses, "◌≡◌, refl, rules", lemma)
+    def struct_answers(self) -> None:
+        """Keeps the answers of the visits of a struct that is entered by its size, and of another that it holds."""
+        folder, pairs = f"{self.name}Allocative/{'+' * self.is_level}visit", [("returns", self.is_level)]
+        if self.definition.cycle:
+            folder = f"+{self.definition.cycle}"
+            pairs = [(f"{name}Allocative::visit-returns", name == self.name) for name in self.cycle]
+        if self.is_level or self.is_borrowed:
+            self.answer(folder, [(goal, self.proof(set(), is_level)) for goal, is_level in pairs])
 
-    def level_answers(self) -> None:
-        """The answers for an enum that holds itself: its level at each variant, by the type's equations."""
-        name, more = self.name, ", entered_loosely" if self.flags else ""
-        uses = f"use {self.declared_at}.{{out-{name}, the_lemmas}}\n"
-        uses += f"use {self.declared_at}.TheOpen.{{{name}-F}}\n"
-        uses += "use Rattle.allocative.proofs.Levels.{means_recursive}\n"
-        uses += f"use Rattle.allocative.proofs.Meaning.{{visited_as{more}}}\n"
-        proofs = []
-        for number, variant in enumerate(self.definition.variants):
-            case, names = f"in-{variant.name}", bound(variant.names, 44)
-            value = " ".join([f"{name}-F.{variant.name}", *(f"c.{case}.{each}" for each in names)])
-            entered = f"c.enter-{case}.ensures" if number else "c.enter.ensures"
-            entered = f"(entered_loosely {entered})" if self.flags else entered
-            proof = f"\n    let e : out-{name} c.args.self.now ≡ {value} = search (rules, the_lemmas) in\n"
-            proof += f"    visited_as {entered} (means_recursive (rw e (search ({{}}))))"
-            proofs.append((f"returns-{case}", "t c", proof))
-        self.answer("+visit", proofs, "", uses, "◌≡◌, rules")
+    def one_variant(self, variant: Variant, case: str) -> str:
+        """The lemma that each value of an enum of one variant is of that variant."""
+        form, kinds = f"{self.name}-F", ["T"]
+        if not self.is_level:
+            form, kinds = self.name, [each.name for each in self.definition.parameters if each.kind != "lifetime"]
+        names, given = bound([""] * len(variant.members), 0), f"{{{' '.join(kinds)} : _}} " if kinds else ""
+        value, parts = " ".join([case, *names]), "".join(f"({name} : _) × " for name in names)
+        text = f"variant : {given}(x : {' '.join([form, *kinds])}) → {parts}(x ≡ {value})\n"
+        return f"\n{text}variant ({value}) = ({', '.join([*names, 'refl'])})\n"
 
-    def answer(
-        self,
-        folder: str,
-        proofs: list[Proof],
-        more: str = "",
-        uses: str = "",
-        common: str = "rules",
-        lemma: str = "",
-    ) -> None:
-        """Keeps the file of a folder of proofs: each goal, what it is given, and what proves it by rules."""
-        own = () if self.definition.cycle and folder.startswith("+") else (f"{self.name}Allocative",)
-        path = (*self.source.text_at, *own, folder)
-        goals = ".".join(("Rattle", self.source.crate.name, "proofs", *path, "Goals"))
-        text = f"{MARK}\nuse Rattle.std.proofs.Common.{{{common}}}\n{uses}"
-        text += f"use Rattle.allocative.proofs.Parts.{{parts{more}}}\nuse {goals} as goal\n{lemma}"
-        for goal, given, proof in proofs:
-            space = "" if proof.startswith("\n") else " "
-            proof = proof.format(f"rules, parts{more}")
-            text += f"\npub {goal} : goal.{goal}\n{goal} {given} ={space}{proof}\n"
-        self.answers["/".join(path)] = text
+    def fact(self, variant: Variant, case: str) -> str:
+        """What says that a value is of a variant, and in a type that holds itself, that its level is."""
+        value = f"(out-{self.name} c.args.self.now)" if self.is_level else "c.args.self.now"
+        if self.lemma:
+            return f"(variant {value})" + (f".{len(variant.members)}" if variant.members else "")
+        arm = f"c.in-{variant.name}"
+        level = " ".join([case, *(f"{arm}.{name}" for name in bound(variant.names, 44))])
+        return f"(let e : {value[1:-1]} ≡ {level} = search (rules, the_lemmas) in e)" if self.is_level else f"{arm}.is"
+
+    def proof(self, taken: set[str], is_level: bool, arm: str = "", fact: str = "", is_entry: bool = False) -> str:
+        """The proof of an arm: what was entered means what may be shown."""
+        sizes = [ensured(taken, "size", arm) for is_called in (is_entry, self.is_sized) if is_called]
+        means = "means_same"
+        for size in sizes if self.is_sized else [*sizes, "refl"]:
+            means = f"(means_field refl {size} {means})"
+        entered = ensured(taken, "enter", arm)
+        only = "(search (rules, exact))" if self.flags else "exact_same"
+        if fact and not (self.lemma or self.cycle or self.definition.parameters):
+            return f"visited_at ghosts.may_show {fact} {entered} {only}\n    {means}"
+        means = f"(rw {fact}\n    {means})" if fact else means
+        means = f"(means_recursive {means})" if is_level else means
+        if self.flags and not self.cycle:
+            return f"visited_if {entered} {only}\n    {means}"
+        return f"visited_as {f'(entered_loosely {entered})' if self.flags else entered}\n    {means}"
+
+    def answer(self, folder: str, proofs: list[Proof], lemma: str = "") -> None:
+        """Keeps the file of a folder of proofs: each goal with its proof, after the imports of what they name."""
+        given = "t c" if self.cycle else "g c" if self.types or self.definition.names("const") else "c"
+        path = (*self.source.text_at, *folder.split("/"))
+        body = lemma + "".join(f"\npub {goal} : goal.{goal}\n{goal} {given} =\n    {proof}\n" for goal, proof in proofs)
+        words, text = {*WORD.findall(body), "◌≡◌" if "≡" in body else ""}, f"{MARK}\n"
+        for module, names in (self.uses | {f"Rattle.{each}": names.split() for each, names in LEMMAS.items()}).items():
+            named = [name for name in names if name.split()[-1] in words]
+            text += f"use {module}.{{{', '.join(named)}}}\n" if named else ""
+        goals = ".".join((self.source.crate.name, "proofs", *path, "Goals"))
+        self.answers["/".join(path)] = f"{text}use Rattle.{goals} as goal\n{body}"
 
 
-def flag(parts: list[str]) -> str:
-    """The flags of parts in a tuple."""
-    return " && (".join(parts) + ")" * (len(parts) - 1)
+def ensured(taken: set[str], call: str, arm: str) -> str:
+    """What a call in an arm ensures. The first of its name has that name, and a later one also its arm."""
+    name = next(name for name in (call, call + arm, f"{call}{arm}-2") if name not in taken)
+    taken.add(name)
+    return f"c.{name}.ensures"
 
 
 def holds(kind: Type, parameter: str) -> bool:

@@ -213,7 +213,7 @@ class Reader:
             if depth == 0 and word in ends:
                 return place
             if has_angles and word in "<>":
-                depth += 1 if word == "<" else -1
+                depth = depth + 1 if word == "<" else max(depth - 1, 0)
             place = behind[place]
         return end
 

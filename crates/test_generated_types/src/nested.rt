@@ -19,6 +19,7 @@ ghost use Rattle.test_generated_types.specs.declared.nested.Chain.{out-Chain};
 ghost use Rattle.test_generated_types.specs.declared.nested.Chapter.{out-Chapter};
 ghost use Rattle.test_generated_types.specs.declared.nested.Json.{out-Json};
 ghost use Rattle.test_generated_types.specs.declared.nested.Note.{out-Note};
+ghost use Rattle.test_generated_types.specs.declared.nested.Rope.{out-Rope};
 ghost use Rattle.test_generated_types.specs.declared.nested.Tree.{out-Tree};
 
 use allocative::{
@@ -441,6 +442,67 @@ impl Allocative for Note {
         let chapters = Field("chapters", &self.chapters);
         let is_long = Field("is_long", &self.is_long);
         Declared("Note", <NoteLayout>::size(), (chapters, is_long)).enter(visitor)
+    }
+}
+// allocative: end
+
+/// A rope of other ropes, always with a text.
+#[derive(Drop)]
+pub enum Rope {
+    Of(Vec<Rope>, String),
+}
+// allocative: begin
+type RopeLayout = Record<(u8, (Vec<()>, (String, ())))>;
+
+type RopeOfFields = Record<(Vec<()>, (String, ()))>;
+
+impl Described for Rope {
+    ghost name = { codes "Rope" };
+
+    ghost align = { ⟦<RopeLayout as Described>⟧.align };
+
+    ghost needs_drop = { ⟦<RopeLayout as Described>⟧.needs_drop };
+
+    ghost size = { ⟦<RopeLayout as Described>⟧.size };
+
+    fn name() -> &'static str {
+        "Rope"
+    }
+
+    fn align() -> usize {
+        <RopeLayout>::align()
+    }
+
+    fn needs_drop() -> bool {
+        <RopeLayout>::needs_drop()
+    }
+
+    fn size() -> Option<usize> {
+        <RopeLayout>::size()
+    }
+}
+
+#[tactic(auto, using(allocative::proofs::Parts::parts))]
+impl Allocative for Rope {
+    ghost use Rattle.test_generated_types.specs.declared.nested.Rope.TheOpen.{Rope-F};
+
+    ghost may_show = { recursive (λ x. field (codes "Rope") ⟦<RopeLayout as Described>⟧.size (elim (out-Rope x) [
+      | Rope-F.Of a b ↦ field (codes "Of") ⟦<RopeOfFields as Described>⟧.size (both
+          (field (codes "0") ⟦<Vec<RopeLayout> as Described>⟧.size (vec_in ⟦<RopeLayout as Described>⟧.size child a))
+          (plain (shows.Field (codes "1") ⟦<String as Described>⟧.size (⟦<String as Allocative>⟧.may_show b))))
+    ])) };
+
+    ghost is_exact = { true };
+
+    fn visit(&self, visitor: &mut Visitor<'_>) -> Result<(), Refusal> {
+        match self {
+            Rope::Of(a, b) => {
+                let a = Field("0", a);
+                let b = Field("1", b);
+                let inside = Declared("Of", <RopeOfFields>::size(), (a, b));
+                Declared("Rope", <RopeLayout>::size(), inside).enter(visitor)
+            }
+        }
     }
 }
 // allocative: end

@@ -246,3 +246,118 @@ impl Tallied for Event {
     }
 }
 // allocative: end
+
+/// What a cart holds, which is always bought.
+#[derive(Drop)]
+pub enum Cart {
+    BoughtItems { count: u64, names: Vec<String> },
+}
+// allocative: begin
+type CartLayout = Record<(u8, (u64, (Vec<String>, ())))>;
+
+type CartBoughtItemsFields = Record<(u64, (Vec<String>, ()))>;
+
+impl Described for Cart {
+    ghost name = { codes "Cart" };
+
+    ghost align = { ⟦<CartLayout as Described>⟧.align };
+
+    ghost needs_drop = { ⟦<CartLayout as Described>⟧.needs_drop };
+
+    ghost size = { ⟦<CartLayout as Described>⟧.size };
+
+    fn name() -> &'static str {
+        "Cart"
+    }
+
+    fn align() -> usize {
+        <CartLayout>::align()
+    }
+
+    fn needs_drop() -> bool {
+        <CartLayout>::needs_drop()
+    }
+
+    fn size() -> Option<usize> {
+        <CartLayout>::size()
+    }
+}
+
+#[tactic(auto, using(allocative::proofs::Parts::parts))]
+impl Allocative for Cart {
+    ghost use Rattle.test_generated_types.specs.declared.tallied.Cart.TheVariants.{BoughtItems};
+
+    ghost may_show = { λ x. shows.Field (codes "Cart") ⟦<CartLayout as Described>⟧.size (elim x [
+      | BoughtItems a b ↦ shows.Field (codes "BoughtItems") ⟦<CartBoughtItemsFields as Described>⟧.size (shows.Both
+          (shows.Field (codes "count") ⟦<u64 as Described>⟧.size (⟦<u64 as Allocative>⟧.may_show a))
+          (shows.Field (codes "names") ⟦<Vec<String> as Described>⟧.size (⟦<Vec<String> as Allocative>⟧.may_show b)))
+    ]) };
+
+    ghost is_exact = { true };
+
+    fn visit(&self, visitor: &mut Visitor<'_>) -> Result<(), Refusal> {
+        match self {
+            Cart::BoughtItems { count, names } => {
+                let count = Field("count", count);
+                let names = CountedField("names", names);
+                let inside = Declared(
+                    "BoughtItems",
+                    <CartBoughtItemsFields>::size(),
+                    (count, names),
+                );
+                Whole(self, inside).enter(visitor)
+            }
+        }
+    }
+}
+
+/// Values of `Cart`, counted.
+#[derive(Drop)]
+pub struct CartTally {
+    own: Sum,
+    bought_items_own: Sum,
+    bought_items_count: FieldTally<<u64 as Tallied>::Tally>,
+    bought_items_names: FieldTally<<Vec<String> as Tallied>::Tally>,
+}
+
+#[tactic(auto)]
+impl Tally for CartTally {
+    ghost shape = { λ t. EntryAt Wide (codes "Cart") t.own
+        (EntryAt Wide (codes "BoughtItems") t.bought_items_own
+        (Beside (EntryAt Wide (codes "count") t.bought_items_count.own (⟦<<u64 as Tallied>::Tally as Tally>⟧.shape t.bought_items_count.value))
+        (EntryAt Wide (codes "names") t.bought_items_names.own (⟦<<Vec<String> as Tallied>::Tally as Tally>⟧.shape t.bought_items_names.value)))) };
+
+    fn none() -> Self {
+        CartTally {
+            own: Sum::none(),
+            bought_items_own: Sum::none(),
+            bought_items_count: FieldTally::none(),
+            bought_items_names: FieldTally::none(),
+        }
+    }
+
+    fn enter(&self, visitor: &mut Visitor<'_>) -> Result<(), Refusal> {
+        let b = FieldSum("count", &self.bought_items_count);
+        let c = FieldSum("names", &self.bought_items_names);
+        let a = InlineSum("BoughtItems", self.bought_items_own, (b, c));
+        InlineSum("Cart", self.own, a).enter(visitor)
+    }
+}
+
+#[tactic(auto)]
+impl Tallied for Cart {
+    type Tally = CartTally;
+
+    fn tally(&self, tally: &mut Self::Tally) -> Result<(), CountError> {
+        count_own(&mut tally.own, <Cart>::size())?;
+        match self {
+            Cart::BoughtItems { count: a, names: b } => {
+                count_own(&mut tally.bought_items_own, <CartBoughtItemsFields>::size())?;
+                count(&mut tally.bought_items_count, a)?;
+                count(&mut tally.bought_items_names, b)?;
+                Ok(())
+            }
+        }
+    }
+}
+// allocative: end

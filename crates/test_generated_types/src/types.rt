@@ -141,6 +141,18 @@ pub struct Found<'a, const N: usize> {
     pub counts: BTreeMap<u64, Vec<Request>>,
 }
 
+/// A share, of which the only variant shows nothing of the value.
+#[derive(Drop)]
+pub enum Share {
+    Part(f64),
+}
+
+/// Values of two types in the only variant.
+#[derive(Drop)]
+pub enum Framed<K, V> {
+    Both { left: K, inside: Vec<V>, width: u16 },
+}
+
 /// What is written by hand is left alone.
 #[derive(Drop)]
 pub struct ByHand {

@@ -3,59 +3,45 @@
 import contextlib
 import io
 import os
+import random
+import re
+import subprocess
 import tempfile
 import unittest
 
-from ..command import main
+from ..command import main, read
 
 POINT = "#[derive(Drop)]\npub struct Point {\n    pub x: u32,\n}\n"
-TREE = "#[derive(Drop)]\npub enum Tree {\n    Leaf(u64),\n    Fork(Vec<Tree>),\n}\n"
-STRUCT_TALLY = """/// Values of `A`, counted.
-#[derive(Drop)]
-pub struct ATally<S1> {
-    own_: Sum,
-    own: FieldTally<<u64 as Tallied>::Tally>,
-    b: FieldTally<S1>,
-}
+TOP = os.path.realpath(os.path.join(os.path.dirname(__file__), "../../.."))
+TYPES = os.path.join(TOP, "crates/test_generated_types/src")
+SOURCES = [name for name in sorted(os.listdir(TYPES)) if name.endswith(".rt") and name != "lib.rt"]
+PIECE = re.compile(r"\n// allocative: begin\n(?!// allocative: end).*?\n// allocative: end", re.DOTALL)
+TOKEN = re.compile(r"\w+|\s+|[^\w\s]")
+# What a run tells: its faults with their lines, or only of what is passed over or has no tally.
+TOLD = {4: re.compile(r"(implement: [^\n]*\.rt:[0-9]+: [^\n]+\n)+")}
+TOLD[0] = re.compile(r"(implement: (\w+ has no tally, as|[0-9]+ fields? (is|are) passed over:) [^\n]+\n)*")
 
-#[tactic(auto)]
-impl<S1: Tally> Tally for ATally<S1> {
-    ghost shape = { λ t. EntryAt Wide (codes "A") t.own_
-        (Beside (EntryAt Wide (codes "own") t.own.own (⟦<<u64 as Tallied>::Tally as Tally>⟧.shape t.own.value))
-        (EntryAt Wide (codes "b") t.b.own (S1.shape t.b.value))) };
 
-    fn none() -> Self {
-        ATally {
-            own_: Sum::none(),
-            own: FieldTally::none(),
-            b: FieldTally::none(),
-        }
-    }
+def run(path: str, *words: str) -> tuple[int, str, str]:
+    """Runs the command over a file: its status, and what it wrote to standard output and to standard error."""
+    output, told = io.StringIO(), io.StringIO()
+    with contextlib.redirect_stdout(output), contextlib.redirect_stderr(told):
+        status = main([path, *words])
+    return status, output.getvalue(), told.getvalue()
 
-    fn enter(&self, visitor: &mut Visitor<'_>) -> Result<(), Refusal> {
-        let own = FieldSum("own", &self.own);
-        let b = FieldSum("b", &self.b);
-        InlineSum("A", self.own_, (own, b)).enter(visitor)
-    }
-}
 
-#[tactic(auto)]
-impl<T: Tallied> Tallied for A<T> {
-    type Tally = ATally<<T as Tallied>::Tally>;
-
-    fn tally(&self, tally: &mut Self::Tally) -> Result<(), CountError> {
-        count_own(&mut tally.own_, <A<T>>::size())?;
-        count(&mut tally.own, &self.own)?;
-        count(&mut tally.b, &self.b)?;
-        Ok(())
-    }
-}
-"""
-ENUM_ARMS = """            E::Of(a) => {
-                count(&mut tally.of_value, a)?;
-                Ok(())
-            }
-"""
+def spoilt(text: str, chance: random.Random) -> str:
+    """A text in which one to three pieces of letters or tokens are removed, doubled, or exchanged."""
+    for _ in range(chance.randint(1, 3)):
+        parts = TOKEN.findall(text) if chance.random() < 0.7 else list(text)
+        first, second = sorted(chance.randrange(len(parts) + 1) for _ in range(2))
+        middle = min(second, first + chance.randint(1, 12))
+        last = second + chance.randint(1, 12)
+        one, between, two = parts[first:middle], parts[middle:second], parts[second:last]
+        way = chance.choice(("cut", "double", "exchange"))
+        one, two = ([], two) if way == "cut" else (one + one, two) if way == "double" else (two, one)
+        text = "".join(parts[:first] + one + between + two + parts[last:])
+    return text
 
 
 class CommandTest(unittest.TestCase):
@@ -76,23 +62,34 @@ class CommandTest(unittest.TestCase):
         return self.path(name)
 
     def get(self, name: str) -> str:
-        with open(self.path(name), encoding="utf-8") as file:
-            return file.read()
+        return read(self.path(name))
 
     def run_it(self, text: str, *words: str) -> tuple[int, str, list[str]]:
         """Runs the command over a file of a text: the status, the output, and the lines that were told."""
         path = self.put("src/a.rt", text)
-        output, told = io.StringIO(), io.StringIO()
-        with contextlib.redirect_stdout(output), contextlib.redirect_stderr(told):
-            status = main([path, *words])
-        return status, output.getvalue(), [line.removeprefix(f"implement: {path}:") for line in told.getvalue().splitlines()]
+        status, output, told = run(path, *words)
+        return status, output, [line.removeprefix(f"implement: {path}:") for line in told.splitlines()]
 
-    def test_a_struct(self) -> None:
-        status, output, told = self.run_it(POINT)
-        self.assertEqual((status, told), (0, []))
-        self.assertIn("type PointLayout = Record<(u32, ())>;", output)
-        self.assertIn("Whole(self, x).enter(visitor)", output)
-        self.assertIn("ghost is_exact = { true };", output)
+    def test_what_is_proved_is_what_is_written(self) -> None:
+        for name in SOURCES:
+            words = ["--counted"] if name == "tallied.rt" else []
+            self.assertEqual(run(os.path.join(TYPES, name), "--check", *words), (0, "", ""))
+        command = [os.path.join(TOP, "bin/implement"), os.path.join(TYPES, "placed.rt"), "--check", "--in-place"]
+        ran = subprocess.run(command, capture_output=True, text=True)
+        self.assertEqual((ran.returncode, ran.stdout, ran.stderr), (0, "", ""))
+
+    def test_spoilt_sources(self) -> None:
+        """No traceback, no changed file but in place and with status 0, and a line for each fault."""
+        chance, sources = random.Random(25), [read(os.path.join(TYPES, name)) for name in SOURCES]
+        for number in range(500):
+            text, words = spoilt(sources[number % len(sources)], chance), ["--counted"] * (number % 2)
+            path = self.put("src/a.rt", text)
+            status, output, told = run(path, *words)
+            self.assertTrue(TOLD[status].fullmatch(told) and read(path) == text and (status == 0 or not output))
+            status, output, told = run(path, "--in-place", *words)
+            once = read(path)
+            self.assertTrue(TOLD[status].fullmatch(told) and not output and (status == 0 or once == text))
+            self.assertEqual((run(path, "--in-place", *words)[:2], read(path)), ((status, ""), once))
 
     def test_sizes_by_comment_count(self) -> None:
         text = "#[derive(Drop)]\nstruct A {\n    // allocative: size 16\n    m: &'static str,\n    // allocative: size 40\n    lock: Mutex<u8>,\n    // allocative: skip\n    mean: f64,\n}\n"
@@ -112,11 +109,6 @@ class CommandTest(unittest.TestCase):
         kinds = "Vec<()>", "HashMap<(), ()>", "Option<(Box<()>, u64)>", "u64", "[B; 3]", "(u8, f32)", "T", "Vec<()>", "(u64, u64)"
         self.assertEqual([kind for kind in kinds if kind not in layout], [])
         self.assertIn("impl<T: Described + Drop> Described for A<T>", output)
-
-    def test_flags(self) -> None:
-        _, output, _ = self.run_it("#[derive(Drop)]\nstruct A<T> {\n    a: T,\n    b: u8,\n}\n#[derive(Drop)]\nenum B<T> {\n    C(Vec<T>, u8),\n    D,\n}\n")
-        self.assertIn("ghost is_exact = { ⟦<T as Allocative>⟧.is_exact && (⟦<u8 as Allocative>⟧.is_exact) };", output)
-        self.assertIn("ghost is_exact = { T.is_exact };", output)
 
     def test_flags_of_the_pack(self) -> None:
         _, output, _ = self.run_it("use slab::Slab;\nuse serde_json::Value;\n#[derive(Drop)]\nstruct A {\n    a: Slab<String>,\n    b: Value,\n}\n")
@@ -138,12 +130,6 @@ class CommandTest(unittest.TestCase):
         self.assertIn('let inside = Declared("C", <MCFields<T>>::size(), (a, b));\n', output)
         self.assertIn('let inside = Declared("D", <MDFields>::size(), d);\n', output)
         self.assertIn("M::E() => Whole(self, ()).enter(visitor),", output)
-
-    def test_many_fields(self) -> None:
-        fields = "".join(f"    f{number}: T,\n" for number in range(7))
-        _, output, _ = self.run_it(f"#[derive(Drop)]\nstruct A<T> {{\n{fields}}}\n")
-        self.assertIn("type ALayout<T> = Record<And<(T, (T, (T, (T, (T, ()))))), (T, (T, ()))>>;", output)
-        self.assertIn("Whole(self, ((f0, f1, f2, f3, f4), (f5, f6))).enter(visitor)", output)
 
     def test_all_faults_at_once(self) -> None:
         text = "use std::sync::Mutex;\nuse std::rc::Rc;\nstruct A {\n    a: Rc<u8>,\n    b: Mutex<u8>,\n    c: u8,\n    d: Vec<Rc<u8>>,\n}\n#[derive(Drop)]\nenum B {\n    C(str),\n    D(\n    // allocative: skip\n    Option<Mutex<u8>>),\n}\n"
@@ -188,20 +174,9 @@ class CommandTest(unittest.TestCase):
         self.assertEqual(self.run_it(text)[0], 0)
 
     def test_recursive_types_and_cycles(self) -> None:
-        status, output, _ = self.run_it(TREE)
-        self.assertEqual(status, 0)
-        self.assertIn("| Tree-F.Fork a ↦ field (codes \"Fork\") ⟦<Vec<TreeLayout> as Described>⟧.size (vec_in", output)
-        self.assertIn("visited_as c.enter-in-Fork.ensures", self.get("proofs/a/shown/TreeAllocative/+visit/Answers.antt"))
         two = "#[derive(Drop)]\nstruct A {\n    b: Vec<B>,\n}\n#[derive(Drop)]\nstruct B {\n    a: Vec<A>,\n}\n"
         self.assertIn("#[cycle(NAME)]", self.run_it(two)[2][0])
         self.assertIn("holds the type itself in a way", self.run_it("use std::collections::*;\n#[derive(Drop)]\nstruct A {\n    a: VecDeque<A>,\n}\n")[2][0])
-
-    def test_enums_of_one_variant(self) -> None:
-        self.assertEqual(self.run_it("#[derive(Drop)]\nenum E {\n    A(u8, String),\n}\n")[0], 0)
-        answer = self.get("proofs/a/shown/EAllocative/visit/Answers.antt")
-        self.assertIn("is-A : (x : E) → (a : _) × (b : _) × (x ≡ A a b)\nis-A (A a b) = (a, b, refl)\n", answer)
-        self.assertIn("write it as a struct", self.run_it("#[derive(Drop)]\nenum E<T> {\n    A(T, u8, u8),\n}\n")[2][0])
-        self.assertIn("write it as a struct", self.run_it("#[derive(Drop)]\nenum E {\n    A(Vec<E>),\n}\n")[2][0])
 
     def test_paths_of_the_module_itself(self) -> None:
         text = POINT + "#[derive(Drop)]\nstruct A {\n    a: Vec<self::Point>,\n    // allocative: size 8\n    b: super::B,\n}\n"
@@ -216,17 +191,28 @@ class CommandTest(unittest.TestCase):
         self.assertEqual(sorted(os.listdir(self.path("proofs/a/shown"))), ["EAllocative", "MineAllocative"])
 
     def test_in_place_and_check(self) -> None:
-        text = "use std::fmt;\n\n" + POINT + "\n" + TREE
-        self.assertEqual(self.run_it(text, "--check")[0], 1)
-        self.assertEqual(self.run_it(text, "--in-place"), (0, "", []))
-        once = self.get("src/a.rt")
-        self.assertEqual(self.run_it(once, "--check"), (0, "", []))
-        self.assertEqual(self.run_it(once, "--in-place"), (0, "", []))
-        self.assertEqual(self.get("src/a.rt"), once)
-        self.assertEqual(self.run_it(once.replace("x: u32", "x: u64"), "--check")[0], 1)
-        line = once[: once.index("enum Tree")].count("\n") + 1
-        told = self.run_it(once.replace("Drop)]\npub enum", "Copy2)]\npub enum"), "--in-place")[2]
-        self.assertEqual(told[0].split(":")[0], str(line))
+        placed = read(os.path.join(TYPES, "placed.rt"))
+        bare, written = PIECE.sub("", placed), placed.replace("test_generated_types", "page")
+        path = self.put("src/placed.rt", bare)
+        self.assertEqual((run(path, "--check")[0], read(path)), (1, bare))
+        os.chmod(path, 0o640)
+        for _ in range(2):
+            self.assertEqual((run(path, "--in-place")[:2], read(path)), ((0, ""), written))
+        self.assertEqual((run(path, "--check"), os.stat(path).st_mode & 0o777), ((0, "", ""), 0o640))
+        self.assertEqual(run(self.put("src/placed.rt", written.replace("String", "u64", 1)), "--check")[0], 1)
+        told = run(self.put("src/placed.rt", written.replace("Drop)]\npub enum", "Copy2)]\npub enum")), "--in-place")[2]
+        self.assertIn(f"placed.rt:{written[: written.index('enum Post')].count(chr(10)) + 1}: Post: what is shown", told)
+
+    def test_what_is_left_alone(self) -> None:
+        unions, two = "pub union Both {\n    pub a: u8,\n}\n", "#[derive(Drop)]\npub struct A; pub struct B;\n"
+        for text in ("{\n", "// allocative: begin\n", unions, two):
+            path = self.put("src/a.rt", POINT + text)
+            status, output, told = run(path, "--in-place")
+            self.assertEqual((status, output, read(path)), (4, "", POINT + text))
+            self.assertTrue(TOLD[4].fullmatch(told))
+        self.put("src/a.rt.new", "mine")
+        self.assertEqual((self.run_it(POINT, "--in-place")[0], self.get("src/a.rt")), (3, POINT))
+        self.assertEqual(self.get("src/a.rt.new"), "mine")
 
     def test_a_nested_module(self) -> None:
         text = "mod inner {\n    #[derive(Drop)]\n    pub struct Point {\n        pub x: u32,\n    }\n}\n"
@@ -235,38 +221,12 @@ class CommandTest(unittest.TestCase):
         self.assertIn("\n    // allocative: begin\n", self.get("src/a.rt"))
         self.assertEqual(self.run_it(text, "--module", "outer")[0], 4)
 
-    def test_the_tally_of_a_struct(self) -> None:
-        _, output, _ = self.run_it("#[derive(Drop)]\nstruct A<T> {\n    own: u64,\n    b: T,\n}\n", "--counted")
-        self.assertIn(STRUCT_TALLY, output)
-        answer = self.get("proofs/a/shown/ATallied/tally/Answers.antt")
-        self.assertIn("\n    (both_counted\n    (field_counted c.in_ok-count.ensures)\n    (field_counted c.in_ok-count-2.ensures))\n", answer)
-        answer = self.get("proofs/a/shown/ATallyTally/none/Answers.antt")
-        self.assertIn("\n    (starts_both\n    (starts_field c.none-2.ensures)\n    (starts_field c.none-3.ensures))\n", answer)
-
-    def test_the_tally_of_the_pack(self) -> None:
-        text = "use indexmap::IndexMap;\nuse smallvec::SmallVec;\n#[derive(Drop)]\nstruct A {\n    a: [IndexMap<u8, String>; 3],\n    b: SmallVec<u64, 2>,\n}\n"
-        _, output, _ = self.run_it(text, "--counted")
-        self.assertIn("    a: FieldTally<<[IndexMap<u8, String>; 3] as Tallied>::Tally>,\n", output)
-        self.assertIn("    b: FieldTally<<SmallVec<u64, 2> as Tallied>::Tally>,\n", output)
-
-    def test_the_tally_of_an_enum(self) -> None:
-        text = "#[derive(Drop)]\nenum E {\n    None,\n    Of(Vec<u64>),\n    TwoOf(u64, u64),\n}\n"
-        _, output, _ = self.run_it(text, "--counted")
-        self.assertIn("    own: Sum,\n    of_value: FieldTally<<Vec<u64> as Tallied>::Tally>,\n    two_of_own: Sum,\n", output)
-        self.assertIn('        let two_of_own = InlineSum("TwoOf", self.two_of_own, (two_of_0, two_of_1));\n', output)
-        self.assertIn('let a = CountedField("Of", a);', output)
-        self.assertIn(ENUM_ARMS, output)
-        answer = self.get("proofs/a/shown/ETallied/tally/Answers.antt")
-        self.assertIn("returns-in_ok-count-in-TwoOf-2 c =\n    rw c.in-TwoOf.is (whole_counted c.size.ensures", answer)
-        self.assertIn("    (second_counted (whole_counted c.size-in-TwoOf.ensures c.in_ok-count_own-in-TwoOf.ensures.ok\n", answer)
-
     def test_types_without_a_tally(self) -> None:
         for text, why in (
             ("struct A(Vec<A>);", "it holds itself"),
             ("struct A<'a, T>(T, PhantomData<&'a T>);", "it has a lifetime"),
             ("struct A {\n    // allocative: size 8\n    a: u64,\n}", "the field a is not shown whole"),
             ("struct A(Vec<IdRc<u64>>);", "`IdRc<u64>` has none"),
-            ("enum A {\n    B(u64),\n}", "it is an enum of one variant"),
             ("enum A<T> {\n    B(u64, T),\n    C,\n}", "it has parameters, and a variant of several fields"),
         ):
             text = f"use allocative::IdRc;\nuse std::marker::PhantomData;\n#[derive(Drop)]\n{text}\n"
@@ -281,24 +241,15 @@ class CommandTest(unittest.TestCase):
         self.assertEqual(output.count(" = CountedField("), 2)
 
     def test_lines_that_are_asked_for(self) -> None:
-        with open(os.path.join(self.top, "crates.txt"), "w", encoding="utf-8") as file:
-            file.write("page: thiserror\nother: page\n")
+        self.put("../../crates.txt", "page: thiserror\nother: page\n")
         self.run_it("//! A page.\n\nuse std::fmt;\n\n" + POINT, "--add-lines")
         self.assertEqual(self.get("src/a.rt").splitlines()[2], "mod shown;")
-        with open(os.path.join(self.top, "crates.txt"), encoding="utf-8") as file:
-            self.assertEqual(file.read(), "page: thiserror allocative\nother: page\n")
+        self.assertEqual(self.get("../../crates.txt"), "page: thiserror allocative\nother: page\n")
 
     def test_faults_of_the_arguments_and_the_file(self) -> None:
         self.assertEqual(self.run_it(POINT, "Line")[0], 4)
         with open(self.put("src/a.rt", ""), "wb") as file:
             file.write(b"\n\xff")
-        told = io.StringIO()
-        with contextlib.redirect_stderr(told):
-            self.assertEqual(main([self.path("src/a.rt")]), 4)
-            self.assertEqual(main([self.path("src/none.rt")]), 3)
-            self.assertEqual(main([self.top]), 3)
-        self.assertIn("a.rt:2: the text is not UTF-8", told.getvalue())
-
-
-if __name__ == "__main__":
-    unittest.main()
+        status, _, told = run(self.path("src/a.rt"))
+        self.assertEqual((status, "a.rt:2: the text is not UTF-8" in told), (4, True))
+        self.assertEqual([run(path)[0] for path in (self.path("src/none.rt"), self.top)], [3, 3])

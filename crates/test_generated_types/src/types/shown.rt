@@ -602,3 +602,113 @@ impl<'a, const N: usize> Allocative for Found<'a, N> {
         Declared("Found", <FoundLayout<N>>::size(), (places, counts)).enter(visitor)
     }
 }
+
+type ShareLayout = Record<(u8, (f64, ()))>;
+
+impl Described for Share {
+    ghost name = { codes "Share" };
+
+    ghost align = { ⟦<ShareLayout as Described>⟧.align };
+
+    ghost needs_drop = { ⟦<ShareLayout as Described>⟧.needs_drop };
+
+    ghost size = { ⟦<ShareLayout as Described>⟧.size };
+
+    fn name() -> &'static str {
+        "Share"
+    }
+
+    fn align() -> usize {
+        <ShareLayout>::align()
+    }
+
+    fn needs_drop() -> bool {
+        <ShareLayout>::needs_drop()
+    }
+
+    fn size() -> Option<usize> {
+        <ShareLayout>::size()
+    }
+}
+
+impl Allocative for Share {
+    ghost use Rattle.test_generated_types.specs.declared.types.Share.TheVariants.{Part};
+
+    ghost may_show = { λ x. shows.Field (codes "Share") ⟦<ShareLayout as Described>⟧.size (elim x [
+      | Part a ↦ shows.Field (codes "Part") ⟦<f64 as Described>⟧.size (⟦<f64 as Allocative>⟧.may_show a)
+    ]) };
+
+    ghost is_exact = { true };
+
+    fn visit(&self, visitor: &mut Visitor<'_>) -> Result<(), Refusal> {
+        match self {
+            Share::Part(a) => {
+                let a = Field("Part", a);
+                Whole(self, a).enter(visitor)
+            }
+        }
+    }
+}
+
+type FramedLayout<K, V> = Record<(u8, (K, (Vec<V>, (u16, ()))))>;
+
+type FramedBothFields<K, V> = Record<(K, (Vec<V>, (u16, ())))>;
+
+impl<K: Allocative + Described, V: Allocative + Described> Described for Framed<K, V> {
+    ghost name = { codes "Framed" };
+
+    ghost align = { ⟦<FramedLayout<K, V> as Described>⟧.align };
+
+    ghost needs_drop = { ⟦<FramedLayout<K, V> as Described>⟧.needs_drop };
+
+    ghost size = { ⟦<FramedLayout<K, V> as Described>⟧.size };
+
+    fn name() -> &'static str {
+        "Framed"
+    }
+
+    fn align() -> usize {
+        <FramedLayout<K, V>>::align()
+    }
+
+    fn needs_drop() -> bool {
+        <FramedLayout<K, V>>::needs_drop()
+    }
+
+    fn size() -> Option<usize> {
+        <FramedLayout<K, V>>::size()
+    }
+}
+
+impl<K: Allocative + Described, V: Allocative + Described> Allocative for Framed<K, V> {
+    ghost use Rattle.test_generated_types.specs.declared.types.Framed.TheVariants.{Both};
+
+    ghost may_show = { λ x. shows.Field (codes "Framed") ⟦<FramedLayout<K, V> as Described>⟧.size (elim x [
+      | Both a b c ↦ shows.Field (codes "Both") ⟦<FramedBothFields<K, V> as Described>⟧.size (shows.Both
+          (shows.Field (codes "left") ⟦<K as Described>⟧.size (⟦<K as Allocative>⟧.may_show a)) (shows.Both
+          (shows.Field (codes "inside") ⟦<Vec<V> as Described>⟧.size (⟦<Vec<V> as Allocative>⟧.may_show b))
+          (shows.Field (codes "width") ⟦<u16 as Described>⟧.size (⟦<u16 as Allocative>⟧.may_show c))))
+    ]) };
+
+    ghost is_exact = { K.is_exact && (V.is_exact) };
+
+    fn visit(&self, visitor: &mut Visitor<'_>) -> Result<(), Refusal> {
+        match self {
+            Framed::Both {
+                left,
+                inside,
+                width,
+            } => {
+                let left = Field("left", left);
+                let inside = Field("inside", inside);
+                let width = Field("width", width);
+                let inside = Declared(
+                    "Both",
+                    <FramedBothFields<K, V>>::size(),
+                    (left, inside, width),
+                );
+                Whole(self, inside).enter(visitor)
+            }
+        }
+    }
+}

@@ -1,13 +1,21 @@
 -- Written by bin/implement.
-use Rattle.std.proofs.Common.{rules}
-use Rattle.allocative.proofs.Parts.{parts}
+use Rattle.test_generated_types.specs.contracts.tallied.EventAllocative.TheImpl.{ghosts}
+use Rattle.std.proofs.Common.{refl}
+use Rattle.allocative.proofs.ByHand.{visited_at}
+use Rattle.allocative.proofs.Meaning.{exact_same, means_field, means_same}
 use Rattle.test_generated_types.proofs.tallied.EventAllocative.visit.Goals as goal
 
 pub returns-in-Quiet : goal.returns-in-Quiet
-returns-in-Quiet c = rw c.in-Quiet.is (search (rules, parts))
+returns-in-Quiet c =
+    visited_at ghosts.may_show c.in-Quiet.is c.enter.ensures exact_same
+    (means_field refl refl means_same)
 
 pub returns-in-Note : goal.returns-in-Note
-returns-in-Note c = rw c.in-Note.is (search (rules, parts))
+returns-in-Note c =
+    visited_at ghosts.may_show c.in-Note.is c.enter-in-Note.ensures exact_same
+    (means_field refl refl means_same)
 
 pub returns-in-Sale : goal.returns-in-Sale
-returns-in-Sale c = rw c.in-Sale.is (search (rules, parts))
+returns-in-Sale c =
+    visited_at ghosts.may_show c.in-Sale.is c.enter-in-Sale.ensures exact_same
+    (means_field refl refl (means_field refl c.size.ensures means_same))
