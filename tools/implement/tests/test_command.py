@@ -155,6 +155,7 @@ class CommandTest(unittest.TestCase):
             ("Vec<BTreeMap<(T, u8), u8>>", "asks `T: Ord`"),
             ("HashSet<f64>", "asks `f64: Eq + Hash`"),
             ("BTreeSet<Vec<K>>", "asks `K: Ord`"),
+            ("Option<SmallVec<T, 2>>", "does not bound the size of `SmallVec<T, 2>`"),
         ):
             for above in ("", "    // allocative: size 8\n"):
                 status, output, told = self.run_it(f"{head}{{\n{above}    a: {kind},\n    b: T,\n    c: BTreeSet<U>,\n}}\n")
