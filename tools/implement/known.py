@@ -112,7 +112,7 @@ class Scope:
         kind = self.real(kind)
         if kind.form == "other" and kind.text.startswith(FUNCTIONS):
             return f"`{kind.text}` is a function pointer, and the checker proves no implementation for a type with one"
-        if kind.name == "SmallVec" and any(part.name in definition.names("type") for part in kind.parts[0].all()):
+        if kind.name == "SmallVec" and any(part.name in definition.names("type") for part in kind.all()):
             return f"the checker does not bound the size of `{kind.text}` over a type parameter: write a `Vec`"
         keys = kind.parts[0].all() if kind.name in KEYS and kind.parts else ()
         for key in keys:

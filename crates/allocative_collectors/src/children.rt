@@ -9,7 +9,7 @@ use std::alloc::{AllocError, Global};
 /// How many numbers are one list at most.
 pub(crate) const LONGEST_LIST: usize = 512;
 
-/// At how many numbers a chunk is cut in two.
+/// How many numbers are one chunk at most. The chunk that a list becomes has more until a number is put in it.
 const LONGEST_CHUNK: usize = 256;
 
 /// Numbers in an order that the caller keeps.
@@ -146,7 +146,8 @@ impl Chunk {
         Ok(())
     }
 
-    // Takes the upper half of the numbers away. The only error is that memory runs out, and then nothing changes.
+    // Takes the upper half of the numbers away. The only error is that memory runs out, and then the numbers are as they
+    // were; some starts may be forgotten.
     fn cut(&mut self) -> Result<Chunk, AllocError>
         requires { 0 < length self.old.rest.items }
         ensures ok { IfOk result
@@ -195,7 +196,7 @@ pub(crate) fn start_of(key: &str) -> u64 {
     let bytes = key.as_bytes();
     let mut start: u64 = 0;
     for index in 0..8 {
-        start = start.rotate_left(8) | u64::from(bytes.get(index).copied().unwrap_or(0));
+        start = start << 8 | u64::from(bytes.get(index).copied().unwrap_or(0));
     }
     start
 }

@@ -83,7 +83,8 @@ pub(crate) fn count_room<T: Described>(
     pointer: &mut Sum,
     unused: &mut Sum,
 ) -> Result<Option<usize>, CountError>
-    ensures { IfOk result (CountsRoom T.size count capacity pointer.old unused.old pointer.new unused.new) }
+    ensures { IfOk result
+        (CountsRoom T.size count capacity pointer.old unused.old pointer.new unused.new) }
 {
     let Some(size) = T::size() else {
         return Err(CountError);

@@ -161,6 +161,7 @@ class CommandTest(unittest.TestCase):
                 status, output, told = self.run_it(f"{head}{{\n{above}    a: {kind},\n    b: T,\n    c: BTreeSet<U>,\n}}\n")
                 self.assertEqual((status, output, len(told)), (4, "", 1))
                 self.assertIn(what, told[0])
+        self.assertEqual(self.run_it("#[derive(Drop)]\nstruct SmallVec(u8);\n#[derive(Drop)]\nstruct A<T>(SmallVec, T);\n")[0], 0)
         empty, sized, fixed = "enum A {}", "struct A<T: ?Sized>(Box<T>);", "struct A<const N: usize>([u8; N]);"
         for text, what in ((sized, "`?Sized`"), (fixed, "a const parameter"), ("struct A { deriving: u8 }", "reserves")):
             self.assertIn(what, self.run_it(f"#[derive(Drop)]\n{text}\n")[2][0])
