@@ -1,19 +1,17 @@
 -- What a search among a node's children says of the sums.
 use Rattle.std.proofs.Common.{◌≡◌, ◌≢◌, ℕ, zero, suc, ◌<◌, false, List, [], ◌∷◌, ◌++◌, length, sym, ap, subst, ◌∙◌}
-use Rattle.std.proofs.Common.{arith, inl, inr, refl, append_assoc, map, set}
+use Rattle.std.proofs.Common.{arith, inl, inr, refl, append_assoc, map}
 use Rattle.allocative_collectors.proofs.Common.{Equal, Key, Path, key_cmp, path_at, IsEntered, Listed, root_sum, Shape}
-use Rattle.allocative_collectors.proofs.Common.{leaf, at, children_at, sums, keys_at, key_in, key_at, parent_at}
+use Rattle.allocative_collectors.proofs.Common.{leaf, sums, keys_at, key_in, key_at, parent_at}
 use Rattle.allocative_collectors.proofs.Common.{IsChild, IsArena, IsKeyGap}
-use Rattle.std.proofs.lemmas.List.{length-map, get_or-map, get_or_push, same_from_push}
+use Rattle.std.proofs.lemmas.List.{length-map, get_or-map, get_or_push, length_push, same_from_push}
 use Rattle.std.proofs.lemmas.Cmp.{tied_itself}
 use Rattle.std.proofs.lemmas.Bool.{cases_lt}
 use Rattle.allocative_collectors.proofs.Keys.{key_total}
 use Rattle.allocative_collectors.proofs.Entries.{put_nothing}
-use Rattle.allocative_collectors.proofs.Labels.{path_of, path_from-some, grow_same, grow_push, put_push, length_sums}
+use Rattle.allocative_collectors.proofs.Labels.{path_of, path_from-some, grow_push, put_push, length_sums}
 use Rattle.allocative_collectors.proofs.Labels.{not_nil, root_at, step, key_place, distinct}
-use Rattle.allocative_collectors.proofs.Grown.{grown, length_grown, with_children}
-use Rattle.std.specs.List.{insert}
-use Rattle.allocative_collectors.specs.Shapes.{sum_from}
+use Rattle.allocative_collectors.proofs.Grown.{grown}
 
 -- at a gap no child has the key
 gap_none : (ks : List Key) (k : Key) (g : ℕ) → IsKeyGap ks k g → (j : ℕ) → j < length ks → key_in ks j ≡ k → ⊥
@@ -30,7 +28,7 @@ last_of : (k : Key) (q : Path) → (q' : Path) × (l : Key) × (k ∷ q ≡ q' +
 last_of k [] = ([], k, refl)
 last_of k (x ∷ q) = let more = last_of x q in (k ∷ more.0, more.1, ap (λ (y : Path). k ∷ y) more.2)
 
-module _ (ns : List Shape) (ok : IsArena ns) (p : ℕ) (hp : p < length ns) (k : Key) where
+module _ (ns : List Shape) {cs : List (List ℕ)} (ok : IsArena ns cs) (p : ℕ) (hp : p < length ns) (k : Key) where
   -- an entry of 0 bytes at a child with the key
   pub was_entered : (i : ℕ) → IsChild ns p i → key_at ns i ≡ k → IsEntered (sums ns) (sums ns) p k 0 false i
   was_entered i c key =
@@ -56,7 +54,7 @@ module _ (ns : List Shape) (ok : IsArena ns) (p : ℕ) (hp : p < length ns) (k :
 
   -- a child of p has the key if a path begins with p's and the key
   pub on_way : (n i : ℕ) → i < n → i < length ns → (q : Path) → path_at (sums ns) i ≡ path_at (sums ns) p ++ k ∷ q →
-      (a : ℕ) × (a < length (keys_at ns p)) × (key_in (keys_at ns p) a ≡ k)
+      (a : ℕ) × (a < length (keys_at ns cs p)) × (key_in (keys_at ns cs p) a ≡ k)
   on_way zero i lt hi q e = absurd (omega arith)
   on_way (suc n) zero lt hi q e = absurd (not_nil _ _ _ (sym e ∙ root_at ns))
   on_way (suc n) (suc i) lt hi [] e =
@@ -71,30 +69,26 @@ module _ (ns : List Shape) (ok : IsArena ns) (p : ℕ) (hp : p < length ns) (k :
       on_way n (parent_at ns (suc i)) (omega arith) (omega arith) l.0
       (same_from_push _ _ _ _ (sym (step ns ok (suc i) (omega arith) hi) ∙ (e ∙ split))).0
 
-  module _ (g : ℕ) (gap : IsKeyGap (keys_at ns p) k g) where
+  module _ (g : ℕ) (gap : IsKeyGap (keys_at ns cs p) k g) where
     -- the path of a key in a gap was not entered before
     path_new : (i : ℕ) → i < length (sums ns) → path_at (sums ns) i ≢ path_at (sums ns) p ++ k ∷ []
     path_new i h e =
         let child = child_of i (omega (arith, length_sums ns)) e in
         let place = key_place ns ok p i child.0 in
-        gap_none (keys_at ns p) k g gap _ place.0 (place.1 ∙ child.1)
+        gap_none (keys_at ns cs p) k g gap _ place.0 (place.1 ∙ child.1)
 
     -- an entry of 0 bytes at a new child
-    pub now_entered : IsEntered (sums ns) (sums (grown ns p k g)) p k 0 false (length ns)
+    pub now_entered : IsEntered (sums ns) (sums (grown ns p k)) p k 0 false (length ns)
     now_entered =
         let Q = path_at (sums ns) p ++ k ∷ [] in
-        let rest = set ns p (with_children (insert (children_at ns p) g (length ns)) (at ns p)) in
-        let len = length_grown ns ok p hp k g gap in
-        let all : sums (grown ns p k g) ≡ sums ns ++ record { path = Q; bytes = 0; is_unique = false } ∷ [] =
-        grow_push [] rest (leaf p k)
-        ∙ (ap (λ (s : Listed). s ++ sum_from (map path_of s) (leaf p k) ∷ []) (grow_same [] ns p _ refl)
+        let all : sums (grown ns p k) ≡ sums ns ++ record { path = Q; bytes = 0; is_unique = false } ∷ [] =
+        grow_push [] ns (leaf p k)
         ∙ (ap (λ (x : Path). sums ns ++ record { path = x; bytes = 0; is_unique = false } ∷ []) (path_from-some (map path_of (sums ns)) p k (omega (arith, ok.rooted, length_sums ns, length-map (sums ns) path_of))
-        ∙ ap (λ (x : Path). x ++ k ∷ []) (get_or-map path_of (sums ns) p root_sum [] (omega (arith, length_sums ns))))))
-        in
+        ∙ ap (λ (x : Path). x ++ k ∷ []) (get_or-map path_of (sums ns) p root_sum [] (omega (arith, length_sums ns))))) in
         record {
           sums = all ∙ sym (put_push (length ns) Q 0 false (sums ns) (sym (length_sums ns)));
           not_root = ok.rooted;
-          within = omega (arith, length_sums (grown ns p k g));
+          within = omega (arith, length_sums (grown ns p k), length_push ns (leaf p k));
           path = ap (λ (s : Listed). path_at s (length ns)) all
               ∙ ap path_of (get_or_push (sums ns) _ root_sum (length ns) (length_sums ns));
           sole = λ j h e. absurd (path_new j h e);

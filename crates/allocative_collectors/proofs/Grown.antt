@@ -9,15 +9,16 @@ use Rattle.std.proofs.lemmas.List.Elements.{All-append, All-cons, All-drop, All-
 use Rattle.std.proofs.lemmas.List.{length-map, get_or_append_left, get_or_push, length_push}
 use Rattle.std.proofs.lemmas.List.Edits.{length-insert, get_or-insert_below, get_or-insert_at}
 use Rattle.std.proofs.lemmas.Bool.{cases_order, cases_eq}
-use Rattle.allocative_collectors.proofs.Keys.{map_same, keys_of-insert, insert_above, stands_insert, touched, pushed}
+use Rattle.allocative_collectors.proofs.Keys.{map_same, keys_of-insert, insert_above, stands_insert, pushed}
 use Rattle.allocative_collectors.proofs.Keys.{key_total}
 
-abbrev pub with_children : List ℕ → Shape → Shape
-with_children xs n = record n { children = xs }
+-- the nodes with a new one under p, whose key is k
+abbrev pub grown : List Shape → ℕ → Key → List Shape
+grown ns p k = ns ++ leaf p k ∷ []
 
--- the arena with a new node under p, whose key k is put at place g among the children
-abbrev pub grown : List Shape → ℕ → Key → ℕ → List Shape
-grown ns p k g = set ns p (with_children (insert (children_at ns p) g (length ns)) (at ns p)) ++ leaf p k ∷ []
+-- the lists of children if the number n is put at place g of that of p, and one more list is empty
+abbrev pub with_child : List (List ℕ) → ℕ → ℕ → ℕ → List (List ℕ)
+with_child cs p g n = set cs p (insert (children_at cs p) g n) ++ [] ∷ []
 
 -- keys stay in order when a key is put into its gap
 rise_insert : (ks : List Key) (k : Key) (g : ℕ) → IsKeyGap ks k g → KeysRise ks → KeysRise (insert ks g k)
@@ -39,103 +40,95 @@ rise_insert ks k g gap rise i j lt h =
           ])
     ]
 
-module _ (ns : List Shape) (ok : IsArena ns) (p : ℕ) (hp : p < length ns) (k : Key) (g : ℕ)
-    (gap : IsKeyGap (keys_at ns p) k g) where
+module _ (ns : List Shape) {cs : List (List ℕ)} (ok : IsArena ns cs) (p : ℕ) (hp : p < length ns) (k : Key) (g : ℕ)
+    (gap : IsKeyGap (keys_at ns cs p) k g) where
   abbrev new : List Shape
-  new = grown ns p k g
+  new = grown ns p k
 
-  abbrev written : Shape
-  written = with_children (insert (children_at ns p) g (length ns)) (at ns p)
+  abbrev lists : List (List ℕ)
+  lists = with_child cs p g (length ns)
 
-  abbrev rest : List Shape
-  rest = set ns p written
-
-  length_rest : length rest ≡ length ns
-  length_rest = length-set ns p written
-
-  pub length_grown : length (grown ns p k g) ≡ length ns + 1
-  length_grown = omega (arith, length_rest, length_push rest (leaf p k))
+  length_grown : length new ≡ length ns + 1
+  length_grown = length_push ns (leaf p k)
 
   at_leaf : at new (length ns) ≡ leaf p k
-  at_leaf = get_or_push rest (leaf p k) no_shape (length ns) length_rest
+  at_leaf = get_or_push ns (leaf p k) no_shape (length ns) refl
 
-  -- what does not depend on the children is unchanged
-  before : {X : Type 0} (f : Shape → X) → f written ≡ f (at ns p) → (i : ℕ) → i < length ns → f (at new i) ≡ f (at ns i)
-  before f same i h = ap f (get_or_append_left rest _ no_shape i (omega (arith, length_rest)))
-      ∙ touched f ns p written same i
+  -- the nodes before are unchanged
+  before : (i : ℕ) → i < length ns → at new i ≡ at ns i
+  before i h = get_or_append_left ns _ no_shape i h
 
   parent_before : (i : ℕ) → i < length ns → parent_at new i ≡ parent_at ns i
-  parent_before = before (λ n. n.parent) refl
+  parent_before i h = ap (λ (n : Shape). n.parent) (before i h)
 
-  children_other : (q : ℕ) → q ≢ p → children_at new q ≡ children_at ns q
-  children_other q ne = pushed (λ n. n.children) rest (leaf p k) refl q
-      ∙ ap (λ (n : Shape). n.children) (get_or-set_other ns p q _ no_shape ne)
+  children_other : (q : ℕ) → q ≢ p → children_at lists q ≡ children_at cs q
+  children_other q ne = pushed (set cs p _) q ∙ get_or-set_other cs p q _ [] ne
 
-  children_parent : children_at new p ≡ insert (children_at ns p) g (length ns)
-  children_parent = ap (λ (n : Shape). n.children)
-      (get_or_append_left rest _ no_shape p (omega (arith, length_rest)) ∙ get_or-set_same ns p written no_shape hp)
+  children_parent : children_at lists p ≡ insert (children_at cs p) g (length ns)
+  children_parent = pushed (set cs p _) p ∙ get_or-set_same cs p _ [] (omega (arith, hp, ok.lists))
 
   -- the keys of the children before
-  keys_stood : (q : ℕ) → keys_of new (children_at ns q) ≡ keys_at ns q
-  keys_stood q = map_same (key_at new) (key_at ns) (children_at ns q)
-      (λ j h. before (λ n. n.key) refl (get_or (children_at ns q) j 0) (ok.children q j 0 h).in_range)
+  keys_stood : (q : ℕ) → keys_of new (children_at cs q) ≡ keys_at ns cs q
+  keys_stood q = map_same (key_at new) (key_at ns) (children_at cs q)
+      (λ j h. ap (λ (n : Shape). n.key) (before (get_or (children_at cs q) j 0) (ok.children q j 0 h).in_range))
 
-  keys_parent : keys_of new (insert (children_at ns p) g (length ns)) ≡ insert (keys_at ns p) g k
-  keys_parent = keys_of-insert new (children_at ns p) g (length ns)
+  keys_parent : keys_of new (insert (children_at cs p) g (length ns)) ≡ insert (keys_at ns cs p) g k
+  keys_parent = keys_of-insert new (children_at cs p) g (length ns)
       ∙ (λ i. insert (keys_stood p i) g (ap (λ (n : Shape). n.key) at_leaf i))
 
   -- what holds of the new children of p and of the others as they were
-  by_parent : (P : ℕ → List ℕ → Type 0) → P p (insert (children_at ns p) g (length ns)) →
-      ((q : ℕ) → q ≢ p → P q (children_at ns q)) → (q : ℕ) → P q (children_at new q)
+  by_parent : (P : ℕ → List ℕ → Type 0) → P p (insert (children_at cs p) g (length ns)) →
+      ((q : ℕ) → q ≢ p → P q (children_at cs q)) → (q : ℕ) → P q (children_at lists q)
   by_parent P here others q = elim (cases_eq q p) [
-    | inl e ↦ subst (λ (x : ℕ). P x (children_at new x)) (sym e) (subst (P p) (sym children_parent) here)
+    | inl e ↦ subst (λ (x : ℕ). P x (children_at lists x)) (sym e) (subst (P p) (sym children_parent) here)
     | inr ne ↦ subst (P q) (sym (children_other q ne)) (others q ne)
   ]
 
-  gap_within : g ≤ length (children_at ns p)
-  gap_within = omega (arith, gap.in_range, length-map (children_at ns p) (key_at ns))
+  gap_within : g ≤ length (children_at cs p)
+  gap_within = omega (arith, gap.in_range, length-map (children_at cs p) (key_at ns))
 
   child_before : (q i : ℕ) → IsChild ns q i → IsChild new q i
   child_before q i old = record { not_root = old.not_root; in_range = omega (arith, length_grown, old.in_range); parent = parent_before i old.in_range ∙ old.parent }
 
-  stood : (q i : ℕ) → i ≢ length ns → IsChild new q i → StandsIn (children_at ns q) i
+  stood : (q i : ℕ) → i ≢ length ns → IsChild new q i → StandsIn (children_at cs q) i
   stood q i ne c =
       let inside : i < length ns = omega (arith, length_grown, c.in_range) in
       ok.listed q i
       (record { not_root = c.not_root; in_range = inside; parent = sym (parent_before i inside) ∙ c.parent })
 
-  listed : (q i : ℕ) → IsChild new q i → StandsIn (children_at new q) i
+  listed : (q i : ℕ) → IsChild new q i → StandsIn (children_at lists q) i
   listed q i = by_parent (λ x xs. IsChild new x i → StandsIn xs i)
       (λ c. elim (cases_eq i (length ns)) [
         | inl e ↦ record {
           place = g;
-          in_range = omega (arith, gap_within, length-insert (children_at ns p) g (length ns) gap_within);
-          is = get_or-insert_at (children_at ns p) g (length ns) 0 gap_within ∙ sym e;
+          in_range = omega (arith, gap_within, length-insert (children_at cs p) g (length ns) gap_within);
+          is = get_or-insert_at (children_at cs p) g (length ns) 0 gap_within ∙ sym e;
         }
-        | inr ne ↦ stands_insert (children_at ns p) g (length ns) i gap_within (stood p i ne c)
+        | inr ne ↦ stands_insert (children_at cs p) g (length ns) i gap_within (stood p i ne c)
       ])
       (λ q other c. stood q i (λ e. other (sym c.parent
       ∙ (ap (parent_at new) e ∙ ap (λ (n : Shape). n.parent) at_leaf))) c) q
 
-  pub arena_grown : IsArena (grown ns p k g)
+  pub arena_grown : IsArena (grown ns p k) (with_child cs p g (length ns))
   arena_grown = record {
     rooted = omega (arith, length_grown);
-    root_empty = before (λ n. n.bytes) refl 0 ok.rooted ∙ ok.root_empty;
+    root_empty = ap (λ (n : Shape). n.bytes) (before 0 ok.rooted) ∙ ok.root_empty;
     root_parent = parent_before 0 ok.rooted ∙ ok.root_parent;
     parents = λ i pos h. elim (cases_eq i (length ns)) [
       | inl e ↦ rw e (rw (ap (λ (n : Shape). n.parent) at_leaf) hp)
       | inr ne ↦ let old : i < length ns = omega (arith, length_grown) in
           rw (parent_before i old) (ok.parents i pos old)
     ];
+    lists = omega (arith, length_grown, ok.lists, length-set cs p (insert (children_at cs p) g (length ns)), length_push (set cs p (insert (children_at cs p) g (length ns))) []);
     listed = listed;
     children = by_parent (λ q. All (IsChild new q))
-        (let xs = children_at ns p in
+        (let xs = children_at cs p in
         let old = All-weaker (IsChild ns p) (IsChild new p) (child_before p) xs (ok.children p) in
         let one : IsChild new p (length ns) = record { not_root = ok.rooted; in_range = omega (arith, length_grown); parent = ap (λ (n : Shape). n.parent) at_leaf } in
         All-append (IsChild new p) (take g xs) (length ns ∷ drop g xs) (All-take (IsChild new p) g xs old)
         (All-cons (IsChild new p) (length ns) (drop g xs) one (All-drop (IsChild new p) g xs old)))
-        (λ q ne. All-weaker (IsChild ns q) (IsChild new q) (child_before q) (children_at ns q) (ok.children q));
+        (λ q ne. All-weaker (IsChild ns q) (IsChild new q) (child_before q) (children_at cs q) (ok.children q));
     rise = by_parent (λ q xs. KeysRise (keys_of new xs))
-        (subst KeysRise (sym keys_parent) (rise_insert (keys_at ns p) k g gap (ok.rise p)))
+        (subst KeysRise (sym keys_parent) (rise_insert (keys_at ns cs p) k g gap (ok.rise p)))
         (λ q ne. subst KeysRise (sym (keys_stood q)) (ok.rise q));
   }

@@ -2,7 +2,7 @@
 use Rattle.std.proofs.Common.{◌≡◌, true, false, ◌&&◌, refl, sym, subst, ℕ, zero, suc, set, inl, inr, ◌+◌, ◌-◌, ◌<◌, ◌≤◌}
 use Rattle.std.proofs.Common.{List, [], ◌∷◌, ◌++◌, length, map, get_or, drop, take, ◌∙◌, arith}
 use Rattle.allocative_collectors.proofs.Common.{Ordering, Less, Equal, Greater, is_eq, ordering_then, Key, Path}
-use Rattle.allocative_collectors.proofs.Common.{key_cmp, is_same_path, Shape, no_shape, at, key_at, keys_of, StandsIn}
+use Rattle.allocative_collectors.proofs.Common.{key_cmp, is_same_path, Shape, at, children_at, key_at, keys_of, StandsIn}
 use Rattle.std.specs.Cmp.{IsTotalOrder}
 use Rattle.std.specs.FinMap.{nat_cmp-IsAntisymmetric, slice_cmp-IsAntisymmetric}
 use Rattle.std.proofs.lemmas.Cmp.{nat_cmp_total, lists_total, tied_itself}
@@ -79,10 +79,9 @@ touched f (n ∷ ns) zero m e (suc j) = refl
 touched f (n ∷ ns) (suc i) m e zero = refl
 touched f (n ∷ ns) (suc i) m e (suc j) = touched f ns i m e j
 
--- one more node keeps what a missing node has too
-pub pushed : {X : Type 0} (f : Shape → X) (ns : List Shape) (n : Shape) → f n ≡ f no_shape → (j : ℕ) →
-    f (at (ns ++ n ∷ []) j) ≡ f (at ns j)
-pushed f [] n e zero = e
-pushed f [] n e (suc j) = refl
-pushed f (m ∷ ns) n e zero = refl
-pushed f (m ∷ ns) n e (suc j) = pushed f ns n e j
+-- One more list that is empty changes no list.
+pub pushed : (cs : List (List ℕ)) (j : ℕ) → children_at (cs ++ [] ∷ []) j ≡ children_at cs j
+pushed [] zero = refl
+pushed [] (suc j) = refl
+pushed (c ∷ cs) zero = refl
+pushed (c ∷ cs) (suc j) = pushed cs j

@@ -77,18 +77,6 @@ grow_raise ps (m ∷ ns) zero q n u h = refl
 grow_raise ps (m ∷ ns) (suc i) q n u h = ap (λ (t : Listed). sum_from ps m ∷ t)
     (grow_raise (ps ++ path_of (sum_from ps m) ∷ []) ns i q n u (omega arith))
 
--- what a node's sum depends on
-abbrev pub bare : Shape → Shape
-bare n = record n { children = [] }
-
--- a write that keeps it keeps the sums
-pub grow_same : (ps : List Path) (ns : List Shape) (i : ℕ) (m : Shape) → bare m ≡ bare (at ns i) →
-    grow ps (set ns i m) ≡ grow ps ns
-grow_same ps [] i m e = refl
-grow_same ps (n ∷ ns) zero m e = λ k. grow ps (e k ∷ ns)
-grow_same ps (n ∷ ns) (suc i) m e = ap (λ (t : Listed). sum_from ps n ∷ t)
-    (grow_same (ps ++ path_of (sum_from ps n) ∷ []) ns i m e)
-
 -- The bytes of the sums of some nodes add up to the bytes of the nodes.
 pub total-grow : (ps : List Path) (ns : List Shape) → total (grow ps ns) ≡ sum_by (λ (n : Shape). n.bytes) ns
 total-grow ps [] = refl
@@ -120,7 +108,7 @@ pub not_nil : (p : Path) (k : Key) (q : Path) → p ++ k ∷ q ≡ [] → ⊥
 not_nil [] k q e = cc
 not_nil (x ∷ p) k q e = cc
 
-module _ (ns : List Shape) (ok : IsArena ns) where
+module _ (ns : List Shape) {cs : List (List ℕ)} (ok : IsArena ns cs) where
   -- the path of another node is its parent's with one more key
   pub step : (i : ℕ) → 0 < i → i < length ns →
       path_at (sums ns) i ≡ path_at (sums ns) (parent_at ns i) ++ key_at ns i ∷ []
@@ -131,18 +119,19 @@ module _ (ns : List Shape) (ok : IsArena ns) where
 
   -- the key at a child's place
   pub key_place : (p i : ℕ) (c : IsChild ns p i) →
-      (let a = ok.listed p i c in (a.place < length (keys_at ns p)) × (key_in (keys_at ns p) a.place ≡ key_at ns i))
+      (let a = ok.listed p i c in (a.place < length (keys_at ns cs p))
+      × (key_in (keys_at ns cs p) a.place ≡ key_at ns i))
   key_place p i c =
       let a = ok.listed p i c in
-      (omega (arith, length-map (children_at ns p) (key_at ns), a.in_range), get_or-map (key_at ns) (children_at ns p) a.place 0 [] a.in_range ∙ ap (key_at ns) a.is)
+      (omega (arith, length-map (children_at cs p) (key_at ns), a.in_range), get_or-map (key_at ns) (children_at cs p) a.place 0 [] a.in_range ∙ ap (key_at ns) a.is)
 
   -- two children of one parent with one key are one
   one_child : (p i j : ℕ) → IsChild ns p i → IsChild ns p j → key_at ns i ≡ key_at ns j → i ≡ j
   one_child p i j ci cj keys =
       let a = key_place p i ci in
       let b = key_place p j cj in
-      let place = one_place (keys_at ns p) (ok.rise p) _ _ a.0 b.0 (a.1 ∙ (keys ∙ sym b.1)) in
-      sym (ok.listed p i ci).is ∙ (ap (λ (q : ℕ). get_or (children_at ns p) q 0) place ∙ (ok.listed p j cj).is)
+      let place = one_place (keys_at ns cs p) (ok.rise p) _ _ a.0 b.0 (a.1 ∙ (keys ∙ sym b.1)) in
+      sym (ok.listed p i ci).is ∙ (ap (λ (q : ℕ). get_or (children_at cs p) q 0) place ∙ (ok.listed p j cj).is)
 
   distinct_below : (n i j : ℕ) → i < n → i < length ns → j < length ns → path_at (sums ns) i ≡ path_at (sums ns) j →
       i ≡ j

@@ -30,6 +30,8 @@ use Rattle.allocative_graph.proofs.Merge.{get-sum_of}
 use Rattle.allocative_graph.proofs.Graphs.{sizes_together, get-under, get-under-root, get-default, total-sum_of}
 use Rattle.allocative_graph.proofs.Graphs.{total-under, total-add_at}
 use Rattle.std.specs.Option.{is_some}
+use Rattle.allocative_collectors.specs.Chunked.{numbers}
+use Rattle.allocative_collectors.specs.declared.children.Children.{Children}
 use Rattle.allocative_collectors.specs.declared.tree.Node as nodes
 use Rattle.allocative_collectors.proofs.Entries.{IsListing, graph_hit, graph_none, get_at, get_none, nothing_left}
 use Rattle.allocative_collectors.proofs.Labels.{length_sums, step}
@@ -350,25 +352,25 @@ comes_last {s} {p} ks rise j hj part l q there = elim (cases_Bool (among ks j l)
 ]
 
 -- ---- at the nodes
-module _ (ns : List Shape) (ok : IsArena ns) (i : ℕ) (hi : i < length ns) where
+module _ (ns : List Shape) {cs : List (List ℕ)} (ok : IsArena ns cs) (i : ℕ) (hi : i < length ns) where
   -- after the last child, nothing is left
   passed_all : {X : Type 0} (f : Path → Option X) →
       ((q : Path) → ((a : ℕ) → a < length (sums ns) → path_at (sums ns) a ≢ q) → f q ≡ None) → (r : Path)
-      → cond (begun (keys_at ns i) (length (keys_at ns i)) r) (f (path_at (sums ns) i ++ r)) None
+      → cond (begun (keys_at ns cs i) (length (keys_at ns cs i)) r) (f (path_at (sums ns) i ++ r)) None
       ≡ f (path_at (sums ns) i ++ r)
   passed_all f none [] = refl
-  passed_all f none (k ∷ r) = elim (cases_Bool (among (keys_at ns i) (length (keys_at ns i)) k)) [
+  passed_all f none (k ∷ r) = elim (cases_Bool (among (keys_at ns cs i) (length (keys_at ns cs i)) k)) [
     | inl e ↦ rw e refl
     | inr e ↦ rw e (sym (none _ (λ a h path. let way = on_way ns ok i hi k (suc a) a (omega arith) (omega (arith, length_sums ns)) r path in
-        true≢false (sym (among_at (keys_at ns i) way.0 _ k way.1 way.2) ∙ e))))
+        true≢false (sym (among_at (keys_at ns cs i) way.0 _ k way.1 way.2) ∙ e))))
   ]
 
   part_all : (w w' : List Warned) (g : Graph) →
-      MakesPart (sums ns) (path_at (sums ns) i) (begun (keys_at ns i) (length (keys_at ns i))) w w' g →
+      MakesPart (sums ns) (path_at (sums ns) i) (begun (keys_at ns cs i) (length (keys_at ns cs i))) w w' g →
       MakesGraph (sums ns) i w w' g
   part_all w w' g part =
       let m = map_of (sums ns) in
-      let same = rows_same m (path_at (sums ns) i) (begun (keys_at ns i) (length (keys_at ns i))) (λ r. true)
+      let same = rows_same m (path_at (sums ns) i) (begun (keys_at ns cs i) (length (keys_at ns cs i))) (λ r. true)
       (passed_all (get m) (λ q other. get_none (sums ns) q (λ a pos. other a))) in
       record {
         warned_are = part.warned_are ∙ ap (λ (rs : List (Path × Node)). w ++ flat_map (warned m) rs) same;
@@ -376,12 +378,16 @@ module _ (ns : List Shape) (ok : IsArena ns) (i : ℕ) (hi : i < length ns) wher
         total_is = part.total_is ∙ ap (sum_by (size_in (sums ns))) same;
       }
 
-module _ (items : List nodes.Node) (ok : IsTree items) {v : Listed} (view : sums_of items ≡ v) (p : ℕ) where
+module _ (items : List nodes.Node) {lists : List Children} (ok : IsTree items lists) {v : Listed}
+    (view : sums_of items ≡ v) (p : ℕ) where
+  abbrev keys : List Key
+  keys = keys_at (map shape items) (map numbers lists) p
+
   -- a child of a node, in the sums, and its key
-  pub child_read : (xs : List ℕ) → children_at (map shape items) p ≡ xs → (j : ℕ) → j < length xs
+  pub child_read : (xs : List ℕ) → children_at (map numbers lists) p ≡ xs → (j : ℕ) → j < length xs
       → let i = get_or xs j 0 in (p < i) × (i < length v)
-      × (path_at v i ≡ path_at v p ++ key_in (keys_at (map shape items) p) j ∷ [])
-      × ((d : nodes.Node) → (let m = get_or items i d in m.key ≡ key_in (keys_at (map shape items) p) j))
+      × (path_at v i ≡ path_at v p ++ key_in keys j ∷ [])
+      × ((d : nodes.Node) → (let m = get_or items i d in m.key ≡ key_in keys j))
   child_read xs is j hj =
       let ns = map shape items in
       let c = child_seen items ok p xs is j hj in
@@ -389,17 +395,15 @@ module _ (items : List nodes.Node) (ok : IsTree items) {v : Listed} (view : sums
       let path = step ns ok.arena _ c.0.not_root c.0.in_range
       ∙ (λ k. path_at (sums ns) (c.0.parent k) ++ sym c.2 k ∷ []) in
       let same = ap length view in
-      let key = key_in (keys_at ns p) j in
+      let key = key_in keys j in
       (omega (arith, c.0.parent), omega (arith, c.1, length_nodes items), subst (λ (s : Listed). path_at s (get_or xs j 0) ≡ path_at s p ++ key ∷ []) view path, λ d. sym (c.2 ∙ c.3 d))
 
-  pub made_all : p < length v → (w w' : List Warned) (g : Graph) (j : ℕ) → j ≡ length (keys_at (map shape items) p) →
-      MakesPart v (path_at v p) (begun (keys_at (map shape items) p) j) w w' g
-      → MakesGraph v p w w' g
+  pub made_all : p < length v → (w w' : List Warned) (g : Graph) (j : ℕ) → j ≡ length keys →
+      MakesPart v (path_at v p) (begun keys j) w w' g → MakesGraph v p w w' g
   made_all hp w w' g j whole part =
-      let ks = keys_at (map shape items) p in
       subst (λ (s : Listed). MakesGraph s p w w' g) view
       (part_all (map shape items) ok.arena p (in_shapes items p view hp) w w' g
-      (subst (λ (e : Listed × ℕ). MakesPart e.0 (path_at e.0 p) (begun ks e.1) w w' g) (λ x. (sym view x, whole x))
+      (subst (λ (e : Listed × ℕ). MakesPart e.0 (path_at e.0 p) (begun keys e.1) w w' g) (λ x. (sym view x, whole x))
       part))
 
 -- ---- warnings

@@ -1,7 +1,7 @@
 -- What a read of a node says of the arena and the sums: the bytes of its children are those one key below its path.
 use Rattle.std.proofs.Common.{◌≡◌, ◌≢◌, ℕ, zero, suc, ◌<◌, Bool, false, not, ◌&&◌, List, [], ◌∷◌, ◌++◌, length, get_or}
 use Rattle.std.proofs.Common.{sum_by, refl, sym, ap, ◌∙◌, arith, inl, inr, cond, ltb, lt-ltb, ◌+◌, ◌≤◌, ◌||◌, map, set}
-use Rattle.std.proofs.Common.{subst, length-set, get_or-set_same, get_or-set_other}
+use Rattle.std.proofs.Common.{subst, subst₂, length-set, get_or-set_same, get_or-set_other}
 use Rattle.allocative_collectors.proofs.Common.{Key, Path, key_cmp, path_cmp, is_same_path, Sum, root_sum, sum_at}
 use Rattle.allocative_collectors.proofs.Common.{path_at, map_of, Shape, no_shape, at, sums, key_at, parent_at, bytes_at}
 use Rattle.allocative_collectors.proofs.Common.{IsArena, is_one_below, is_root, below, leaf, IsChild, keys_at}
@@ -15,12 +15,13 @@ use Rattle.allocative_collectors.proofs.Entries.{IsListing, below_listed, not_be
 use Rattle.allocative_collectors.proofs.Labels.{length_sums, figures-grow, root_at, step, distinct, raise_shape}
 use Rattle.std.specs.List.{insert}
 use Rattle.std.proofs.lemmas.List.{get_or-map, length-map, map-set, map_push, set-get_or}
+use Rattle.allocative_collectors.specs.declared.children.Children.{Children}
 use Rattle.allocative_collectors.specs.declared.tree.Node.{Node}
 use Rattle.allocative_collectors.specs.Chunked.{numbers}
 use Rattle.allocative_collectors.specs.Listed.{total}
 use Rattle.allocative_collectors.proofs.Keys.{key_not_before, key_total, same_path-same, same_path-apart, tied}
 use Rattle.allocative_collectors.proofs.Raised.{raised, bytes_le_total}
-use Rattle.allocative_collectors.proofs.Grown.{with_children, grown}
+use Rattle.allocative_collectors.proofs.Grown.{grown, with_child}
 
 -- two sums are equal if their terms are
 pub same_sum : {X Y : Type 0} (f : X → ℕ) (g : Y → ℕ) (d : X) (e : Y) (xs : List X) (ys : List Y) →
@@ -45,7 +46,7 @@ step_push (j ∷ p) (l ∷ q) k = (λ i. (eq_by_cmp_equiv key_total).symm j l i 
     ∙ tied (key_cmp l j) (path_cmp q p)
 
 -- The sums of an arena are a listing: the root comes first and has no bytes, and all paths differ.
-pub listing : (ns : List Shape) → IsArena ns → IsListing (sums ns)
+pub listing : (ns : List Shape) {cs : List (List ℕ)} → IsArena ns cs → IsListing (sums ns)
 listing ns ok = record {
   rooted = omega (arith, length_sums ns, ok.rooted);
   root_path = root_at ns;
@@ -93,7 +94,7 @@ sum_at_numbers f d none ys (x ∷ xs) within apart others =
     missing x xs i ne absent zero h e = ne (sym e)
     missing x xs i ne absent (suc a) h e = absent a (omega arith) e
 
-module _ (ns : List Shape) (ok : IsArena ns) (i : ℕ) (hi : i < length ns) where
+module _ (ns : List Shape) {cs : List (List ℕ)} (ok : IsArena ns cs) (i : ℕ) (hi : i < length ns) where
   -- the bytes of a sum that is one key below node i
   abbrev part : Sum → ℕ
   part e = cond (is_one_below (path_at (sums ns) i) e.path) e.bytes 0
@@ -118,16 +119,16 @@ module _ (ns : List Shape) (ok : IsArena ns) (i : ℕ) (hi : i < length ns) wher
       part_is (suc j) (omega arith) h
       ∙ cond-false _ _ _ (same_path-apart _ _ (λ s. not (record { not_root = omega arith; in_range = h; parent = distinct ns ok _ i (omega (arith, ok.parents (suc j) (omega arith) h)) hi s })))
 
-  apart : Apart (children_at ns i)
+  apart : Apart (children_at cs i)
   apart a b lt h e =
-      let len = length-map (children_at ns i) (key_at ns) in
-      key_not_before _ _ (get_or-map (key_at ns) (children_at ns i) a 0 [] (omega arith)
-      ∙ (ap (key_at ns) e ∙ sym (get_or-map (key_at ns) (children_at ns i) b 0 [] h)))
+      let len = length-map (children_at cs i) (key_at ns) in
+      key_not_before _ _ (get_or-map (key_at ns) (children_at cs i) a 0 [] (omega arith)
+      ∙ (ap (key_at ns) e ∙ sym (get_or-map (key_at ns) (children_at cs i) b 0 [] h)))
       (ok.rise i a b lt (omega arith))
 
-  pub below_is : sum_by (bytes_at ns) (children_at ns i) ≡ below (map_of (sums ns)) (path_at (sums ns) i)
+  pub below_is : sum_by (bytes_at ns) (children_at cs i) ≡ below (map_of (sums ns)) (path_at (sums ns) i)
   below_is =
-      let xs = children_at ns i in
+      let xs = children_at cs i in
       let child : (a : ℕ) → a < length xs → IsChild ns i (get_or xs a 0) = λ a h. ok.children i a 0 h in
       same_sum (bytes_at ns) (λ j. part (sum_at (sums ns) j)) 0 0 xs xs refl (λ a h. sym (part_child _ (child a h)))
       ∙ (sum_at_numbers part root_sum (ap (λ (b : Bool). cond b 0 0) (not_below_root (path_at (sums ns) i))) (sums ns) xs (λ a h. omega (arith, length_sums ns, (child a h).in_range)) apart
@@ -141,10 +142,17 @@ is_root-push [] k = refl
 is_root-push (l ∷ p) k = refl
 
 -- the root alone has the empty path
-pub has_key : (ns : List Shape) → IsArena ns → (i : ℕ) → i < length ns → not (is_root (path_at (sums ns) i)) ≡ ltb 0 i
+pub has_key : (ns : List Shape) {cs : List (List ℕ)} → IsArena ns cs → (i : ℕ) → i < length ns →
+    not (is_root (path_at (sums ns) i)) ≡ ltb 0 i
 has_key ns ok zero h = ap (λ (p : Path). not (is_root p)) (root_at ns)
 has_key ns ok (suc j) h = ap (λ (p : Path). not (is_root p)) (step ns ok (suc j) (omega arith) h)
     ∙ (ap not (is_root-push _ (key_at ns (suc j))) ∙ sym (lt-ltb 0 (suc j) (omega arith)))
+
+-- If an item is replaced by one with the same image, the images are unchanged.
+same_images : {X Y : Type 0} (f : X → Y) (e : Y) (xs : List X) (i : ℕ) (x y : X) → i < length xs → x ≡ get_or xs i x →
+    f y ≡ f x → map f (set xs i y) ≡ map f xs
+same_images f e xs i x y h read same = map-set f xs i y
+    ∙ (ap (set (map f xs) i) (same ∙ (ap f read ∙ sym (get_or-map f xs i x e h))) ∙ set-get_or (map f xs) i e)
 
 module _ (items : List Node) where
   pub length_nodes : length (sums_of items) ≡ length items
@@ -160,49 +168,73 @@ module _ (items : List Node) where
   pub shape_read : (i : ℕ) (n : Node) → i < length items → n ≡ get_or items i n → at (map shape items) i ≡ shape n
   shape_read i n h read = get_or-map shape items i n no_shape h ∙ ap shape (sym read)
 
-  pub children_read : (p : ℕ) (n : Node) → p < length items → n ≡ get_or items p n →
-      children_at (map shape items) p ≡ numbers n.children
-  children_read p n h read = ap (λ (s : Shape). s.children) (shape_read p n h read)
-
-  -- the child at place j, and its key
-  pub child_seen : IsTree items → (p : ℕ) (xs : List ℕ) → children_at (map shape items) p ≡ xs → (j : ℕ) →
-      j < length xs → let i = get_or xs j 0 in (IsChild (map shape items) p i) × (i < length items)
-      × (key_in (keys_at (map shape items) p) j ≡ key_at (map shape items) i)
-      × ((d : Node) → (let m = get_or items i d in key_at (map shape items) i ≡ m.key))
-  child_seen ok p xs is j hj =
-      let ns = map shape items in
-      let inside : j < length (children_at ns p) = rw is hj in
-      let child = ok.arena.children p j 0 inside in
-      let within : get_or (children_at ns p) j 0 < length items =
-      omega (arith, child.in_range, length-map items shape) in
-      subst (λ (l : List ℕ). let i = get_or l j 0 in
-      (IsChild ns p i) × (i < length items) × (key_in (keys_at ns p) j ≡ key_at ns i)
-      × ((d : Node) → (let m = get_or items i d in key_at ns i ≡ m.key))) is
-      (child, within, get_or-map (key_at ns) (children_at ns p) j 0 [] inside, λ d. ap (λ (s : Shape). s.key) (get_or-map shape items (get_or (children_at ns p) j 0) d no_shape within))
-
   -- a node replaced by one of the same shape
   same_shapes : (i : ℕ) (n m : Node) → i < length items → n ≡ get_or items i n → shape m ≡ shape n →
       map shape (set items i m) ≡ map shape items
-  same_shapes i n m h read same =
-      map-set shape items i m ∙ (ap (set (map shape items) i) (same ∙ sym (shape_read i n h read))
-      ∙ set-get_or (map shape items) i no_shape)
+  same_shapes i n m = same_images shape no_shape items i n m
 
   pub same_view : {v : Listed} (i : ℕ) (n m : Node) → i < length items → n ≡ get_or items i n → shape m ≡ shape n →
       sums_of items ≡ v → sums_of (set items i m) ≡ v
   same_view i n m h read same view = ap sums (same_shapes i n m h read same) ∙ view
 
-  -- a tree whose nodes have the shapes of an arena
-  pub tree_of : {ns : List Shape} → map shape items ≡ ns → IsArena ns → IsTree items
-  tree_of same ok = record { arena = subst IsArena (sym same) ok; size = length_nodes }
+module _ (items : List Node) {lists : List Children} where
+  -- a tree whose nodes and lists are those of an arena
+  pub tree_of : {ns : List Shape} {cs : List (List ℕ)} → map shape items ≡ ns → map numbers lists ≡ cs → IsArena ns cs →
+      IsTree items lists
+  tree_of nodes children ok = record {
+    arena = subst₂ IsArena (sym nodes) (sym children) ok;
+    size = length_nodes items;
+    lists = omega (arith, ok.lists, ap length nodes, ap length children, length-map items shape, length-map lists numbers);
+  }
 
--- The sums of a tree are a listing.
-pub listing_of : (items : List Node) → IsTree items → {v : Listed} → sums_of items ≡ v → IsListing v
-listing_of items ok view = subst IsListing view (listing (map shape items) ok.arena)
+  module _ (ok : IsTree items lists) where
+    -- The sums of a tree are a listing.
+    pub listing_of : {v : Listed} → sums_of items ≡ v → IsListing v
+    listing_of view = subst IsListing view (listing (map shape items) ok.arena)
 
--- If a node is replaced by one of the same shape, the nodes are still a tree.
-pub same_tree : (items : List Node) (i : ℕ) (n m : Node) → i < length items → n ≡ get_or items i n → shape m ≡ shape n →
-    IsTree items → IsTree (set items i m)
-same_tree items i n m h read same ok = tree_of (set items i m) (same_shapes items i n m h read same) ok.arena
+    -- a place of the sums is that of a list
+    pub in_lists : {v : Listed} (i : ℕ) → sums_of items ≡ v → i < length v → i < length lists
+    in_lists i view h = omega (arith, ok.lists, in_nodes items i view h)
+
+    -- If a node is replaced by one of the same shape, the nodes are still a tree.
+    pub same_tree : (i : ℕ) (n m : Node) → i < length items → n ≡ get_or items i n → shape m ≡ shape n →
+        IsTree (set items i m) lists
+    same_tree i n m h read same = record {
+      arena = subst (λ (ns : List Shape). IsArena ns (map numbers lists)) (sym (same_shapes items i n m h read same)) ok.arena;
+      size = length_nodes (set items i m);
+      lists = omega (arith, ok.lists, length-set items i m);
+    }
+
+    -- So are they if a list is replaced by one with the same numbers.
+    pub same_lists : (i : ℕ) (c d : Children) → i < length lists → c ≡ get_or lists i c → numbers d ≡ numbers c →
+        IsTree items (set lists i d)
+    same_lists i c d h read same = record {
+      arena = subst (IsArena (map shape items)) (sym (same_images numbers [] lists i c d h read same)) ok.arena;
+      size = ok.size;
+      lists = omega (arith, ok.lists, length-set lists i d);
+    }
+
+    -- the child at place j, and its key
+    pub child_seen : (p : ℕ) (xs : List ℕ) → children_at (map numbers lists) p ≡ xs → (j : ℕ) → j < length xs →
+        let i = get_or xs j 0 in (IsChild (map shape items) p i) × (i < length items)
+        × (key_in (keys_at (map shape items) (map numbers lists) p) j ≡ key_at (map shape items) i)
+        × ((d : Node) → (let m = get_or items i d in key_at (map shape items) i ≡ m.key))
+    child_seen p xs is j hj =
+        let ns = map shape items in
+        let cs = map numbers lists in
+        let inside : j < length (children_at cs p) = rw is hj in
+        let child = ok.arena.children p j 0 inside in
+        let within : get_or (children_at cs p) j 0 < length items =
+        omega (arith, child.in_range, length-map items shape) in
+        subst (λ (l : List ℕ). let i = get_or l j 0 in
+        (IsChild ns p i) × (i < length items) × (key_in (keys_at ns cs p) j ≡ key_at ns i)
+        × ((d : Node) → (let m = get_or items i d in key_at ns i ≡ m.key))) is
+        (child, within, get_or-map (key_at ns) (children_at cs p) j 0 [] inside, λ d. ap (λ (s : Shape). s.key) (get_or-map shape items (get_or (children_at cs p) j 0) d no_shape within))
+
+-- the numbers of a list that was read
+pub children_read : (lists : List Children) (p : ℕ) (c : Children) → p < length lists → c ≡ get_or lists p c →
+    children_at (map numbers lists) p ≡ numbers c
+children_read lists p c h read = get_or-map numbers lists p c [] h ∙ ap numbers (sym read)
 
 abbrev pub raise_node : ℕ → Bool → Node → Node
 raise_node size b n = record n { bytes = n.bytes + size; is_unique = b }
@@ -224,20 +256,22 @@ module _ (items : List Node) {v : Listed} (view : sums_of items ≡ v) (i : ℕ)
       let one : shape (raise_node size b n) ≡ raise_shape size u (at (map shape items) i) = rw (mark, is) refl in
       map-set shape items i (raise_node size b n) ∙ ap (set (map shape items) i) one
 
--- the two writes of a new node, seen as shapes
-pub grown_nodes : (items : List Node) (p : ℕ) → p < length items → (n : Node) → n ≡ get_or items p n →
-    (k : Key) (g : ℕ) (m fresh : Node) → shape fresh ≡ leaf p k
-    → shape m ≡ with_children (insert (numbers n.children) g (length items)) (shape n) →
-    map shape (set items p m ++ fresh ∷ []) ≡ grown (map shape items) p k g
-grown_nodes items p hp n read k g m fresh fresh_is m_is =
-    let is = shape_read items p n hp read in
-    let same = m_is ∙ (λ j. (let s = sym is j in
-    with_children (insert s.children g (sym (length-map items shape) j)) s)) in
-    map_push shape (set items p m) fresh ∙ (λ j. (map-set shape items p m ∙ ap (set (map shape items) p) same) j
-    ++ fresh_is j ∷ [])
+-- a new node, seen as shapes
+pub grown_nodes : (items : List Node) (p : ℕ) (k : Key) (fresh : Node) → shape fresh ≡ leaf p k →
+    map shape (items ++ fresh ∷ []) ≡ grown (map shape items) p k
+grown_nodes items p k fresh is = map_push shape items fresh ∙ ap (λ (s : Shape). map shape items ++ s ∷ []) is
+
+-- the two writes of its number, seen as numbers
+pub grown_lists : (lists : List Children) (p : ℕ) (c d fresh : Children) → p < length lists → c ≡ get_or lists p c →
+    numbers fresh ≡ [] → (g n : ℕ) → numbers d ≡ insert (numbers c) g n →
+    map numbers (set lists p d ++ fresh ∷ []) ≡ with_child (map numbers lists) p g n
+grown_lists lists p c d fresh h read none g n is =
+    map_push numbers (set lists p d) fresh ∙ (λ j. (map-set numbers lists p d
+    ∙ ap (set (map numbers lists) p) (is ∙ ap (λ (xs : List ℕ). insert xs g n) (sym (children_read lists p c h read)))) j
+    ++ none j ∷ [])
 
 -- what the sums say of a node that was read
-pub figures_read : (items : List Node) (ok : IsTree items) (v : Listed) (view : sums_of items ≡ v) (i : ℕ)
+pub figures_read : (items : List Node) {lists : List Children} (ok : IsTree items lists) (v : Listed) (view : sums_of items ≡ v) (i : ℕ)
     (h : i < length v) (n : Node) (read : n ≡ get_or items i n) →
     (let e = sum_at v i in (e.bytes ≡ n.bytes) × (e.is_unique ≡ n.is_unique) × (not (is_root e.path) ≡ ltb 0 i))
 figures_read items ok v view i h n read =
@@ -251,8 +285,9 @@ figures_read items ok v view i h n read =
     )
 
 -- the bytes of the children of a node, read one by one
-pub below_read : (items : List Node) (ok : IsTree items) {v : Listed} (view : sums_of items ≡ v) (i : ℕ) →
-    i < length v → sum_by (bytes_at (map shape items)) (children_at (map shape items) i)
+pub below_read : (items : List Node) {lists : List Children} (ok : IsTree items lists) {v : Listed}
+    (view : sums_of items ≡ v) (i : ℕ) →
+    i < length v → sum_by (bytes_at (map shape items)) (children_at (map numbers lists) i)
     ≡ below (map_of v) (path_at v i)
 below_read items ok view i h = below_is (map shape items) ok.arena i (in_shapes items i view h)
     ∙ ap (λ (s : Listed). below (map_of s) (path_at s i)) view

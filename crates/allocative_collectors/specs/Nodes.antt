@@ -1,16 +1,16 @@
--- The nodes of a tree, as shapes.
+-- The nodes of a tree, as shapes, and the numbers of their children.
 use Rattle.std.specs.Prelude.{◌≡◌, List, length, map}
+use Rattle.allocative_collectors.specs.declared.children.Children.{Children}
 use Rattle.allocative_collectors.specs.declared.tree.Node.{Node}
 use Rattle.allocative_collectors.specs.Chunked.{numbers}
 use Rattle.allocative_collectors.specs.Listed.{Listed}
 use Rattle.allocative_collectors.specs.Shapes.{Shape, sums, IsArena}
 
--- A node without the memory that it holds.
+-- A node without its guesses.
 abbrev pub shape : Node → Shape
 shape n = record {
   key = n.key;
   parent = n.parent;
-  children = numbers n.children;
   bytes = n.bytes;
   is_unique = n.is_unique;
 }
@@ -19,7 +19,8 @@ shape n = record {
 abbrev pub sums_of : List Node → Listed
 sums_of ns = sums (map shape ns)
 
--- The nodes are an arena, and the sums have a place for each.
-pub record IsTree (ns : List Node) : Type 0 where
-  pub arena : IsArena (map shape ns)
+-- The nodes are an arena, and the sums and the lists of children have a place for each.
+pub record IsTree (ns : List Node) (cs : List Children) : Type 0 where
+  pub arena : IsArena (map shape ns) (map numbers cs)
   pub size : length (sums_of ns) ≡ length ns
+  pub lists : length cs ≡ length ns

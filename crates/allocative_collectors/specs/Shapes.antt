@@ -6,18 +6,16 @@ use Rattle.std.specs.declared.cmp.Ordering.TheVariants.{Less, Greater}
 use Rattle.allocative_graph.specs.Path.{Key, Path, key_cmp}
 use Rattle.allocative_collectors.specs.Listed.{Listed, Sum}
 
--- A node: its key, the number of its parent, the numbers of its children, the bytes entered at it, and whether it was
--- ever entered as unique.
+-- A node: its key, the number of its parent, the bytes entered at it, and whether it was ever entered as unique.
 pub record Shape : Type 0 where
   pub key : Key
   pub parent : ℕ
-  pub children : List ℕ
   pub bytes : ℕ
   pub is_unique : Bool
 
--- A node with no bytes and no children.
+-- A node with no bytes.
 abbrev pub leaf : ℕ → Key → Shape
-leaf p k = record { key = k; parent = p; children = []; bytes = 0; is_unique = false }
+leaf p k = record { key = k; parent = p; bytes = 0; is_unique = false }
 
 -- The node that stands for a missing one.
 abbrev pub no_shape : Shape
@@ -56,9 +54,9 @@ key_at ns i = let n = at ns i in n.key
 abbrev pub parent_at : List Shape → ℕ → ℕ
 parent_at ns i = let n = at ns i in n.parent
 
--- The numbers of the children of node i.
-abbrev pub children_at : List Shape → ℕ → List ℕ
-children_at ns i = let n = at ns i in n.children
+-- The numbers of the children of node i, if cs has those of each node.
+abbrev pub children_at : List (List ℕ) → ℕ → List ℕ
+children_at cs i = slice_index_or cs i []
 
 -- The bytes entered at node i.
 abbrev pub bytes_at : List Shape → ℕ → ℕ
@@ -69,8 +67,8 @@ abbrev pub keys_of : List Shape → List ℕ → List Key
 keys_of ns xs = map (key_at ns) xs
 
 -- The keys of the children of node p.
-abbrev pub keys_at : List Shape → ℕ → List Key
-keys_at ns p = keys_of ns (children_at ns p)
+abbrev pub keys_at : List Shape → List (List ℕ) → ℕ → List Key
+keys_at ns cs p = keys_of ns (children_at cs p)
 
 -- ---- the arena
 -- The key at place j.
@@ -98,15 +96,16 @@ pub record IsChild (ns : List Shape) (p i : ℕ) : Type 0 where
   pub parent : parent_at ns i ≡ p
 
 -- The root comes first and has no bytes and no parent, which is the number 2^64 - 1. Each other node comes after its
--- parent and is one of its children. Children are in the order of their keys.
-pub record IsArena (ns : List Shape) : Type 0 where
+-- parent and is one of its children. The numbers of each node's children are in cs, in the order of their keys.
+pub record IsArena (ns : List Shape) (cs : List (List ℕ)) : Type 0 where
   pub rooted : 0 < length ns
   pub root_empty : bytes_at ns 0 ≡ 0
   pub root_parent : parent_at ns 0 ≡ 2 ^ 64 - 1
   pub parents : (i : ℕ) → 0 < i → i < length ns → parent_at ns i < i
-  pub listed : (p i : ℕ) → IsChild ns p i → StandsIn (children_at ns p) i
-  pub children : (p : ℕ) → All (IsChild ns p) (children_at ns p)
-  pub rise : (p : ℕ) → KeysRise (keys_at ns p)
+  pub lists : length cs ≡ length ns
+  pub listed : (p i : ℕ) → IsChild ns p i → StandsIn (children_at cs p) i
+  pub children : (p : ℕ) → All (IsChild ns p) (children_at cs p)
+  pub rise : (p : ℕ) → KeysRise (keys_at ns cs p)
 
 -- ---- a search
 -- The key k is missing, and belongs at place i: the keys before that place are smaller, those from it on are greater.

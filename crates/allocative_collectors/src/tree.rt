@@ -28,8 +28,6 @@ struct Node {
     key: Key,
     /// The number of the node one key above. That of the root is no number of a node, so it is nobody's child.
     parent: usize,
-    /// The numbers of the nodes one key below, in the order of their keys.
-    children: Children,
     bytes: usize,
     /// The child that was entered last.
     last: u32,
@@ -41,14 +39,13 @@ struct Node {
 }
 
 impl Node {
-    /// A node with no bytes and no children. It allocates nothing.
-    fn new(alloc: Global, key: Key, parent: usize) -> Node
+    /// A node with no bytes.
+    fn new(key: Key, parent: usize) -> Node
         ensures { shape result ≡ leaf parent key }
     {
         Node {
             key,
             parent,
-            children: Children::new(alloc),
             bytes: 0,
             last: 0,
             next: 0,
@@ -65,6 +62,9 @@ impl Node {
 pub(crate) struct Tree {
     alloc: Global,
     nodes: Vec<Node>,
+    /// For each node, the numbers of the nodes one key below, in the order of their keys. They are no part of the node,
+    /// so that an entry on a path that is expected reads less memory.
+    children: Vec<Children>,
 }
 
 impl Model for Tree {
@@ -76,7 +76,7 @@ impl Model for Tree {
 
     ghost view = { λ t. sums_of t.nodes.items };
 
-    ghost invariant = { λ t. IsTree t.nodes.items };
+    ghost invariant = { λ t. IsTree t.nodes.items t.children.items };
 }
 
 impl Tree {
@@ -85,8 +85,14 @@ impl Tree {
         ensures { IfOk result (λ t. t ≡ root_sum ∷ []) }
     {
         let mut nodes = Vec::new(alloc);
-        nodes.push(Node::new(alloc, Key::new(""), usize::MAX))?;
-        Ok(Tree { alloc, nodes })
+        nodes.push(Node::new(Key::new(""), usize::MAX))?;
+        let mut children = Vec::new(alloc);
+        children.push(Children::new(alloc))?;
+        Ok(Tree {
+            alloc,
+            nodes,
+            children,
+        })
     }
 
     /// Enters `size` bytes under the key at the node `at`, if `room` has them, and takes them from it. It returns the
@@ -170,8 +176,9 @@ impl Tree {
             return Ok(leaf);
         }
         let node = &self.nodes[at];
+        let numbers = &self.children[at];
         let mut room = Vec::new(self.alloc);
-        let children = node.children.list(&mut room)?;
+        let children = numbers.list(&mut room)?;
         let size_below = bytes_of(&self.nodes, children);
         let mut graph = FlameGraph::with_capacity(self.alloc, children.len())?;
         graph.add_self(self.size(at, size_below))?;
@@ -194,10 +201,10 @@ impl Tree {
         requires { at < length self.now }
         ensures { IfSome result (λ graph. MakesGraphAlone self.now at graph) }
     {
-        let node = &self.nodes[at];
-        if !node.children.is_empty() {
+        if !self.children[at].is_empty() {
             return None;
         }
+        let node = &self.nodes[at];
         let mut graph = FlameGraph::default(self.alloc);
         match graph.add_self(node.bytes) {
             Ok(()) => Some(graph),
@@ -304,11 +311,11 @@ impl Tree {
         requires { at < length self.old }
         ensures { self.new ≡ self.old }
     {
-        if let Children::Few(list) = &self.nodes[at].children
+        if let Children::Few(list) = &self.children[at]
             && list.len() > LONGEST_LIST
             && let Ok(chunks) = chunks_of(self.alloc, &self.nodes, list.as_slice())
         {
-            self.nodes[at].children = Children::Many(chunks);
+            self.children[at] = Children::Many(chunks);
         }
     }
 
@@ -318,7 +325,7 @@ impl Tree {
         ensures entered { IfOk result (IsEntered self.old self.new at key.now 0 false) }
         ensures err { OnErr result (self.new ≡ self.old) }
     {
-        match find(&self.nodes, &self.nodes[at].children, key) {
+        match find(&self.nodes, &self.children[at], key) {
             Ok(child) => Ok(child as usize),
             Err(place) => {
                 let node = self.nodes.len();
@@ -326,8 +333,10 @@ impl Tree {
                     return Err(AllocError);
                 };
                 self.nodes.reserve(1)?;
-                self.nodes[at].children.insert(place, number, key.as_str())?;
-                self.nodes.push(Node::new(self.alloc, key.copy(), at))?;
+                self.children.reserve(1)?;
+                self.children[at].insert(place, number, key.as_str())?;
+                self.children.push(Children::new(self.alloc))?;
+                self.nodes.push(Node::new(key.copy(), at))?;
                 Ok(node)
             }
         }

@@ -9,8 +9,10 @@ use Rattle.std.proofs.lemmas.List.{length-map, map-append}
 use Rattle.std.proofs.lemmas.List.Elements.{All-weaker}
 use Rattle.allocative_graph.specs.Graph.{total}
 use Rattle.allocative_graph.specs.Many.{ComesLast}
+use Rattle.allocative_collectors.specs.Chunked.{numbers}
 use Rattle.allocative_collectors.specs.declared.tree.Node.{Node}
-use Rattle.allocative_collectors.proofs.NodeReads.{in_nodes, children_read, below_read, figures_read, listing_of}
+use Rattle.allocative_collectors.proofs.NodeReads.{in_nodes, in_lists, children_read, below_read, figures_read}
+use Rattle.allocative_collectors.proofs.NodeReads.{listing_of}
 use Rattle.allocative_collectors.proofs.Made.{part_start, part_more, part_fits, made_all, child_read, none_warned}
 use Rattle.allocative_collectors.proofs.Made.{own_warning, own_fits, warned_at, total-default, comes_last, below_fits}
 use Rattle.allocative_graph.proofs.NodeText.{popped, texts}
@@ -18,27 +20,31 @@ use Rattle.allocative_collectors.proofs.tree.Tree.+make.Goals as goal
 use Rattle.allocative_collectors.proofs.tree.Tree.+make.Goals.{then-is_short+in_ok-push_warned, else-is_short}
 use Rattle.allocative_collectors.proofs.tree.Tree.+make.Goals.{In_ok-children, After-bytes_of-size_below}
 
+-- the numbers of all children, and the keys of the node's own
+abbrev lists : (t : ℕ) → In_ok-children t → List (List ℕ)
+lists t c = map numbers c.self.inside.children.items
+
+abbrev keys : (t : ℕ) → In_ok-children t → List Key
+keys t c = keys_at (map shape c.self.inside.nodes.items) (lists t c) c.args.at
+
 -- the children that are walked
-children : (t : ℕ) (c : In_ok-children t) →
-    children_at (map shape c.self.inside.nodes.items) c.args.at ≡ c.in_ok-children.children.now
-children t c = children_read c.self.inside.nodes.items c.args.at c.index-node.result.now
-    (in_nodes c.self.inside.nodes.items c.args.at c.self.view_is c.requires.within) c.index-node.ensures
+children : (t : ℕ) (c : In_ok-children t) → children_at (lists t c) c.args.at ≡ c.in_ok-children.children.now
+children t c = children_read c.self.inside.children.items c.args.at c.index-numbers.result.now
+    (in_lists c.self.inside.nodes.items c.self.invariant c.args.at c.self.view_is c.requires.within)
+    c.index-numbers.ensures
     ∙ sym c.in_ok-children.ensures
 
 -- there are as many keys as children
-count : (t : ℕ) (c : In_ok-children t) → length (keys_at (map shape c.self.inside.nodes.items) c.args.at)
-    ≡ length c.in_ok-children.children.now
-count t c = length-map (children_at (map shape c.self.inside.nodes.items) c.args.at)
-    (key_at (map shape c.self.inside.nodes.items)) ∙ ap length (children t c)
+count : (t : ℕ) (c : In_ok-children t) → length (keys t c) ≡ length c.in_ok-children.children.now
+count t c = length-map (children_at (lists t c) c.args.at) (key_at (map shape c.self.inside.nodes.items))
+    ∙ ap length (children t c)
 
 -- A step of `make`: child j comes later in the list than its node, and its path is the node's with key j.
 child : (t : ℕ) (c : In_ok-children t) (j : ℕ) → j < length c.in_ok-children.children.now →
     let i = get_or c.in_ok-children.children.now j 0 in
     (c.args.at < i) × (i < length c.args.self.now)
-    × (path_at c.args.self.now i ≡ path_at c.args.self.now c.args.at
-    ++ key_in (keys_at (map shape c.self.inside.nodes.items) c.args.at) j ∷ [])
-    × ((d : Node) → (let m = get_or c.self.inside.nodes.items i d in
-    m.key ≡ key_in (keys_at (map shape c.self.inside.nodes.items) c.args.at) j))
+    × (path_at c.args.self.now i ≡ path_at c.args.self.now c.args.at ++ key_in (keys t c) j ∷ [])
+    × ((d : Node) → (let m = get_or c.self.inside.nodes.items i d in m.key ≡ key_in (keys t c) j))
 child t c = child_read c.self.inside.nodes.items c.self.invariant c.self.view_is c.args.at c.in_ok-children.children.now
     (children t c)
 
@@ -53,7 +59,8 @@ bytes_of-size_below-requires-clause-within t c =
     let items = c.self.inside.nodes.items in
     let ns = map shape items in
     let all = All-weaker (IsChild ns c.args.at) (λ (i : ℕ). i < length items)
-    (λ i is. omega (arith, is.in_range, length-map items shape)) (children_at ns c.args.at)
+    (λ i is. omega (arith, is.in_range, length-map items shape))
+    (children_at (map numbers c.self.inside.children.items) c.args.at)
     (c.self.invariant.arena.children c.args.at) in
     subst (λ (l : List Node). All (λ (i : ℕ). i < length l) c.in_ok-children.children.now) (sym c.deref.ensures.value)
     (subst (All (λ (i : ℕ). i < length items))
@@ -117,7 +124,7 @@ loop-child-init t c =
       | else-is_short w ↦ ap (λ (x : Vec WarnedPath Global). map warning_of x.items) w.warned-is
           ∙ none_warned v i start w.if-is_short.ensures
     ] in
-    record { keys = refl; made = part_start v (listing_of c.self.inside.nodes.items c.self.invariant c.self.view_is) i c.requires.within (keys_at (map shape c.self.inside.nodes.items) i) _ _ _ is found }
+    record { keys = refl; made = part_start v (listing_of c.self.inside.nodes.items c.self.invariant c.self.view_is) i c.requires.within (keys t here.In_ok-children) _ _ _ is found }
 
 pub make-requires : goal.make-requires
 make-requires t c =
@@ -138,7 +145,7 @@ make-requires t c =
 pub push_child-requires : goal.push_child-requires
 push_child-requires t c =
     let here = (goal.at.push_child-requires t c).In_ok-children in
-    let ks = keys_at (map shape c.self.inside.nodes.items) c.args.at in
+    let ks = keys t here in
     let j = c.loop-child.child-index in
     let there = child t here j c.loop-child-test.true in
     let key : c.copy.result ≡ key_in ks j = c.copy.ensures ∙ ap (λ (n : Node). n.key) c.index.ensures
@@ -153,7 +160,7 @@ push_child-requires t c =
 pub loop-child-preserved : goal.loop-child-preserved
 loop-child-preserved t c =
     let here = (goal.at.loop-child-preserved t c).In_ok-children in
-    let ks = keys_at (map shape c.self.inside.nodes.items) c.args.at in
+    let ks = keys t here in
     let j = c.loop-child.child-index in
     let there = child t here j c.loop-child-test.true in
     let kept : c.pop.new.self.items ≡ c.args.keys.now.items =

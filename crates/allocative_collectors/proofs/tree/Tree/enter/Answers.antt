@@ -1,5 +1,5 @@
 -- An entry of 0 bytes, and then one of all bytes.
-use Rattle.std.proofs.Common.{◌≡◌, ◌||◌, map, set, arith, ap, ◌∙◌}
+use Rattle.std.proofs.Common.{◌≡◌, ◌||◌, map, set, arith, ap, refl, ◌∙◌}
 use Rattle.allocative_collectors.proofs.Common.{shape, Listed, put, path_at, sums}
 use Rattle.allocative_collectors.proofs.Entries.{total_entered, entered_twice}
 use Rattle.allocative_collectors.proofs.NodeReads.{in_shapes, bytes_fit, raised_nodes, raise_node, tree_of}
@@ -33,7 +33,7 @@ pub invariant_of-self : goal.invariant_of-self
 invariant_of-self c =
     let items = c.self.inside.nodes.items in
     let entered = c.in_ok-node.ensures.entered in
-    tree_of _ (written (goal.at.invariant_of-self c).Joined-entered)
+    tree_of _ (written (goal.at.invariant_of-self c).Joined-entered) refl
     (arena_raised (map shape items) c.self.invariant.arena c.in_ok-node.node entered.not_root
     (in_shapes items c.in_ok-node.node c.self.view_is entered.within) c.args.size c.args.is_unique)
 

@@ -6,7 +6,8 @@ use Rattle.std.proofs.lemmas.List.{length-map}
 use Rattle.allocative_collectors.proofs.Common.{add_self, default, below, shape, bytes_at, keys_at, key_at, children_at}
 use Rattle.allocative_collectors.proofs.Common.{path_at, map_of, size_at_place}
 use Rattle.allocative_collectors.specs.Finishing.{is_short}
-use Rattle.allocative_collectors.proofs.NodeReads.{in_nodes, children_read, below_read, figures_read, listing_of}
+use Rattle.allocative_collectors.specs.Chunked.{numbers}
+use Rattle.allocative_collectors.proofs.NodeReads.{in_lists, children_read, below_read, figures_read, listing_of}
 use Rattle.allocative_collectors.proofs.Made.{part_start, made_all, none_warned}
 use Rattle.allocative_collectors.proofs.tree.Tree.leaf.Goals as goal
 
@@ -15,19 +16,20 @@ returns-in-Ok c =
     let v = c.args.self.now in
     let i = c.args.at in
     let items = c.self.inside.nodes.items in
-    let ns = map shape items in
+    let cs = map numbers c.self.inside.children.items in
     let n = c.index-node.result.now in
     let listed = listing_of items c.self.invariant c.self.view_is in
     let figures = figures_read items c.self.invariant v c.self.view_is i c.requires n c.index-node.ensures in
-    let none : children_at ns i ≡ [] = children_read items i n (in_nodes items i c.self.view_is c.requires)
-    c.index-node.ensures ∙ c.is_empty.ensures c.if-not-is_empty.false in
+    let none : children_at cs i ≡ [] = children_read c.self.inside.children.items i c.index.result.now
+    (in_lists items c.self.invariant i c.self.view_is c.requires) c.index.ensures
+    ∙ c.is_empty.ensures c.if-not-is_empty.false in
     let nothing : below (map_of v) (path_at v i) ≡ 0 =
-    sym (below_read items c.self.invariant c.self.view_is i c.requires) ∙ ap (sum_by (bytes_at ns)) none in
+    sym (below_read items c.self.invariant c.self.view_is i c.requires) ∙ ap (sum_by (bytes_at (map shape items))) none in
     let size : n.bytes ≡ size_at_place v i = grind (arith, common_steps, figures, nothing) in
     let short : false ≡ is_short v i = grind (arith, nat_tests, common_steps, nothing) in
     let is : c.add_self.new.self ≡ add_self (size_at_place v i) default =
     c.in-Ok.ensures.sum ∙ (λ j. add_self (size j) (c.default-graph.ensures j)) in
     λ found.
     made_all items c.self.invariant c.self.view_is i c.requires found found c.add_self.new.self 0
-    (omega (arith, ap length none, length-map (children_at ns i) (key_at ns)))
-    (part_start v listed i c.requires (keys_at ns i) found found c.add_self.new.self is (none_warned v i found short))
+    (omega (arith, ap length none, length-map (children_at cs i) (key_at (map shape items))))
+    (part_start v listed i c.requires (keys_at (map shape items) cs i) found found c.add_self.new.self is (none_warned v i found short))
