@@ -3,6 +3,7 @@ ghost use Rattle.std.specs.Prelude.{◌≡◌, ◌≢◌, ◌⊎◌, ◌&&◌, �
 ghost use Rattle.std.specs.Io.KnownBytes.{Appends};
 ghost use Rattle.allocative_graph.specs.Graph.{default, total};
 ghost use Rattle.allocative_picture_filter.specs.Fault.{status_of, IsUnread};
+ghost use Rattle.allocative_picture_filter.specs.declared.run.TheConstants.{USAGE};
 ghost use Rattle.allocative_picture_filter.specs.Run.{sourced, without_mark, later_texts, Reads, Adds, AddUp, StopsReading, StopsAdding, StopsAddingUp, StopsProfile, Stops, IsMade, IsStopped};
 
 use crate::arguments::Arguments;
@@ -13,6 +14,10 @@ use allocative_picture::options::Options;
 use allocative_picture::picture::{change_picture, picture};
 use std::alloc::Global;
 use std::io::{ErrorKind, Read, Write};
+
+/// How the program is used.
+pub const USAGE: &str =
+    "usage: allocative-picture [--title TEXT] [--narrowest WIDTH] [--text] [--not-empty] [--before EARLIER].. [FILE | -]..\n\nAdds up collapsed stacks, lines of keys joined by `;`, a space and a number of bytes, and writes their picture to\nstandard output. They are read from the files, and from standard input where `-` or no file is named. With files of\nearlier stacks the picture is that of the change. With --text the added lines are written in place of a picture.\nWIDTH is that of the narrowest box, in millionths of the picture's width. With --not-empty a profile of 0 bytes is\nrefused.\n";
 
 /// A text, and where it comes from. Its bytes are kept as long as the program runs, since the keys of a graph are
 /// parts of them.
@@ -87,11 +92,10 @@ pub fn tell<E: Write>(errors: &mut E, fault: Fault<'_>) -> u8
 
 /// Writes how the program is used, and returns the status: 0, or 7 if that cannot be written.
 pub fn show_usage<W: Write, E: Write>(output: &mut W, errors: &mut E) -> u8
-    ensures { result ≢ 0 → result ≡ 7 }
+    ensures shown { result ≡ 0 → Appends (W.contents output.old) (W.contents output.new) USAGE.now }
+    ensures unwritten { result ≢ 0 → result ≡ 7 }
 {
-    let usage =
-        "usage: allocative-picture [--title TEXT] [--narrowest WIDTH] [--text] [--not-empty] [--before EARLIER].. [FILE | -]..\n\nAdds up collapsed stacks, lines of keys joined by `;`, a space and a number of bytes, and writes their picture to\nstandard output. They are read from the files, and from standard input where `-` or no file is named. With files of\nearlier stacks the picture is that of the change. With --text the added lines are written in place of a picture.\nWIDTH is that of the narrowest box, in millionths of the picture's width. With --not-empty a profile of 0 bytes is\nrefused.\n";
-    match write_text(output, usage) {
+    match write_text(output, USAGE) {
         Ok(()) => 0,
         Err(fault) => tell(errors, fault),
     }
