@@ -17,7 +17,14 @@ use std::io::{ErrorKind, Read, Write};
 
 /// How the program is used.
 pub const USAGE: &str =
-    "usage: allocative-picture [--title TEXT] [--narrowest WIDTH] [--text] [--not-empty] [--before EARLIER].. [FILE | -]..\n\nAdds up collapsed stacks, lines of keys joined by `;`, a space and a number of bytes, and writes their picture to\nstandard output. They are read from the files, and from standard input where `-` or no file is named. With files of\nearlier stacks the picture is that of the change. With --text the added lines are written in place of a picture.\nWIDTH is that of the narrowest box, in millionths of the picture's width. With --not-empty a profile of 0 bytes is\nrefused.\n";
+    r"usage: allocative-picture [--title TEXT] [--narrowest WIDTH] [--text] [--not-empty] [--before EARLIER].. [FILE | -]..
+
+Adds up collapsed stacks, lines of keys joined by `;`, a space and a number of bytes, and writes their picture to
+standard output. They are read from the files, and from standard input where `-` or no file is named. With files of
+earlier stacks the picture is that of the change. With --text the added lines are written in place of a picture.
+WIDTH is that of the narrowest box, in millionths of the picture's width. With --not-empty a profile of 0 bytes is
+refused.
+";
 
 /// A text, and where it comes from. Its bytes are kept as long as the program runs, since the keys of a graph are
 /// parts of them.
