@@ -38,7 +38,7 @@ class Scope:
         self.module = module
         self.wanted = set(wanted)
         self.outside = outside
-        self.exact: set[str] = set()
+        self.strict: set[str] = set()
         self.tallied: set[str] = set()
         self.reason = cache(self.reason)
 
@@ -133,31 +133,31 @@ class Scope:
         return set() if kind.text in ("f32", "f64") else TRAITS
 
     def flags(self, kind: Type, parameters: Path) -> set[str]:
-        """The flags on which it depends whether a type is exact; none if it is."""
+        """The flags on which it depends whether a type is strict; none if it is."""
         kind = self.real(kind)
         if kind.form in ("lifetime", "constant", "reference") or kind.name == "PhantomData":
             return set()
         found: set[str] = set()
         if kind.form == "path" and self.path(kind) == kind.path and kind.name in parameters:
-            found = {f"{kind.name}.is_exact"}
+            found = {f"{kind.name}.is_strict"}
         elif kind.form == "path":
             definition = self.own(kind)
             is_known = kind.name in HOMES and kind.name not in NOT_EXACT
-            if not is_known and not (definition and definition.name in self.exact):
-                return {f"⟦<{kind.text} as Allocative>⟧.is_exact"}
+            if not is_known and not (definition and definition.name in self.strict):
+                return {f"⟦<{kind.text} as Allocative>⟧.is_strict"}
         return found.union(*(self.flags(part, parameters) for part in kind.parts))
 
-    def find_exact(self) -> None:
-        """Finds which types without type parameters are exact, of those that get implementations now."""
+    def find_strict(self) -> None:
+        """Finds which types without type parameters are strict, of those that get implementations now."""
         types = [self.module.types[name] for name in self.wanted]
         types = [each for each in types if not each.names("type")]
         found = {each.name: [member.type for member in each.shown if member.size is None] for each in types}
-        self.exact = set()
-        while len(found) != len(self.exact):
-            self.exact = set(found)
+        self.strict = set()
+        while len(found) != len(self.strict):
+            self.strict = set(found)
             flags = cache(self.flags)
-            inexact = {name for name, kinds in found.items() if any(flags(kind, ()) for kind in kinds)}
-            found = {name: kinds for name, kinds in found.items() if name not in inexact}
+            not_strict = {name for name, kinds in found.items() if any(flags(kind, ()) for kind in kinds)}
+            found = {name: kinds for name, kinds in found.items() if name not in not_strict}
         self.flags = cache(self.flags)
 
 

@@ -96,7 +96,7 @@ class Source:
         self.passed_over: list[int | None] = []
         self.wanted = {each.name: self.judged(each) for each in wanted}
         self.module.types.update(self.wanted)
-        self.scope.find_exact()
+        self.scope.find_strict()
         self.untallied = find_tallied(self) if chosen.counted else {}
 
     def find(self, text: str) -> Module:

@@ -15,6 +15,8 @@ if TYPE_CHECKING:
 WIDTH = 100
 GROUP = 5
 INDENT = " " * 8
+# An enum that holds itself has at most so many variants times names of types in its fields: for more the checker stops.
+LARGEST_ENUM = 430
 EMPTY = type_of("()")
 Proof = tuple[str, str]
 LETTERS = [*"abcdefghijklmnopqrstuvw"]
@@ -24,17 +26,17 @@ WORD = re.compile(r"[\w-]+")
 OWN = re.compile(r"(?:\bself::)?\b([A-Za-z_]\w*)")
 CONTAINERS = {("Vec", 1): "vec_in", ("Option", 1): "option_in", ("Box", 1): "box_of"}
 CONTAINERS |= {("BTreeMap", 2): "btree_map_of", ("HashMap", 2): "hash_map_of"}
-LEVELS = {*CONTAINERS.values(), "both", "child", "field", "level_shows", "pair_in", "plain", "recursive"}
-LEVEL = re.compile(rf'(?<![\w."<])(?:{"|".join(sorted(LEVELS))})(?![\w.>"])|(?<=\()out-\w+')
+LEVELS = {*CONTAINERS.values(), "both", "child", "field", "level_shows", "opened", "pair_in", "plain", "recursive"}
+LEVEL = re.compile(rf'(?<![\w."<])(?:{"|".join(sorted(LEVELS))})(?![\w.>"])|(?<=[( ])out-\w+')
 # Words of the written text, which a variant's constructor cannot be named by.
 CLAUSE_WORDS = {"codes", "true", "false", "elim", "where", "deriving", "record", "data", "open", "let", "in"}
 # What answers cite, by its module.
 LEMMAS = {
-    "std.proofs.Common": "refl rules ◌≡◌",
+    "std.proofs.Common": "ap refl rules ◌≡◌ ◌∙◌",
     "allocative.proofs.ByHand": "visited_at",
-    "allocative.proofs.Levels": "means_recursive",
-    "allocative.proofs.Meaning": "entered_loosely exact_same means_field means_same visited_as visited_if",
-    "allocative.proofs.Parts": "exact",
+    "allocative.proofs.Levels": "means_opened means_recursive",
+    "allocative.proofs.Meaning": "entered_loosely strict_same means_field means_same visited_as visited_if",
+    "allocative.proofs.Parts": "strict",
     "allocative_tally.proofs.Counting": "tallies_as",
     "allocative_tally.proofs.Fields": "both_counted field_counted first_counted holding nothing_counted second_counted "
     "starts_both starts_entry starts_field starts_none starts_whole whole_counted",
@@ -209,11 +211,13 @@ class Writer:
         """The implementation of `Allocative`, from what a value shows inside and the body of its visit."""
         entry = f'(codes "{self.name}") {size_of(self.record)}{inside}'
         text = f"recursive (λ x. field {entry})" if self.is_level else f"λ x. shows.Field {entry}"
+        if self.is_level and self.definition.is_enum:
+            text = f"recursive (opened out-{self.name} (λ x. field {entry}))"
         self.used |= set(LEVEL.findall(text)) if self.cycle else set()
         cycle = f"    #[cycle({self.definition.cycle})]\n" if self.definition.cycle else ""
         return (
             f"{self.source.tactic}{self.head('Allocative')}{use}"
-            f"    ghost may_show = {{ {text} }};\n\n{self.is_exact()}{cycle}"
+            f"    ghost may_show = {{ {text} }};\n\n{self.is_strict()}{cycle}"
             f"    fn visit(&self, visitor: &mut Visitor<'_>) -> Result<(), Refusal> {{\n{body}    }}\n}}\n"
         )
 
@@ -247,21 +251,21 @@ class Writer:
         return [self.word(member, member.name, f"{value}.{member.name}") for member in members]
 
     def flags_of(self, member: Member) -> set[str]:
-        """The flags on which it depends whether the entry of a field is exact."""
+        """The flags on which it depends whether the entry of a field is strict."""
         found = self.scope.flags(member.type, self.types) if member.size is None else set()
         return {each for each in found if not set(self.cycle) & set(NAME.findall(each))}
 
-    def is_exact(self) -> str:
+    def is_strict(self) -> str:
         """The line of the flag, or nothing if it is not known."""
         flags = self.flags
         if flags and self.cycle:
             return ""
         if flags and not self.definition.is_enum:
             kinds = [member.type.text if member.size is None else "" for member in self.members]
-            flags = [f"⟦<{kind} as Allocative>⟧.is_exact" if kind else "true" for kind in kinds]
+            flags = [f"⟦<{kind} as Allocative>⟧.is_strict" if kind else "true" for kind in kinds]
         text = joined([*flags], lambda parts: f"({' && ('.join(parts)}{')' * len(parts)}")[1:-1] if flags else "true"
         self.used |= {word for word in ("true", "◌&&◌") if word.strip("◌") in text}
-        return f"    ghost is_exact = {{ {text} }};\n\n"
+        return f"    ghost is_strict = {{ {text} }};\n\n"
 
     # ---- levels of a type that holds itself
     def holds_cycle(self, kind: Type) -> bool:
@@ -341,24 +345,29 @@ class Writer:
         if self.is_level:
             self.refuse_parts()
             cases = [f"{self.name}-F.{variant.name}" for variant in variants]
-            opened, listed, value = "TheOpen", [f"{self.name}-F"], f"(out-{self.name} x)"
+            opened, listed = "TheOpen", [f"{self.name}-F"]
         else:
             cases = [variant.name + ("Case" if variant.name in CLAUSE_WORDS else "") for variant in variants]
             pairs = zip([variant.name for variant in variants], cases)
-            opened, value = "TheVariants", "x"
+            opened = "TheVariants"
             listed = [case if case == name else f"«{name}» as {case}" for name, case in pairs]
         arms = "".join(map(self.word_arm, variants, cases))
         use = f"    ghost use {self.declared_at}.{opened}.{{{', '.join(listed)}}};\n\n"
         body = f"{INDENT}match self {{\n{''.join(map(self.code_arm, variants))}{INDENT}}}\n"
         self.enum_answers(cases, listed)
-        return self.implementation(f" (elim {value} [\n{arms}    ])", body, use)
+        return self.implementation(f" (elim x [\n{arms}    ])", body, use)
 
     def refuse_parts(self) -> None:
-        """Refuses the fields that an enum that holds itself cannot have."""
+        """Refuses the fields that an enum that holds itself cannot have, and more than the checker can take."""
         for member in self.definition.members:
             if not member.is_whole:
                 what = "of an enum that holds itself is not shown whole: put it into a struct"
                 raise Fault(member.at, f"the field {member.name} {what}")
+        count = len(self.definition.variants)
+        names = sum(len(NAME.findall(member.type.text)) for member in self.definition.members)
+        if count * names > LARGEST_ENUM:
+            why = f"{count} variants and {names} names of types in its fields are too many for the checker"
+            raise Fault(self.definition.at, f"{self.name} holds itself, and {why}: put fields of a variant into a struct")
 
     def kept(self, variant: Variant, names: list[str]) -> list[tuple[Member, str, str]]:
         """The fields that a variant shows, with keys and names. A single one without a name has its name."""
@@ -425,13 +434,15 @@ class Writer:
         return f"\n{text}variant ({value}) = ({', '.join([*names, 'refl'])})\n"
 
     def fact(self, variant: Variant, case: str) -> str:
-        """What says that a value is of a variant, and in a type that holds itself, that its level is."""
+        """What says that a value is of a variant; in a type that holds itself, that what opens it is."""
         value = f"(out-{self.name} c.args.self.now)" if self.is_level else "c.args.self.now"
         if self.lemma:
             return f"(variant {value})" + (f".{len(variant.members)}" if variant.members else "")
         arm = f"c.in-{variant.name}"
         level = " ".join([case, *(f"{arm}.{name}" for name in bound(variant.names, 44))])
-        return f"(let e : {value[1:-1]} ≡ {level} = search (rules, the_lemmas) in e)" if self.is_level else f"{arm}.is"
+        if not self.is_level:
+            return f"{arm}.is"
+        return f"(let e : {value[1:-1]} ≡ {level} = ap out-{self.name} {arm}.is ∙ search the_lemmas in e)"
 
     def proof(self, taken: set[str], is_level: bool, arm: str = "", fact: str = "", is_entry: bool = False) -> str:
         """The proof of an arm: what was entered means what may be shown."""
@@ -440,11 +451,13 @@ class Writer:
         for size in sizes if self.is_sized else [*sizes, "refl"]:
             means = f"(means_field refl {size} {means})"
         entered = ensured(taken, "enter", arm)
-        only = "(search (rules, exact))" if self.flags else "exact_same"
+        only = "(search (rules, strict))" if self.flags else "strict_same"
         if fact and not (self.lemma or self.cycle or self.definition.parameters):
             return f"visited_at ghosts.may_show {fact} {entered} {only}\n    {means}"
-        means = f"(rw {fact}\n    {means})" if fact else means
-        means = f"(means_recursive {means})" if is_level else means
+        if is_level:
+            means = f"(means_opened _ _ {fact}\n    {means})" if fact else f"(means_recursive {means})"
+        if fact and (self.lemma or not is_level):
+            means = f"(rw {fact}\n    {means})"
         if self.flags and not self.cycle:
             return f"visited_if {entered} {only}\n    {means}"
         return f"visited_as {f'(entered_loosely {entered})' if self.flags else entered}\n    {means}"
@@ -454,7 +467,8 @@ class Writer:
         given = "t c" if self.cycle else "g c" if self.types or self.definition.names("const") else "c"
         path = (*self.source.text_at, *folder.split("/"))
         body = lemma + "".join(f"\npub {goal} : goal.{goal}\n{goal} {given} =\n    {proof}\n" for goal, proof in proofs)
-        words, text = {*WORD.findall(body), "◌≡◌" if "≡" in body else ""}, f"{MARK}\n"
+        signs = [f"◌{sign}◌" for sign in "≡∙" if sign in body]
+        words, text = {*WORD.findall(body), *signs}, f"{MARK}\n"
         for module, names in (self.uses | {f"Rattle.{each}": names.split() for each, names in LEMMAS.items()}).items():
             named = [name for name in names if name.split()[-1] in words]
             text += f"use {module}.{{{', '.join(named)}}}\n" if named else ""

@@ -10,7 +10,7 @@ use Rattle.std.proofs.lemmas.Bool.Decides.{nat_tests}
 use Rattle.allocative_described.specs.RawTable.{IsRawTableSize}
 use Rattle.allocative_described.proofs.Buckets.{raw_table_size_same}
 use Rattle.allocative.specs.Bodies.{buffer_entry, is_text, text_shows}
-use Rattle.allocative.proofs.Exact.{declared_nothing, declared_entry, entry_fits, only_if_full_as}
+use Rattle.allocative.proofs.Strict.{declared_nothing, declared_entry, entry_fits, only_if_full_as}
 use Rattle.allocative.proofs.Visits.{adds_weaker}
 use Rattle.allocative.proofs.Meaning.{entered_as, means_either}
 

@@ -4,7 +4,7 @@ use Rattle.allocative.proofs.Common.{Refusal, Key, Identity, Live, Outer, State,
 use Rattle.allocative.proofs.Common.{Unique, AddsForest, forgotten, OpensEntry, ClosesEntry, OpensShared}
 use Rattle.allocative.proofs.Common.{enters_first, Visitor, with_state, Visited, Entered, Means, OnlyIf}
 use Rattle.allocative.specs.Visited.{AnyEffect}
-use Rattle.allocative.proofs.Exact.{inexact}
+use Rattle.allocative.proofs.Strict.{not_strict}
 use Rattle.allocative.proofs.Meaning.{entered_if, means_same, visited_as}
 use Rattle.allocative.proofs.Visits.{adds_nothing, adds_both, adds_inline, adds_unique}
 
@@ -13,7 +13,7 @@ pub shown_by_hand : {p : Showing} {a : Visitor} {s t : State} {r : Result (Unit 
     AddsForest p s r t → Visited false p AnyEffect a (with_state a t) r
 shown_by_hand {p} {t = t} {r = r} e h =
     let P : State → Type 0 = λ s. AddsForest p s r t in
-    record { same_reference = refl; same_outer = refl; shown = subst P e h; only_if_full = inexact; takes_effect = tt }
+    record { same_reference = refl; same_outer = refl; shown = subst P e h; only_if_full = not_strict; takes_effect = tt }
 
 -- The same, if a part is entered afterwards.
 pub shown_before : {p q : Showing} {e : Bool} {a b : Visitor} {s t : State} {u : Unit {0}}
@@ -21,7 +21,7 @@ pub shown_before : {p q : Showing} {e : Bool} {a b : Visitor} {s t : State} {u :
     Visited false (Both p q) AnyEffect a b r
 shown_before {p} {a = a} {t = t} {u = u} e h k =
     let P : State → Type 0 = λ s. AddsForest p s (Ok u) t in
-    record { same_reference = k.same_reference; same_outer = k.same_outer; shown = adds_both (subst P e h) k.shown; only_if_full = inexact; takes_effect = tt }
+    record { same_reference = k.same_reference; same_outer = k.same_outer; shown = adds_both (subst P e h) k.shown; only_if_full = not_strict; takes_effect = tt }
 
 -- An entry with nothing inside it.
 pub inline_alone : {k : Key} {n : ℕ} {o q : Outer} {s t d : State} {x : Unit {0}} →

@@ -1,5 +1,5 @@
 -- What a caller of `visit_field_with` learns from the closure's outcome.
-use Rattle.std.proofs.Common.{◌≡◌, ℕ, Bool, Result, Ok, Err, MutBor, false, subst, refl, Some}
+use Rattle.std.proofs.Common.{◌≡◌, ℕ, Result, Ok, Err, MutBor, false, subst, refl, Some}
 use Rattle.allocative.proofs.Common.{Outer, Refusal, Key, Forest, held, ShowsNoContent, State, Going, OfHeld}
 use Rattle.allocative.proofs.Common.{nothing_held, close_entry, Showing, Inside, AddsForest, OpensEntry, Settles}
 use Rattle.allocative.proofs.Common.{Visitor, called, refused_inside, IsHeldSum, ClosesEntry}

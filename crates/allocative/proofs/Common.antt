@@ -29,8 +29,8 @@ pub use Rattle.allocative.specs.Bodies.{are_shown_each, buffer_shows, bytes_show
 pub use Rattle.allocative.specs.Bodies.{without_size}
 pub use Rattle.allocative.specs.Built.{as_graph}
 pub use Rattle.allocative.specs.Closures.{called, refused_inside}
-pub use Rattle.allocative.specs.Exact.{CanTake, HasRoomFor, IsDeclared, MayRefuse, FailsOnlyIfFull, RootFailsOnlyIfFull}
-pub use Rattle.allocative.specs.Exact.{ShowsContents, all_bytes, has_added, has_refused}
+pub use Rattle.allocative.specs.Strict.{CanTake, HasRoomFor, IsDeclared, MayRefuse, FailsOnlyIfFull, RootFailsOnlyIfFull}
+pub use Rattle.allocative.specs.Strict.{ShowsContents, all_bytes, has_added, has_refused}
 pub use Rattle.allocative.specs.Kinds.{HasEntered, HasMade, IsHeldSum, state_of}
 pub use Rattle.allocative.specs.Levels.{levels_shown}
 pub use Rattle.allocative.specs.Making.{Done, Entry, Makes, MakesPlan, Plan, entry_refused, gives, inside_refused, made}
@@ -38,7 +38,7 @@ pub use Rattle.allocative.specs.Making.{made_none, makes, one}
 pub use Rattle.allocative.specs.Nested.{EndsWith, EndsWithout, IsRefused, LendsCollector, LendsNested, Nests}
 pub use Rattle.allocative.specs.Nested.{with_state}
 pub use Rattle.allocative.specs.Runs.{CountsRun}
-pub use Rattle.allocative.specs.Shared.{AnswersShared, told, turned}
+pub use Rattle.allocative.specs.Shared.{AnswersShared, answer_without_visitor, transpose}
 pub use Rattle.allocative.specs.StdShows.{in_any_order}
 pub use Rattle.allocative.specs.Visited.{Entered, Means, OnlyIf, Visited}
 pub use Rattle.allocative.specs.declared.visitor.Visitor.{Visitor}

@@ -9,7 +9,7 @@ use Rattle.allocative_graph.specs.Shows.{is_shown_each}
 use Rattle.allocative.specs.Bodies.{buffer_entry, cut_shows, is_cut, data_shows}
 use Rattle.allocative.specs.PackShows.{once_inside, is_not_set, is_set, small_vec_inside, lies_inline, is_spilled}
 use Rattle.allocative.specs.PackShows.{index_data_shows, is_index_data}
-use Rattle.allocative.proofs.Exact.{declared_both, declared_entry, declared_nothing, each_append, declared_append}
+use Rattle.allocative.proofs.Strict.{declared_both, declared_entry, declared_nothing, each_append, declared_append}
 use Rattle.allocative.proofs.Meaning.{means_same, means_both, means_unique, means_then, means_either}
 
 -- ---- buffers
@@ -104,11 +104,11 @@ pub means_inline : {T : Type 0} {x : Bool} {n : ℕ} {y : Option ℕ} {p : T →
 means_inline is m = means_then m (means_either (λ f x. lies_inline is x)
     (λ f x. elim x [ lies_inline not y ↦ y | is_spilled so y ↦ absurd (is so) ]))
 
--- A contract does not see whether the cell is set, so its visits are not exact.
+-- A contract does not see whether the cell is set, so its visits are not strict.
 pub means_not_set : {T : Type 0} {p : T → Showing} → Means false Nothing (once_inside p)
 means_not_set = record { means = λ f x. is_not_set x; declared = λ i d. absurd (false≢true i) }
 
--- A pointer to some value means the inside of a cell that is set once, in a visit that is not exact.
+-- A pointer to some value means the inside of a cell that is set once, in a visit that is not strict.
 pub means_set : {T : Type 0} {p : T → Showing} (x : T) {k : Key} → k ≡ codes "ptr" →
     Means false (Unique k 8 (p x)) (once_inside p)
 means_set x e = rw e (record { means = λ f h. is_set x h; declared = λ i d. absurd (false≢true i) })

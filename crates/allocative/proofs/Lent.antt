@@ -46,7 +46,7 @@ use denote.Struct.Field.{usize-field}
 use denote.Struct.Laws.{usize-laws, usize-copy}
 pub use Rattle.allocative.proofs.Common.{name_if_ok, Refusal, Key, State, Visitor, LendsCollector, with_state}
 pub use Rattle.allocative.proofs.Common.{OpensRoot, Settles, as_graph, OpensShared, EndsWith, EndsWithout}
-pub use Rattle.allocative.proofs.Common.{AnswersShared, told, turned, Identity, enters_first, LendsNested, Nests}
+pub use Rattle.allocative.proofs.Common.{AnswersShared, answer_without_visitor, transpose, Identity, enters_first, LendsNested, Nests}
 pub use Rattle.allocative.proofs.Common.{IsRefused, OpensEntry, RefusesEntry, Failed}
 pub use Rattle.std.specs.Borrow.{RestsIfErr}
 pub use prog.Wp.{WpFn, Closed}

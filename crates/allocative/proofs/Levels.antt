@@ -1,6 +1,6 @@
 -- What a level shows of values of any number of levels is what a value of any number of levels shows.
 use Rattle.std.proofs.Common.{◌≡◌, ℕ, Bool, true, false, codes, zero, suc, ◌+◌, ◌-◌, List, [], ◌∷◌, Option, None, Some}
-use Rattle.std.proofs.Common.{refl, arith}
+use Rattle.std.proofs.Common.{refl, arith, subst, sym}
 use Rattle.allocative.proofs.Common.{Key, Forest, Showing, Field, sized, each_shows, InsideAs, Both, buffer_shows}
 use Rattle.allocative.proofs.Common.{bytes_shown, without_size, without_room, with_room, in_any_order, IsDeclared}
 use Rattle.allocative.proofs.Common.{ShowsContents, Means, levels_shown}
@@ -8,7 +8,7 @@ use Rattle.std.proofs.Math.Nat.{add_comm}
 use Rattle.std.proofs.lemmas.Bool.{false≢true}
 use Rattle.allocative.specs.StdShows.{option_inside}
 use Rattle.allocative.specs.Levels.{Level, plain, child, both, inside, unique, field, buffer, optional, each, unordered}
-use Rattle.allocative.specs.Levels.{level_shows, recursive}
+use Rattle.allocative.specs.Levels.{level_shows, recursive, opened}
 use Rattle.allocative.proofs.Meaning.{means_same, means_inside, means_unique, means_field, means_both}
 use Rattle.allocative.proofs.ContainerMeaning.{means_buffer}
 
@@ -154,3 +154,10 @@ pub means_recursive : {T : Type 0} {e : Bool} {w : T → Level T} {x : T} {p : S
     Means e p (level_shows (recursive w) (w x)) → Means e p (recursive w x)
 means_recursive {w = w} {x = x} m =
     record { means = λ f y. one_level_more w x f (m.means f y); declared = λ h d. m.declared h (one_level w x d) }
+
+-- What means one level of the value that `out` opens means the value.
+pub means_opened : {T O : Type 0} {e : Bool} (out : T → O) (v : O → Level T) {x : T} {o : O} {p : Showing} → out x ≡ o →
+    Means e p (level_shows (recursive (opened out v)) (v o)) → Means e p (recursive (opened out v) x)
+unfolding opened
+means_opened {e = e} out v {p = p} is m =
+    means_recursive (subst (λ o. Means e p (level_shows (recursive (opened out v)) (v o))) (sym is) m)

@@ -4,7 +4,7 @@ pub mod Closures
 pub mod Runs
 pub mod Bodies
 pub mod Opening
-pub mod Exact
+pub mod Strict
 pub mod Visits
 pub mod Meaning
 pub mod ContainerMeaning

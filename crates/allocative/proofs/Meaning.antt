@@ -5,35 +5,35 @@ use Rattle.allocative.proofs.Common.{Unique, Field, IsField, sized, Shared, IsDe
 use Rattle.allocative.proofs.Common.{Entered, Means, OnlyIf}
 use Rattle.std.proofs.lemmas.Bool.{false≢true, and_parts, and_from}
 use Rattle.allocative.specs.Visited.{AnyEffect, Refused}
-use Rattle.allocative.proofs.Exact.{declared_first, declared_second, declared_both, declared_inside, declared_entry}
-use Rattle.allocative.proofs.Exact.{declared_content, declared_shared, only_if_full_nothing, only_if_full_weaker}
-use Rattle.allocative.proofs.Exact.{only_if_full_undeclared, inexact}
+use Rattle.allocative.proofs.Strict.{declared_first, declared_second, declared_both, declared_inside, declared_entry}
+use Rattle.allocative.proofs.Strict.{declared_content, declared_shared, only_if_full_nothing, only_if_full_weaker}
+use Rattle.allocative.proofs.Strict.{only_if_full_undeclared, not_strict}
 use Rattle.allocative.proofs.Visits.{adds_weaker, adds_nothing, adds_refused}
 
--- ---- which visits are exact
--- A visit that is never exact needs no exact part.
-pub exact_never : {e : Bool} → OnlyIf false e
-exact_never = record { follows = λ h. absurd (false≢true h) }
+-- ---- which visits are strict
+-- A visit that is never strict needs no strict part.
+pub strict_never : {e : Bool} → OnlyIf false e
+strict_never = record { follows = λ h. absurd (false≢true h) }
 
--- A visit is exact only if it is exact itself.
-pub exact_same : {e : Bool} → OnlyIf e e
-exact_same = record { follows = λ h. h }
+-- A visit is strict only if it is strict itself.
+pub strict_same : {e : Bool} → OnlyIf e e
+strict_same = record { follows = λ h. h }
 
--- A part that is always exact is exact whenever the visit is.
-pub exact_always : {e : Bool} → OnlyIf e true
-exact_always = record { follows = λ h. refl }
+-- A part that is always strict is strict whenever the visit is.
+pub strict_always : {e : Bool} → OnlyIf e true
+strict_always = record { follows = λ h. refl }
 
--- If c is exact only if d is and only if e is, then c is exact only if both are.
-pub exact_both : {c d e : Bool} → OnlyIf c d → OnlyIf c e → OnlyIf c (d && e)
-exact_both {d = d} {e = e} l r = record { follows = λ h. and_from d e (l.follows h) (r.follows h) }
+-- If c is strict only if d is and only if e is, then c is strict only if both are.
+pub strict_both : {c d e : Bool} → OnlyIf c d → OnlyIf c e → OnlyIf c (d && e)
+strict_both {d = d} {e = e} l r = record { follows = λ h. and_from d e (l.follows h) (r.follows h) }
 
--- If d is exact only if c is, then d and e are both exact only if c is.
-pub exact_first : {c d : Bool} (e : Bool) → OnlyIf d c → OnlyIf (d && e) c
-exact_first {d = d} e l = record { follows = λ h. l.follows (and_parts d e h).0 }
+-- If d is strict only if c is, then d and e are both strict only if c is.
+pub strict_first : {c d : Bool} (e : Bool) → OnlyIf d c → OnlyIf (d && e) c
+strict_first {d = d} e l = record { follows = λ h. l.follows (and_parts d e h).0 }
 
--- If e is exact only if c is, then d and e are both exact only if c is.
-pub exact_second : {c e : Bool} (d : Bool) → OnlyIf e c → OnlyIf (d && e) c
-exact_second {e = e} d r = record { follows = λ h. r.follows (and_parts d e h).1 }
+-- If e is strict only if c is, then d and e are both strict only if c is.
+pub strict_second : {c e : Bool} (d : Bool) → OnlyIf e c → OnlyIf (d && e) c
+strict_second {e = e} d r = record { follows = λ h. r.follows (and_parts d e h).1 }
 
 -- ---- what a part means
 -- Each showing means itself.
@@ -106,7 +106,7 @@ means_shared {j = j} {n = n} {l = l} e h m = rw (e, h) (record {
   declared = λ i d. declared_shared j n l (m.declared i (declared_content j n l d));
 })
 
--- What was entered as p was entered as q, if p means q and q is exact only if p is.
+-- What was entered as p was entered as q, if p means q and q is strict only if p is.
 pub entered_if : {d e : Bool} {p q : Showing} {a b : Visitor} {r : Result (Unit {0}) Refusal} → Entered e p a b r →
     OnlyIf d e → Means d p q → Entered d q a b r
 entered_if h o m = record {
@@ -117,34 +117,34 @@ entered_if h o m = record {
   only_if_full = λ i. only_if_full_weaker m.means (m.declared i) (h.only_if_full (o.follows i));
 }
 
--- If p means q, what was entered as p was entered as q, and it is just as exact.
+-- If p means q, what was entered as p was entered as q, and it is just as strict.
 pub entered_as : {d : Bool} {p q : Showing} {a b : Visitor} {r : Result (Unit {0}) Refusal} → Entered d p a b r →
     Means d p q → Entered d q a b r
-entered_as h m = entered_if h exact_same m
+entered_as h m = entered_if h strict_same m
 
 -- An entry of a size that is there is an inline entry.
 pub entered_inline : {d : Bool} {k : Key} {n : ℕ} {p : Showing} {a b : Visitor} {r : Result (Unit {0}) Refusal} →
     Entered d (Field k (Some n) p) a b r → Entered d (Inside k n p) a b r
 entered_inline h = entered_as h (means_either (λ f x. elim x [ sized y ↦ y ]) (λ f x. sized x))
 
--- What was entered need not be exact.
+-- What was entered need not be strict.
 pub entered_loosely : {e : Bool} {p : Showing} {a b : Visitor} {r : Result (Unit {0}) Refusal} → Entered e p a b r →
     Entered false p a b r
-entered_loosely h = entered_if h exact_never means_same
+entered_loosely h = entered_if h strict_never means_same
 
--- A part that was entered is the visit of a value, exact if the part is.
+-- A part that was entered is the visit of a value, strict if the part is.
 pub visited_as : {d : Bool} {p q : Showing} {a b : Visitor} {r : Result (Unit {0}) Refusal} → Entered d p a b r →
     Means d p q → Visited d q AnyEffect a b r
 visited_as h m =
     let w = entered_as h m in
     record { same_reference = w.same_reference; same_outer = w.same_outer; shown = w.shown; only_if_full = w.only_if_full; takes_effect = tt }
 
--- An exact part is the visit of a value that need not be. Search needs the two flags as they are.
-pub visited_of_exact : {p q : Showing} {a b : Visitor} {r : Result (Unit {0}) Refusal} → Entered true p a b r →
+-- A strict part is the visit of a value that need not be. Search needs the two flags as they are.
+pub visited_of_strict : {p q : Showing} {a b : Visitor} {r : Result (Unit {0}) Refusal} → Entered true p a b r →
     Means false p q → Visited false q AnyEffect a b r
-visited_of_exact h m = visited_as (entered_loosely h) m
+visited_of_strict h m = visited_as (entered_loosely h) m
 
--- A part that was entered is the visit of a value that is exact only if the part is.
+-- A part that was entered is the visit of a value that is strict only if the part is.
 pub visited_if : {d e : Bool} {p q : Showing} {a b : Visitor} {r : Result (Unit {0}) Refusal} → Entered e p a b r →
     OnlyIf d e → Means d p q → Visited d q AnyEffect a b r
 visited_if h o m = visited_as (entered_if h o means_same) m
@@ -161,7 +161,7 @@ entered_none a m =
 
 -- An error that is returned by hand, which need not be one that must be.
 pub entered_refused : {p : Showing} {q e : Refusal} {a b : Visitor} → Refused q a b e → Entered false p a b (Err e)
-entered_refused {q = q} {e = e} h = record { same_reference = h.same_reference; same_outer = h.same_outer; shown = adds_refused _ e q _ h.after; cause = h.is_cause; only_if_full = inexact }
+entered_refused {q = q} {e = e} h = record { same_reference = h.same_reference; same_outer = h.same_outer; shown = adds_refused _ e q _ h.after; cause = h.is_cause; only_if_full = not_strict }
 
 -- A part that is declared nowhere is refused as TooLarge.
 pub undeclared_refused : {x : Bool} {p : Showing} {e : Refusal} {a b : Visitor} → (IsDeclared p → ⊥) →

@@ -1,5 +1,5 @@
 -- What the collector's own calls do, by what they find: the collector had failed, or it was going.
-use Rattle.std.proofs.Common.{◌≡◌, ℕ, ◌+◌, ◌-◌, ◌<◌, ◌≤◌, ◌^◌, Bool, true, false, None, Some, Option, Result, Ok, Err}
+use Rattle.std.proofs.Common.{◌≡◌, ℕ, ◌+◌, ◌-◌, ◌<◌, ◌≤◌, ◌^◌, Bool, true, false, None, Some, Option, Ok, Err}
 use Rattle.std.proofs.Common.{refl}
 use Rattle.allocative.proofs.Common.{Outer, Refusal, TooLarge, Key, Identity, Live, Kind, OfGraph, OfHeld, OfOwned}
 use Rattle.allocative.proofs.Common.{count_owning, State, Failed, Going, OpensEntry, stays_failed, is_refused}
@@ -8,7 +8,7 @@ use Rattle.allocative.proofs.Common.{is_too_large_shared, counts, enters_first, 
 use Rattle.allocative.proofs.Common.{one, Makes, made_none, made, entry_refused}
 use Rattle.allocative_collectors.specs.Meets.{MeetsAs}
 use Rattle.allocative_graph.specs.Collector.{Holding, Owning}
-use Rattle.allocative_graph.specs.Sums.{entered}
+use Rattle.allocative_graph.specs.Sums.{bytes_entered}
 use Rattle.allocative_graph.specs.Visits.{Refuses}
 use Rattle.allocative.specs.Making.{had_failed}
 use Rattle.allocative.proofs.Visits.{refuses_entry}
@@ -85,7 +85,7 @@ shared_refused c i h j = rw (i, j) (is_refused_shared h)
 
 -- A flame graph's collector shows the content of a shared entry that has room exactly if its identity is new.
 pub shared_met : {k : Key} {n : ℕ} {i : Identity} (c d : Live) (is_first : Bool) {s t : State} → s ≡ Going (OfGraph c) →
-    entered c.sums + n < 2 ^ 63 → MeetsAs k n i c is_first d → t ≡ Going (OfGraph d) →
+    bytes_entered c.sums + n < 2 ^ 63 → MeetsAs k n i c is_first d → t ≡ Going (OfGraph d) →
     OpensShared k n i s (Ok is_first) t
 shared_met c d true i r m j = rw (i, j) (enters_first r m.0 m.1)
 shared_met c d false i r m j = rw (i, j) (enters_again r m.0 m.1)

@@ -9,14 +9,14 @@ use Rattle.std.proofs.lemmas.Bool.{false≢true}
 use Rattle.std.proofs.lemmas.List.Folds.{list_all_at}
 use Rattle.allocative_graph.specs.Collector.{go}
 use Rattle.allocative_graph.proofs.Plus.{is_graph-plus, is_graph-begin}
-use Rattle.allocative.proofs.Exact.{entered-plus, can_first, can_second, may_refuse, each_append, declared_append}
+use Rattle.allocative.proofs.Strict.{bytes_entered-plus, can_first, can_second, may_refuse, each_append, declared_append}
 pub use Rattle.allocative.proofs.Closures.{same_err}
 use Rattle.allocative.proofs.Within.{around_item}
 
 -- Entries that are added with a root visitor open take as much room as without it.
 room_begun : (b : Kind) (f g : Forest) → HasRoomFor (plus (begin b) f) g → HasRoomFor (begin (plus b f)) g
 room_begun (OfGraph c) f g h = subst (λ (n : ℕ). n + all_bytes g < 2 ^ 63)
-    (entered-plus (go [] c) f ∙ sym (entered-plus c f)) h
+    (bytes_entered-plus (go [] c) f ∙ sym (bytes_entered-plus c f)) h
 room_begun (OfHeld k) f g h = h
 room_begun (OfOwned k) f g h = h
 
@@ -29,15 +29,15 @@ can_among p front x back b f a w =
     let after = can_second (begin b) f a both in
     can_first (begin (plus b f)) (after.0, λ g y. room_begun b f g (after.1 g y))
 
--- A root that is refused may be refused as one of all roots. What is exact of all is exact of it.
+-- A root that is refused may be refused as one of all roots. What is strict of all is strict of it.
 only_if_full_among : {T : Type 0} (w y : Bool) (p : T → Showing) (front : List T) (x : T) (back : List T)
     (s m t : State) (u : Unit) (e : Refusal) → (IsTrue w → IsTrue y) →
     VisitsRoot (each_shows p front) s (Ok u) m → RootFailsOnlyIfFull y (p x) m (Err e) t →
     RootFailsOnlyIfFull w (each_shows p (front ++ x ∷ back)) s (Err e) t
 only_if_full_among w y p front x back (Failed r) m t u e only g h = tt
 only_if_full_among w y p front x back (Going b) (Failed r) t u e only g h = absurd g
-only_if_full_among w y p front x back (Going b) (Going c) t u e only (z, f, a, k, i) h = λ exact closed.
-    let r = h (only exact) z in
+only_if_full_among w y p front x back (Going b) (Going c) t u e only (z, f, a, k, i) h = λ strict closed.
+    let r = h (only strict) z in
     let m : MayRefuse (p x) (begin (plus b f)) e = subst (λ (v : Kind). MayRefuse (p x) (begin v) e) i r.1 in
     let same : is_graph (begin b) ≡ is_graph (begin (plus b f)) =
     is_graph-begin b ∙ sym (is_graph-plus b f) ∙ sym (is_graph-begin (plus b f)) in
@@ -51,10 +51,10 @@ pub only_if_full_indexed : {T : Type 0} (w y : Bool) (p : T → Showing) (xs : L
 only_if_full_indexed w y p xs i x s m t u {e} only err g k l is =
     rw (← around_item xs i x l is, err) (only_if_full_among w y p (take i xs) x (drop (i + 1) xs) s m t u e only g k)
 
--- If all roots are exact, so is the root with this index.
-pub one_of_exact : {T : Type 0} (q : T → Bool) (xs : List T) (i : ℕ) (x : T) → i < length xs → x ≡ get_or xs i x →
+-- If all roots are strict, so is the root with this index.
+pub one_of_all : {T : Type 0} (q : T → Bool) (xs : List T) (i : ℕ) (x : T) → i < length xs → x ≡ get_or xs i x →
     IsTrue (list_all q xs) → IsTrue (q x)
-one_of_exact q xs i x l is all = by_case (q x) refl
+one_of_all q xs i x l is all = by_case (q x) refl
   where
     by_case : (b : Bool) → b ≡ q x → IsTrue b
     by_case true h = refl

@@ -77,7 +77,7 @@ visits_root (Going b) q {p} {c = c} {r = r} h i v l e k =
     let k' : Settles (close_entry (outer_of 0 b) c) q = rw d at k in
     rw d (visits_going b (begin b) q h.0 h.1 refl v' k')
 
--- An exact visit that was opened by a root visitor leaves its collector closed, or failed with what it returned.
+-- A strict visit that was opened by a root visitor leaves its collector closed, or failed with what it returned.
 only_if_full_going : {p : Showing} (b e : Kind) {c : State} {r : Result Unit Refusal} (q : Refusal) → IsClosed b →
     IsAtRoot b → e ≡ begin b → FailsOnlyIfFull p (Going e) r c → Settles (close_entry (outer_of 0 b) c) (Err q) →
     (close_entry (outer_of 0 b) c ≡ Failed q) × MayRefuse p (begin b) q
@@ -88,16 +88,16 @@ only_if_full_going {p} b e q h here i (has_refused {e = y} m) k =
     let is : q ≡ y = cc in
     (ap Failed (sym is), subst (MayRefuse p (begin b)) (sym is) (subst (λ (z : Kind). MayRefuse p z y) i m))
 
--- A root visitor that was opened, an exact visit there, leaving, and the result refuse only if they must.
+-- A root visitor that was opened, a strict visit there, leaving, and the result refuse only if they must.
 pub root_only_if_full : (s : State) (q : Result Unit Refusal) {x : Bool} {p : Showing} {t a c d : State} {o w : Outer}
     {r : Result Unit Refusal} → OpensRoot s (Ok o) t → a ≡ t → (IsTrue x → FailsOnlyIfFull p a r c) →
     ClosesEntry w c d → w ≡ o → Settles d q → RootFailsOnlyIfFull x p s q d
 root_only_if_full (Failed z) q h i v l e k = tt
 root_only_if_full (Going b) (Ok u) h i v l e k = tt
-root_only_if_full (Going b) (Err z) {p} {c = c} {d = d} {r = r} h i v l e k = λ exact closed.
+root_only_if_full (Going b) (Err z) {p} {c = c} {d = d} {r = r} h i v l e k = λ strict closed.
     let g : d ≡ close_entry (outer_of 0 b) c = l.closes ∙ ap (λ (o : Outer). close_entry o c) (e ∙ h.2) in
     let v' : FailsOnlyIfFull p (Going (begin b)) r c =
-    subst (λ (y : State). FailsOnlyIfFull p y r c) (i ∙ h.3) (v exact) in
+    subst (λ (y : State). FailsOnlyIfFull p y r c) (i ∙ h.3) (v strict) in
     let k' : Settles (close_entry (outer_of 0 b) c) (Err z) = rw g at k in
     rw g (only_if_full_going b (begin b) z closed h.1 refl v' k')
 

@@ -17,12 +17,12 @@ use Rattle.std.specs.Iterator.{Drains, AlwaysYields}
 use Rattle.std.specs.List.{All}
 use Rattle.slab.specs.Slab.{entries_from}
 use Rattle.allocative.specs.Runs.{RefusesAlong, RefusesCounted, CanCount, IsOfRun}
-use Rattle.allocative.proofs.Meaning.{entered_if, entered_as, exact_never, exact_same}
+use Rattle.allocative.proofs.Meaning.{entered_if, entered_as, strict_never, strict_same}
 use Rattle.allocative.specs.Iterators.{EntersRun, EntersData}
 use Rattle.allocative.specs.Making.{MakesPlanOrGives, Done, first_refused, first_entered}
-use Rattle.allocative.proofs.Exact.{declared_nothing, declared_first, declared_second, declared_both, declared_append}
-use Rattle.allocative.proofs.Exact.{each_append, each_one, entry_fits, inexact, only_if_full_as, only_if_full_within}
-use Rattle.allocative.proofs.Exact.{only_if_full_not_within}
+use Rattle.allocative.proofs.Strict.{declared_nothing, declared_first, declared_second, declared_both, declared_append}
+use Rattle.allocative.proofs.Strict.{each_append, each_one, entry_fits, not_strict, only_if_full_as, only_if_full_within}
+use Rattle.allocative.proofs.Strict.{only_if_full_not_within}
 use Rattle.allocative.proofs.Visits.{adds_inline, entry_err, close_cause, not_entered, not_entered_cause}
 use Rattle.allocative.proofs.Within.{entered_both, entered_passed, gives_within, gives_refused}
 use Rattle.allocative.proofs.Bodies.{plain_slice, each_slice, entry_declared, checked_fits, none_of_it}
@@ -41,18 +41,18 @@ pub entered_next : {A B : Type 0} {e : Bool} (v : A → B) (p : B → Showing) (
 entered_next v p xs x f s =
     let one : Means _ (p (v x)) (each_shows p (v x ∷ [])) =
     record { means = each_one p (v x); declared = λ i d. declared_first d } in
-    rw map-append (entered_as (entered_both exact_same exact_same f (entered_as s one))
+    rw map-append (entered_as (entered_both strict_same strict_same f (entered_as s one))
     (means_append p (map v xs) (v x ∷ [])))
 
--- What is not exact is only allowed.
+-- What is not strict is only allowed.
 loosely : {p q : Showing} → ((f : Forest) → p f → q f) → Means false p q
 loosely up = record { means = up; declared = λ i d. absurd (false≢true i) }
 
--- What was entered of one whole run was entered of some whole run, but need not be exact.
+-- What was entered of one whole run was entered of some whole run, but need not be strict.
 pub entered_run : {S A B : Type 0} {e : Bool} {steps : S → Option A → S → Type 0} {s : S} {v : A → B}
     {q : List B → Showing} (xs : List A) {a b : Visitor} {r : Result (Unit {0}) Refusal} →
     Drains steps s xs → Entered e (q (map v xs)) a b r → Entered false (IsOfRun steps s v q) a b r
-entered_run xs d h = entered_if h exact_never (loosely (λ f g. record { given = xs; drained = d; shown = g }))
+entered_run xs d h = entered_if h strict_never (loosely (λ f g. record { given = xs; drained = d; shown = g }))
 
 -- The items of a whole run are those that every run gives.
 same_items : {S A B : Type 0} {steps : S → Option A → S → Type 0} {s : S} {v : A → B} (xs : List A) {ys : List B} →
@@ -65,7 +65,7 @@ of_list : {S A B : Type 0} {steps : S → Option A → S → Type 0} {s : S} {v 
     YieldsList steps v s all → (f : Forest) → IsOfRun steps s v q f → q all f
 of_list {q = q} y f o = subst (λ ys. q ys f) (same_items o.given o.drained y) o.shown
 
--- If a whole run's items were entered, the exact visit of a list that every run gives refuses only if it must.
+-- If a whole run's items were entered, the strict visit of a list that every run gives refuses only if it must.
 pub along_run : {S A B : Type 0} {e : Bool} {steps : S → Option A → S → Type 0} {s : S} {v : A → B}
     {q : List B → Showing} (xs : List A) {a b : Visitor} {r : Result (Unit {0}) Refusal} →
     Drains steps s xs → Entered e (q (map v xs)) a b r → RefusesAlong e steps s v q a b r
@@ -95,7 +95,7 @@ pub along_refused : {S A B : Type 0} {d : Bool} (steps : S → Option A → S �
 along_refused steps {s = s} t {v} {p} {x} xs is g n f z = record {
   along = λ i ys y.
       let split = begins steps v s t xs ys g n y in
-      let both = entered_both exact_same exact_same f (entered_passed is exact_same z) in
+      let both = entered_both strict_same strict_same f (entered_passed is strict_same z) in
       rw (← split.1) ((entered_as both (means_append p (map v xs) (v x ∷ split.0))).only_if_full i);
 }
 
@@ -111,8 +111,8 @@ entered_within : {p : Showing} {k : Key} {n : ℕ} {o : Outer} {a b : Visitor} {
     {r : Result (Unit {0}) Refusal} →
     OpensEntry false k (Some n) a.collector.now (Ok o) t → Entered false p (with_state a t) b r →
     ClosesEntry o b.collector.now d → Entered false (Inside k n p) a (with_state b d) r
-entered_within {r = Ok u} g h l = record { same_reference = h.same_reference; same_outer = h.same_outer; shown = adds_inline g refl h.shown l refl; cause = tt; only_if_full = inexact }
-entered_within {r = Err e} g h l = record { same_reference = h.same_reference; same_outer = h.same_outer; shown = entry_err g refl h.shown l; cause = close_cause l h.cause; only_if_full = inexact }
+entered_within {r = Ok u} g h l = record { same_reference = h.same_reference; same_outer = h.same_outer; shown = adds_inline g refl h.shown l refl; cause = tt; only_if_full = not_strict }
+entered_within {r = Err e} g h l = record { same_reference = h.same_reference; same_outer = h.same_outer; shown = entry_err g refl h.shown l; cause = close_cause l h.cause; only_if_full = not_strict }
 
 -- The entry `data` was refused.
 pub data_refused : {S A B : Type 0} {e : Bool} {steps : S → Option A → S → Type 0} {s : S} {v : A → B} {p : B → Showing}
@@ -120,10 +120,10 @@ pub data_refused : {S A B : Type 0} {e : Bool} {steps : S → Option A → S →
     r ≡ Err x → OpensEntry false (codes "data") (Some 8) a.collector.now (Err x) t →
     EntersData e steps s v p a (with_state a t) r
 data_refused is g = rw is (record {
-  entered = record { same_reference = refl; same_outer = refl; shown = not_entered g; cause = not_entered_cause g; only_if_full = inexact };
+  entered = record { same_reference = refl; same_outer = refl; shown = not_entered g; cause = not_entered_cause g; only_if_full = not_strict };
   only_if_full = record { along = λ i ys y. only_if_full_not_within g };
   first = first_refused g;
-  exact = gives_refused g;
+  plan = gives_refused g;
 })
 
 -- The entry `data` was made, the items of a run were entered inside it, and it was left.
@@ -138,7 +138,7 @@ data_entered g h f m l = record {
   entered = entered_within g h l;
   only_if_full = along_within g f l;
   first = first_entered g;
-  exact = gives_within g m l;
+  plan = gives_within g m l;
 }
 
 -- ---- for callers: when the run is known
@@ -155,11 +155,11 @@ entered_list {q = q} {all = all} y h k = record {
   only_if_full = λ i. k.along i all y.runs;
 }
 
--- If every run gives the same list, what was entered of some run was entered of it, but need not be exact.
+-- If every run gives the same list, what was entered of some run was entered of it, but need not be strict.
 pub list_entered : {S A B : Type 0} {e : Bool} {steps : S → Option A → S → Type 0} {s : S} {v : A → B}
     {q : List B → Showing} {all : List B} {a b : Visitor} {r : Result (Unit {0}) Refusal} →
     YieldsList steps v s all → Entered e (IsOfRun steps s v q) a b r → Entered false (q all) a b r
-list_entered {q = q} y h = entered_if h exact_never (loosely (of_list {q = q} y))
+list_entered {q = q} y h = entered_if h strict_never (loosely (of_list {q = q} y))
 
 -- If items are declared in some order, they are declared in their own order.
 any_order_declared : {B : Type 0} (p : B → Showing) (xs : List B) → IsDeclared (in_any_order p xs) →
@@ -208,7 +208,7 @@ plain_run v name size count needs_drop p e (xs, d, i) h =
     let h' = rw i at h in
     let up = λ (f : Forest) (g : Field name (size_product size (checked (length xs))) Nothing f). plain_slice name size
     needs_drop p (map v xs) e f (rw length-map (bytes_counted name size (length xs) f g)) in
-    entered_run xs d (entered_if h' exact_never (loosely (up)))
+    entered_run xs d (entered_if h' strict_never (loosely (up)))
 
 -- If items are shown one by one, entering the items of some run enters the slice of some run.
 pub items_run : {S A T : Type 0} {e : Bool} {steps : S → Option A → S → Type 0} {s : S} (v : A → T) (name : Key)
@@ -216,7 +216,7 @@ pub items_run : {S A T : Type 0} {e : Bool} {steps : S → Option A → S → Ty
     are_shown_each needs_drop size ≡ true → Entered e (IsOfRun steps s v (each_shows p)) a b r →
     Entered false (IsOfRun steps s v (slice_shows name size needs_drop p)) a b r
 items_run {steps = steps} {s = s} v name size needs_drop p e h =
-    entered_if h exact_never (loosely (λ f (o : IsOfRun steps s v (each_shows p) f).
+    entered_if h strict_never (loosely (λ f (o : IsOfRun steps s v (each_shows p) f).
     record { given = o.given; drained = o.drained; shown = each_slice name size needs_drop p (map v o.given) e f o.shown }))
 
 -- ---- what a counted slice refuses

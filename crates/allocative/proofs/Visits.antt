@@ -16,7 +16,7 @@ use Rattle.allocative_graph.proofs.Plus.{plus-nothing, plus-following, takes_not
 use Rattle.allocative_graph.proofs.Plus.{takes_entry, inside_first, takes_shared, held_again, owned_again}
 use Rattle.allocative_graph.proofs.Plus.{visitors-plus, visitors-enter, visitors-leave, is_graph-plus, is_graph-enter}
 use Rattle.allocative_graph.proofs.Plus.{is_graph-leave}
-use Rattle.allocative.proofs.Exact.{each_append, each_one}
+use Rattle.allocative.proofs.Strict.{each_append, each_one}
 
 -- ---- one after another
 -- A visit that leaves the collector as it is and returns Ok shows no entry.

@@ -2,17 +2,17 @@
 -- collector steps back.
 use Rattle.std.proofs.Common.{◌≡◌, ℕ, ◌+◌, ◌<◌, Bool, true, false, List, ◌∷◌, ◌++◌, take, drop, length, get_or, Option}
 use Rattle.std.proofs.Common.{Some, Result, Ok, Err, IsErr, refl, sym, ◌∙◌, ap, subst, take-append-drop}
-use Rattle.allocative.proofs.Common.{Outer, Refusal, Key, Identity, State, Failed, Going, close_entry, Showing, Nothing}
-use Rattle.allocative.proofs.Common.{Both, Inside, Field, sized, Shared, already, OpensEntry, OpensShared, Plan}
+use Rattle.allocative.proofs.Common.{Outer, Refusal, Key, Identity, State, Failed, Showing, Nothing}
+use Rattle.allocative.proofs.Common.{Both, Inside, Field, Shared, already, OpensEntry, OpensShared, Plan}
 use Rattle.allocative.proofs.Common.{Done, Entry, Makes, made_none, made, entry_refused, inside_refused, makes, gives}
 use Rattle.allocative.proofs.Common.{one, Visitor, with_state, FailsOnlyIfFull, Entered, OnlyIf, ClosesEntry}
 use Rattle.std.proofs.lemmas.Bool.{false≢true}
 use Rattle.std.proofs.lemmas.List.{drop_more}
-use Rattle.allocative.specs.Making.{had_failed, MakesFirst, MakesPlanOrGives, first_refused, first_entered}
-use Rattle.allocative.specs.Exact as refuses
+use Rattle.allocative.specs.Making.{had_failed, MakesPlanOrGives}
+use Rattle.allocative.specs.Strict as refuses
 use Rattle.allocative.proofs.Making.{goes_on, nothing_inside, makes_entry, makes_failed, failed_closed}
-use Rattle.allocative.proofs.Exact.{only_if_full_nothing, only_if_full_field, only_if_full_not_field}
-use Rattle.allocative.proofs.Exact.{only_if_full_first, only_if_full_both, only_if_full_content}
+use Rattle.allocative.proofs.Strict.{only_if_full_nothing, only_if_full_field, only_if_full_not_field}
+use Rattle.allocative.proofs.Strict.{only_if_full_first, only_if_full_both, only_if_full_content}
 use Rattle.allocative.proofs.Meaning.{entered_inline}
 use Rattle.allocative.proofs.Visits.{adds_nothing, adds_both, adds_err, adds_field, not_entered, not_entered_cause}
 
@@ -84,7 +84,7 @@ entered_passed is o s = rw is (record {
   only_if_full = λ y. only_if_full_first (s.only_if_full (o.follows y));
 })
 
--- If p is entered with Ok and q after it, p followed by q is entered, and is exact only if each of them is.
+-- If p is entered with Ok and q after it, p followed by q is entered, and is strict only if each of them is.
 pub entered_both : {d e x : Bool} {p q : Showing} {a b c : Visitor} {u : Unit} {r : Result Unit Refusal} → OnlyIf x d →
     OnlyIf x e → Entered d p a b (Ok u) → Entered e q b c r → Entered x (Both p q) a c r
 entered_both o w f s = record {

@@ -1,5 +1,5 @@
 -- What a closure that visits does to its visitor.
-use Rattle.std.specs.Prelude.{◌≡◌, ℕ, Bool, false, Result, Ok, Err, IfErr, Some}
+use Rattle.std.specs.Prelude.{◌≡◌, ℕ, false, Result, Ok, Err, IfErr, Some}
 use Rattle.std.specs.Borrow.{MutBor}
 use Rattle.std.specs.Fn.{Once, FnOnceReturnsAtMut}
 use Rattle.allocative_graph.specs.declared.refusal.Refusal.{Refusal}

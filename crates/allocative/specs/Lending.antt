@@ -1,12 +1,12 @@
 -- How a collector ends after a visitor borrowed it.
-use Rattle.std.specs.Prelude.{◌≡◌, ℕ, Option, Result, Ok, Err, IfErr, Bool, true, false}
+use Rattle.std.specs.Prelude.{◌≡◌, ℕ, Option, Result, Ok, Err, IfErr, Bool, true}
 use Rattle.std.specs.Borrow.{Fml, MutBor, RestsIfErr}
 use Rattle.allocative_graph.specs.declared.refusal.Refusal.{Refusal}
 use Rattle.allocative_graph.specs.Path.{Key}
 use Rattle.allocative_graph.specs.Collector.{State, no_outer}
 use Rattle.allocative_graph.specs.Identity.{Identity}
 use Rattle.allocative_graph.specs.Visits.{OpensEntry, OpensShared, OpensRoot}
-use Rattle.allocative.specs.Shared.{told}
+use Rattle.allocative.specs.Shared.{answer_without_visitor}
 use Rattle.allocative.specs.Built.{as_graph}
 use Rattle.allocative.specs.declared.visitor.Visitor.{Visitor}
 use Rattle.allocative.specs.contracts.visitor.collector.Collector as collector
@@ -20,7 +20,7 @@ LendsEntered is_unique k size s r = RestsIfErr collector.the_row s (λ v. v.coll
 -- entering says.
 abbrev pub LendsPointed : Key → ℕ → Identity → MutBor State → Result Visitor (Option Refusal) → Fml
 LendsPointed k n i s r = RestsIfErr collector.the_row s (λ v. v.collector.ghost_name) r
-    (λ t. IfErr r (λ o. OpensShared k n i s.now (told o) t))
+    (λ t. IfErr r (λ o. OpensShared k n i s.now (answer_without_visitor o) t))
 
 -- The collector ends as the root visitor leaves it or, if no visitor is returned, as beginning says.
 abbrev pub LendsBegun : MutBor State → Result Visitor Refusal → Fml

@@ -45,6 +45,10 @@ pub record recursive {T : Type 0} (w : T → Level T) (x : T) (f : Forest) : Typ
   pub depth : ℕ
   pub shown : levels_shown w depth x f
 
+-- The level of a value that `out` opens, where v gives that of what it opens to: an enum by its variant.
+unfoldable pub opened : {T O : Type 0} → (T → O) → (O → Level T) → T → Level T
+opened out v x = v (out x)
+
 -- What a `Vec` shows of its items, which need a drop and have the declared size s, not 0, where w gives the level of
 -- an item.
 abbrev pub vec_in : {T A : Type 0} → Option ℕ → (A → Level T) → Vec A → Level T

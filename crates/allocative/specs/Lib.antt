@@ -1,4 +1,4 @@
-pub mod Exact
+pub mod Strict
 pub mod Visited
 pub mod Parts
 pub mod Levels
@@ -34,9 +34,9 @@ pub use Rattle.allocative_graph.specs.Collector
 pub use Rattle.allocative_graph.specs.Shows
 pub use Rattle.allocative_graph.specs.Visits
 pub use Rattle.allocative_graph.specs.Report
-pub use Rattle.allocative_graph.specs.Reads
+pub use Rattle.allocative_graph.specs.Rows
 pub use Rattle.allocative_graph.specs.Many
 pub use Rattle.allocative_graph.specs.Laws
 pub use Rattle.allocative_graph.specs.WorkedExamples
 pub use Rattle.allocative_graph.specs.declared.refusal.Refusal
-pub use Rattle.allocative_graph.specs.declared.flamegraph.reads.Row
+pub use Rattle.allocative_graph.specs.declared.flamegraph.rows.Row

@@ -8,7 +8,7 @@ use Rattle.allocative_graph.specs.Path.{Key}
 use Rattle.allocative_graph.specs.Identity.{Identity}
 use Rattle.allocative_graph.specs.Collector.{State, Outer, no_outer}
 use Rattle.allocative_graph.specs.Visits.{OpensEntry, OpensShared, RefusesEntry}
-use Rattle.allocative.specs.Shared.{AnswersShared, answered}
+use Rattle.allocative.specs.Shared.{AnswersShared, answer_of}
 use Rattle.allocative.specs.declared.visitor.Visitor.{Visitor}
 use Rattle.allocative.specs.contracts.visitor.Visitor as visitor
 use Rattle.allocative.specs.contracts.visitor.collector.Collector as collector
@@ -47,7 +47,7 @@ pub record EntersShared (k : Key) (n : ℕ) (i : Identity) (s : Visitor) (r : Re
     -- The visitor is at the value's content.
     pub entered : IfOk r (λ o. IfSome o (λ v. OpensShared k n i s.collector.now (Ok true) v.collector.now))
     -- Which of the three comes.
-    pub answer : AnswersShared k n i s.collector.now (answered r)
+    pub answer : AnswersShared k n i s.collector.now (answer_of r)
 
 -- An entry of a declared size at s is refused with e.
 abbrev pub IsRefused : Bool → Option ℕ → Visitor → Refusal → Type 0
@@ -67,7 +67,7 @@ EndsWith s r w v = IfOk r (λ o. IfSome o (λ x. v ≡ with_state s w))
 abbrev pub EndsWithout : Key → ℕ → Identity → Visitor → Result (Option Visitor) Refusal → Visitor → Type 0
 EndsWithout k n i s (Ok (Some x)) v = ⊤
 EndsWithout k n i s r v =
-    OpensShared k n i s.collector.now (answered r) v.collector.now × (v ≡ with_state s v.collector.now)
+    OpensShared k n i s.collector.now (answer_of r) v.collector.now × (v ≡ with_state s v.collector.now)
 
 -- The visitor ends with what the visitor at a shared value's content leaves of the collector or, if none is returned,
 -- with what entering says. Nothing else of it changes.

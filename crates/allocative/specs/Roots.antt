@@ -10,7 +10,7 @@ use Rattle.allocative.specs.declared.run.registry.Registry.{Registry}
 abbrev pub roots_of : {X : Type 0} {P : X → Type 0} → Registry X P → List (DynBox X Global P)
 roots_of r = r.roots.items
 
--- Whether the types of all its roots are exact. `members` gives what the type of a root states.
-abbrev pub are_exact : {X : Type 0} {P : X → Type 0} → ((b : DynBox X Global P) → Ghosts (P b.vtable)) → Registry X P
+-- Whether the types of all its roots are strict. `members` gives what the type of a root states.
+abbrev pub are_strict : {X : Type 0} {P : X → Type 0} → ((b : DynBox X Global P) → Ghosts (P b.vtable)) → Registry X P
     → Bool
-are_exact members r = list_all (λ b. (members b).is_exact) (roots_of r)
+are_strict members r = list_all (λ b. (members b).is_strict) (roots_of r)

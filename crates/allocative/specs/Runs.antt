@@ -6,7 +6,7 @@ use Rattle.allocative_graph.specs.declared.refusal.Refusal.{Refusal}
 use Rattle.allocative_graph.specs.Path.{Key}
 use Rattle.allocative_graph.specs.Forest.{Forest}
 use Rattle.allocative_graph.specs.Shows.{Showing, Both, Field}
-use Rattle.allocative.specs.Exact.{FailsOnlyIfFull}
+use Rattle.allocative.specs.Strict.{FailsOnlyIfFull}
 use Rattle.allocative.specs.declared.visitor.Visitor.{Visitor}
 
 -- A forest that q allows for the items of some whole run of an iterator that starts at s; v is what a contract sees
@@ -17,11 +17,11 @@ pub record IsOfRun {S A B : Type 0} (steps : S → Option A → S → Type 0) (s
   pub drained : Drains steps s given
   pub shown : q (map v given) f
 
--- If every run of an iterator that starts at s gives items that v takes to the same list, an exact visit of the
+-- If every run of an iterator that starts at s gives items that v takes to the same list, a strict visit of the
 -- forests that q allows for that list refuses only if it must.
-pub record RefusesAlong {S A B : Type 0} (is_exact : Bool) (steps : S → Option A → S → Type 0) (s : S) (v : A → B)
+pub record RefusesAlong {S A B : Type 0} (is_strict : Bool) (steps : S → Option A → S → Type 0) (s : S) (v : A → B)
     (q : List B → Showing) (old new : Visitor) (r : Result (Unit {0}) Refusal) : Type 0 where
-  pub along : IsTrue is_exact → (ys : List B) → AlwaysYields steps v s ys
+  pub along : IsTrue is_strict → (ys : List B) → AlwaysYields steps v s ys
       → FailsOnlyIfFull (q ys) old.collector.now r new.collector.now
 
 -- So many items of a declared size can be counted: if items have size 0, their number fits a word.
@@ -29,9 +29,9 @@ abbrev pub CanCount : Option ℕ → ℕ → Type 0
 CanCount size n = size ≡ Some 0 → n < 2 ^ 64
 
 -- As `RefusesAlong`, for items of a declared size that are counted, if they can be.
-pub record RefusesCounted {S A B : Type 0} (is_exact : Bool) (size : Option ℕ) (steps : S → Option A → S → Type 0)
+pub record RefusesCounted {S A B : Type 0} (is_strict : Bool) (size : Option ℕ) (steps : S → Option A → S → Type 0)
     (s : S) (v : A → B) (q : List B → Showing) (old new : Visitor) (r : Result (Unit {0}) Refusal) : Type 0 where
-  pub along : IsTrue is_exact → (ys : List B) → AlwaysYields steps v s ys → CanCount size (length ys)
+  pub along : IsTrue is_strict → (ys : List B) → AlwaysYields steps v s ys → CanCount size (length ys)
       → FailsOnlyIfFull (q ys) old.collector.now r new.collector.now
 
 -- A field with its name and declared size, with what p says of the value inside it.

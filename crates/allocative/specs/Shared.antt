@@ -6,7 +6,7 @@ use Rattle.allocative_graph.specs.declared.refusal.Refusal.{Refusal}
 use Rattle.allocative_graph.specs.declared.refusal.Refusal.TheVariants.{TooLarge}
 use Rattle.allocative_graph.specs.Path.{Key}
 use Rattle.allocative_graph.specs.Identity.{Identity}
-use Rattle.allocative_graph.specs.Sums.{entered}
+use Rattle.allocative_graph.specs.Sums.{bytes_entered}
 use Rattle.allocative_graph.specs.Collector.{OfGraph, OfHeld, OfOwned, State, Failed, Going}
 use Rattle.allocative_graph.specs.Visits.{Refuses}
 use Rattle.allocative.specs.declared.visitor.Visitor.{Visitor}
@@ -18,25 +18,25 @@ use Rattle.allocative.specs.declared.visitor.Visitor.{Visitor}
 abbrev pub AnswersShared : Key → ℕ → Identity → State → Result Bool Refusal → Type 0
 AnswersShared k n i (Failed r) result = result ≡ Err r
 AnswersShared k n i (Going (OfHeld h)) result = result ≡ Ok false
-AnswersShared k n i (Going (OfGraph c)) (Ok is_first) = (entered c.sums + n < 2 ^ 63)
+AnswersShared k n i (Going (OfGraph c)) (Ok is_first) = (bytes_entered c.sums + n < 2 ^ 63)
     × (contains c.met i ≡ not is_first)
 AnswersShared k n i (Going (OfGraph c)) (Err e) = Refuses false n (OfGraph c) e
 AnswersShared k n i (Going (OfOwned o)) (Ok is_first) = (o.sum + (n - o.spare) < 2 ^ 64) × (is_first ≡ false)
 AnswersShared k n i (Going (OfOwned o)) (Err e) = (e ≡ TooLarge) × (2 ^ 64 ≤ o.sum + (n - o.spare))
 
 -- The result if no visitor is returned: nothing is shown, or an error.
-abbrev pub told : Option Refusal → Result Bool Refusal
-told None = Ok false
-told (Some e) = Err e
+abbrev pub answer_without_visitor : Option Refusal → Result Bool Refusal
+answer_without_visitor None = Ok false
+answer_without_visitor (Some e) = Err e
 
 -- The result in the form of `enter_shared`: a visitor, none, or an error.
-abbrev pub turned : Result Visitor (Option Refusal) → Result (Option Visitor) Refusal
-turned (Ok v) = Ok (Some v)
-turned (Err None) = Ok None
-turned (Err (Some e)) = Err e
+abbrev pub transpose : Result Visitor (Option Refusal) → Result (Option Visitor) Refusal
+transpose (Ok v) = Ok (Some v)
+transpose (Err None) = Ok None
+transpose (Err (Some e)) = Err e
 
 -- The result without what it carries: whether the content is shown, or an error.
-abbrev pub answered : {T : Type 0} → Result (Option T) Refusal → Result Bool Refusal
-answered (Ok (Some x)) = Ok true
-answered (Ok None) = Ok false
-answered (Err e) = Err e
+abbrev pub answer_of : {T : Type 0} → Result (Option T) Refusal → Result Bool Refusal
+answer_of (Ok (Some x)) = Ok true
+answer_of (Ok None) = Ok false
+answer_of (Err e) = Err e

@@ -9,7 +9,7 @@ use Rattle.allocative_graph.specs.Collector.{Kind, State, Going, OfHeld, OfOwned
 use Rattle.allocative_graph.specs.Collector.{nothing_held, nothing_owned}
 use Rattle.allocative_graph.specs.Shows.{Showing}
 use Rattle.allocative_graph.specs.Visits.{Settles}
-use Rattle.allocative.specs.Exact.{CanTake}
+use Rattle.allocative.specs.Strict.{CanTake}
 use Rattle.allocative.specs.Closures.{AnswersSum}
 use Rattle.allocative.specs.Visited.{Effect, WasVisited}
 
@@ -26,19 +26,19 @@ IsSizeOfUnique size p bytes = (own : ℕ) × (size ≡ Some own) × (f : Forest)
 abbrev pub CanBeHeld : Showing → Type 0
 CanBeHeld p = CanTake (begin (OfHeld nothing_held)) p
 
--- Why the bytes that an exact value holds are refused: only with TooLarge, if what it shows cannot be counted.
+-- Why the bytes that a strict value holds are refused: only with TooLarge, if what it shows cannot be counted.
 abbrev pub MayRefuseHeld : Bool → Showing → Refusal → Type 0
-MayRefuseHeld is_exact p e = IsTrue is_exact → (e ≡ TooLarge) × ¬ CanBeHeld p
+MayRefuseHeld is_strict p e = IsTrue is_strict → (e ≡ TooLarge) × ¬ CanBeHeld p
 
 -- What p allows can be counted, there is a declared size, and what each forest that p allows holds fits a word
 -- together with that size.
 abbrev pub CanBeSized : Option ℕ → Showing → Type 0
 CanBeSized size p = CanBeHeld p × (own : ℕ) × (size ≡ Some own) × ((f : Forest) → p f → held f + own < 2 ^ 64)
 
--- Why the size of an exact value is refused: only with TooLarge, if it cannot be counted together with the declared
+-- Why the size of a strict value is refused: only with TooLarge, if it cannot be counted together with the declared
 -- size.
 abbrev pub MayRefuseSize : Bool → Option ℕ → Showing → Refusal → Type 0
-MayRefuseSize is_exact size p e = IsTrue is_exact → (e ≡ TooLarge) × ¬ CanBeSized size p
+MayRefuseSize is_strict size p e = IsTrue is_strict → (e ≡ TooLarge) × ¬ CanBeSized size p
 
 -- What is answered of a collector of held bytes and a declared size: the bytes of both; the first cause, or Open if a
 -- visitor is out; or TooLarge, if there is no declared size or it does not fit a word together with the sum.
@@ -63,10 +63,10 @@ AnswersVisit = AnswersVisitOf (OfHeld nothing_held)
 abbrev pub IsSizeOfOwned : Showing → ℕ → Type 0
 IsSizeOfOwned p bytes = (f : Forest) × p f × ShowsNoContent f × (bytes ≡ owned f)
 
--- Why the bytes that an exact value owns are refused: only with TooLarge, if an empty collector of owned bytes with a
+-- Why the bytes that a strict value owns are refused: only with TooLarge, if an empty collector of owned bytes with a
 -- root visitor open cannot take all that p allows.
 abbrev pub MayRefuseOwned : Bool → Showing → Refusal → Type 0
-MayRefuseOwned is_exact p e = IsTrue is_exact → (e ≡ TooLarge) × ¬ CanTake (begin (OfOwned nothing_owned)) p
+MayRefuseOwned is_strict p e = IsTrue is_strict → (e ≡ TooLarge) × ¬ CanTake (begin (OfOwned nothing_owned)) p
 
 -- The result is what is answered of a collector of owned bytes after the visit: their sum, the first cause, or Open.
 abbrev pub AnswersOwned : Showing → Effect → Result ℕ Refusal → Type 0

@@ -6,7 +6,7 @@ use Rattle.allocative_graph.specs.Shows.{Showing}
 use Rattle.allocative_graph.specs.Collector.{State, Outer, failed_with}
 use Rattle.allocative_graph.specs.Visits.{AddsForest, HasFailed, OpensRoot, Settles, ClosesEntry}
 use Rattle.allocative.specs.declared.visitor.Visitor.{Visitor}
-use Rattle.allocative.specs.Exact.{IsDeclared, FailsOnlyIfFull}
+use Rattle.allocative.specs.Strict.{IsDeclared, FailsOnlyIfFull}
 
 -- What a visit does to its collector: a relation of the collector before, the answer and the collector after.
 abbrev pub Effect : Type 1
@@ -16,24 +16,24 @@ Effect = State → Result (Unit {0}) Refusal → State → Type 0
 abbrev pub AnyEffect : Effect
 AnyEffect s r t = ⊤
 
--- The visitor stays where it was, and its collector was shown what p allows, by a visit of this effect. An exact
+-- The visitor stays where it was, and its collector was shown what p allows, by a visit of this effect. A strict
 -- visit refuses only if it must.
-pub record Visited (is_exact : Bool) (p : Showing) (effect : Effect) (old new : Visitor) (r : Result (Unit {0}) Refusal)
+pub record Visited (is_strict : Bool) (p : Showing) (effect : Effect) (old new : Visitor) (r : Result (Unit {0}) Refusal)
     : Type 0 where
   pub same_reference : new.collector.ghost_name ≡ old.collector.ghost_name
   pub same_outer : new.outer ≡ old.outer
   pub shown : AddsForest p old.collector.now r new.collector.now
-  pub only_if_full : IsTrue is_exact → FailsOnlyIfFull p old.collector.now r new.collector.now
+  pub only_if_full : IsTrue is_strict → FailsOnlyIfFull p old.collector.now r new.collector.now
   pub takes_effect : effect old.collector.now r new.collector.now
 
 -- The visitor stays where it was, its collector was shown what p allows, and an Err is the collector's first cause.
--- What is exact refuses only if it must.
-pub record Entered (is_exact : Bool) (p : Showing) (old new : Visitor) (r : Result (Unit {0}) Refusal) : Type 0 where
+-- What is strict refuses only if it must.
+pub record Entered (is_strict : Bool) (p : Showing) (old new : Visitor) (r : Result (Unit {0}) Refusal) : Type 0 where
   pub same_reference : new.collector.ghost_name ≡ old.collector.ghost_name
   pub same_outer : new.outer ≡ old.outer
   pub shown : AddsForest p old.collector.now r new.collector.now
   pub cause : IfErr r (HasFailed new.collector.now)
-  pub only_if_full : IsTrue is_exact → FailsOnlyIfFull p old.collector.now r new.collector.now
+  pub only_if_full : IsTrue is_strict → FailsOnlyIfFull p old.collector.now r new.collector.now
 
 -- The visitor stays where it was; its collector has failed with r unless it had failed before, and the first cause is
 -- returned.
@@ -61,14 +61,14 @@ pub record WasVisited (p : Showing) (effect : Effect) (s t : State) : Type 0 whe
 abbrev pub OpensRootAt : State → Visitor → Type 0
 OpensRootAt s v = OpensRoot s (Ok v.outer) v.collector.now
 
--- Every forest that p allows, q allows. For an exact visit, p is also declared if q is.
-pub record Means (is_exact : Bool) (p q : Showing) : Type 0 where
+-- Every forest that p allows, q allows. For a strict visit, p is also declared if q is.
+pub record Means (is_strict : Bool) (p q : Showing) : Type 0 where
   pub means : (f : Forest) → p f → q f
-  pub declared : IsTrue is_exact → IsDeclared q → IsDeclared p
+  pub declared : IsTrue is_strict → IsDeclared q → IsDeclared p
 
--- The first visit is exact only if the second is.
-pub record OnlyIf (is_exact is_exact' : Bool) : Type 0 where
-  pub follows : IsTrue is_exact → IsTrue is_exact'
+-- The first visit is strict only if the second is.
+pub record OnlyIf (is_strict is_strict' : Bool) : Type 0 where
+  pub follows : IsTrue is_strict → IsTrue is_strict'
 
 -- A visit of this effect by a root visitor, which shows p: no root visitor could be opened; or it was opened, the
 -- visit was made there, the visitor was left, and the answer is what the collector settles.

@@ -41,9 +41,9 @@ pub trait Allocative: Drop {
     ghost may_show: { Self → Forest → Type 0 };
 
     /// Whether each visit refuses only if it must: with `TooLarge` only if the collector cannot take all that
-    /// the value may show, with `Memory` only in a flame graph, and never with `Open`. A type whose parts are exact
+    /// the value may show, with `Memory` only in a flame graph, and never with `Open`. A type whose parts are strict
     /// states `true`. One with a parameter states the flags of its parts, joined in their order.
-    ghost is_exact: { Bool } = { false };
+    ghost is_strict: { Bool } = { false };
 
     /// What more each visit does than `visit` says, as a relation of the collector before, the answer and the collector
     /// after. A type states one only to promise more. Calls that answer what a visit left name it.
@@ -55,6 +55,6 @@ pub trait Allocative: Drop {
     /// visitors than before (one was forgotten), or has one more forest, which the value may show. A collector
     /// that had failed stays as it was. The visitor stays where it was.
     fn visit(&self, visitor: &mut Visitor<'_>) -> Result<(), Refusal>
-        ensures { Visited is_exact (may_show self.now) (effect self.now)
+        ensures { Visited is_strict (may_show self.now) (effect self.now)
             visitor.old visitor.new result };
 }

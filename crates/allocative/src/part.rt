@@ -49,9 +49,9 @@ impl IntoKey for &'static str {
 pub trait Part: Drop {
     ghost may_show: { Self → Forest → Type 0 };
 
-    /// Whether entering refuses only if it must, as `Allocative` says of visits. The parts of this crate are exact
+    /// Whether entering refuses only if it must, as `Allocative` says of visits. The parts of this crate are strict
     /// if the parts and values in them are.
-    ghost is_exact: { Bool } = { false };
+    ghost is_strict: { Bool } = { false };
 
     /// Enters the part at the visitor.
     ///
@@ -61,13 +61,13 @@ pub trait Part: Drop {
     /// and the collector has more open visitors than before. A collector that had failed stays as it was. The
     /// visitor stays where it was.
     fn enter(self, visitor: &mut Visitor<'_>) -> Result<(), Refusal>
-        ensures { Entered is_exact (may_show self) visitor.old visitor.new result };
+        ensures { Entered is_strict (may_show self) visitor.old visitor.new result };
 }
 
 impl Part for () {
     ghost may_show = { λ _. shows.Nothing };
 
-    ghost is_exact = { true };
+    ghost is_strict = { true };
 
     fn enter(self, _visitor: &mut Visitor<'_>) -> Result<(), Refusal> {
         Ok(())
@@ -77,7 +77,7 @@ impl Part for () {
 impl<'a, T: Allocative> Part for &'a T {
     ghost may_show = { λ v. T.may_show v.now };
 
-    ghost is_exact = { T.is_exact };
+    ghost is_strict = { T.is_strict };
 
     fn enter(self, visitor: &mut Visitor<'_>) -> Result<(), Refusal> {
         visitor.visit_value(self)
@@ -96,7 +96,7 @@ pub struct Inside<K, P>(pub K, pub usize, pub P);
 impl<K: IntoKey, P: Part> Part for Inside<K, P> {
     ghost may_show = { λ e. shows.Inside (K.key e.0) e.1 (P.may_show e.2) };
 
-    ghost is_exact = { P.is_exact };
+    ghost is_strict = { P.is_strict };
 
     #[inline(always)]
     fn enter(self, visitor: &mut Visitor<'_>) -> Result<(), Refusal> {
@@ -117,7 +117,7 @@ pub struct Declared<K, P>(pub K, pub Option<usize>, pub P);
 impl<K: IntoKey, P: Part> Part for Declared<K, P> {
     ghost may_show = { λ e. shows.Field (K.key e.0) e.1 (P.may_show e.2) };
 
-    ghost is_exact = { P.is_exact };
+    ghost is_strict = { P.is_strict };
 
     #[inline(always)]
     fn enter(self, visitor: &mut Visitor<'_>) -> Result<(), Refusal> {
@@ -139,7 +139,7 @@ pub struct Whole<'a, T, P>(pub &'a T, pub P);
 impl<'a, T: Described, P: Part> Part for Whole<'a, T, P> {
     ghost may_show = { λ e. shows.Field T.name T.size (P.may_show e.1) };
 
-    ghost is_exact = { P.is_exact };
+    ghost is_strict = { P.is_strict };
 
     #[inline(always)]
     fn enter(self, visitor: &mut Visitor<'_>) -> Result<(), Refusal> {
@@ -159,7 +159,7 @@ pub struct Unique<K, P>(pub K, pub usize, pub P);
 impl<K: IntoKey, P: Part> Part for Unique<K, P> {
     ghost may_show = { λ e. shows.Unique (K.key e.0) e.1 (P.may_show e.2) };
 
-    ghost is_exact = { P.is_exact };
+    ghost is_strict = { P.is_strict };
 
     #[inline(always)]
     fn enter(self, visitor: &mut Visitor<'_>) -> Result<(), Refusal> {
@@ -186,7 +186,7 @@ pub struct Field<K, V>(pub K, pub V);
 impl<'a, K: IntoKey, T: Allocative + Described> Part for Field<K, &'a T> {
     ghost may_show = { λ f. shows.Field (K.key f.0) T.size (T.may_show f.1.now) };
 
-    ghost is_exact = { T.is_exact };
+    ghost is_strict = { T.is_strict };
 
     #[inline(always)]
     fn enter(self, visitor: &mut Visitor<'_>) -> Result<(), Refusal> {
@@ -222,7 +222,7 @@ pub struct Shared<P> {
 impl<P: Part> Part for Shared<P> {
     ghost may_show = { λ s. shows.Shared s.key s.size s.identity (P.may_show s.content) };
 
-    ghost is_exact = { P.is_exact };
+    ghost is_strict = { P.is_strict };
 
     fn enter(self, visitor: &mut Visitor<'_>) -> Result<(), Refusal> {
         let is_first = visitor
@@ -240,7 +240,7 @@ impl<P: Part> Part for Shared<P> {
 impl<P: Part> Part for Option<P> {
     ghost may_show = { λ o. optional_shows P.may_show o };
 
-    ghost is_exact = { P.is_exact };
+    ghost is_strict = { P.is_strict };
 
     fn enter(self, visitor: &mut Visitor<'_>) -> Result<(), Refusal> {
         match self {
@@ -253,7 +253,7 @@ impl<P: Part> Part for Option<P> {
 impl<P: Part, Q: Part> Part for Either<P, Q> {
     ghost may_show = { λ c. either_shows P.may_show Q.may_show c };
 
-    ghost is_exact = { P.is_exact && Q.is_exact };
+    ghost is_strict = { P.is_strict && Q.is_strict };
 
     fn enter(self, visitor: &mut Visitor<'_>) -> Result<(), Refusal> {
         match self {
@@ -266,7 +266,7 @@ impl<P: Part, Q: Part> Part for Either<P, Q> {
 impl<P: Part> Part for (P,) {
     ghost may_show = { λ e. P.may_show e.0 };
 
-    ghost is_exact = { P.is_exact };
+    ghost is_strict = { P.is_strict };
 
     #[inline(always)]
     fn enter(self, visitor: &mut Visitor<'_>) -> Result<(), Refusal> {
@@ -277,7 +277,7 @@ impl<P: Part> Part for (P,) {
 impl<P: Part, Q: Part> Part for (P, Q) {
     ghost may_show = { λ e. shows.Both (P.may_show e.0) (Q.may_show e.1) };
 
-    ghost is_exact = { P.is_exact && Q.is_exact };
+    ghost is_strict = { P.is_strict && Q.is_strict };
 
     #[inline(always)]
     fn enter(self, visitor: &mut Visitor<'_>) -> Result<(), Refusal> {
@@ -290,7 +290,7 @@ impl<P: Part, Q: Part> Part for (P, Q) {
 impl<P: Part, Q: Part, R: Part> Part for (P, Q, R) {
     ghost may_show = { λ e. shows.Both (P.may_show e.0) (shows.Both (Q.may_show e.1) (R.may_show e.2)) };
 
-    ghost is_exact = { P.is_exact && (Q.is_exact && R.is_exact) };
+    ghost is_strict = { P.is_strict && (Q.is_strict && R.is_strict) };
 
     #[inline(always)]
     fn enter(self, visitor: &mut Visitor<'_>) -> Result<(), Refusal> {
@@ -303,7 +303,7 @@ impl<P: Part, Q: Part, R: Part, S: Part> Part for (P, Q, R, S) {
     ghost may_show = { λ e. shows.Both (P.may_show e.0)
         (shows.Both (Q.may_show e.1) (shows.Both (R.may_show e.2) (S.may_show e.3))) };
 
-    ghost is_exact = { P.is_exact && (Q.is_exact && (R.is_exact && S.is_exact)) };
+    ghost is_strict = { P.is_strict && (Q.is_strict && (R.is_strict && S.is_strict)) };
 
     #[inline(always)]
     fn enter(self, visitor: &mut Visitor<'_>) -> Result<(), Refusal> {
@@ -316,7 +316,7 @@ impl<P: Part, Q: Part, R: Part, S: Part, T: Part> Part for (P, Q, R, S, T) {
     ghost may_show = { λ e. shows.Both (P.may_show e.0)
         (shows.Both (Q.may_show e.1) (shows.Both (R.may_show e.2) (shows.Both (S.may_show e.3) (T.may_show e.4)))) };
 
-    ghost is_exact = { P.is_exact && (Q.is_exact && (R.is_exact && (S.is_exact && T.is_exact))) };
+    ghost is_strict = { P.is_strict && (Q.is_strict && (R.is_strict && (S.is_strict && T.is_strict))) };
 
     #[inline(always)]
     fn enter(self, visitor: &mut Visitor<'_>) -> Result<(), Refusal> {

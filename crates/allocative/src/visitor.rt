@@ -6,7 +6,7 @@ ghost use Rattle.allocative_graph.specs.Shows.{Inside, Nothing};
 ghost use Rattle.allocative.specs.Making.{MakesPlan, one};
 ghost use Rattle.allocative.specs.Visited.{Entered, WasVisited, Refused, Exits};
 ghost use Rattle.allocative.specs.Nested.{LendsNested, LendsShared, Nests, EntersShared, IsRefused};
-ghost use Rattle.allocative.specs.Shared.{turned};
+ghost use Rattle.allocative.specs.Shared.{transpose};
 ghost use Rattle.std.specs.Borrow.{sem};
 
 pub mod by_hand;
@@ -40,7 +40,7 @@ impl Drop for Visitor<'_> {
 fn turned_round<'a>(
     answer: Result<Visitor<'a>, Option<Refusal>>,
 ) -> Result<Option<Visitor<'a>>, Refusal>
-    ensures { result ≡ turned answer.entry }
+    ensures { result ≡ transpose answer.entry }
 {
     match answer {
         Ok(visitor) => Ok(Some(visitor)),
@@ -159,15 +159,15 @@ impl Visitor<'_> {
     #[inline(always)]
     pub fn visit_simple(&mut self, key: Key, size: usize) -> Result<(), Refusal>
         ensures entered { Entered true (Inside key size Nothing) self.old self.new result }
-        ensures exact { MakesPlan (one key (Some size)) self.old self.new result }
+        ensures plan { MakesPlan (one key (Some size)) self.old self.new result }
     {
         self.collector.enter_simple(key, Some(size))
     }
 
-    /// What an object shows. This is the only call through the `dyn`, whose clauses callers cite. It is exact if the
+    /// What an object shows. This is the only call through the `dyn`, whose clauses callers cite. It is strict if the
     /// type of the object is.
     pub(crate) fn visit_object(&mut self, object: &dyn Allocative) -> Result<(), Refusal>
-        ensures entered { Entered (Allocative-dyn object.now).is_exact
+        ensures entered { Entered (Allocative-dyn object.now).is_strict
             (may_show object.now) self.old self.new result }
         ensures visited { WasVisited (may_show object.now) (effect object.now)
             self.old.collector.now self.new.collector.now }
@@ -178,9 +178,9 @@ impl Visitor<'_> {
         Ok(())
     }
 
-    /// What a value of a known type shows. It is exact if the type is.
+    /// What a value of a known type shows. It is strict if the type is.
     pub(crate) fn visit_value<T: Allocative>(&mut self, value: &T) -> Result<(), Refusal>
-        ensures entered { Entered T.is_exact (T.may_show value.now) self.old self.new result }
+        ensures entered { Entered T.is_strict (T.may_show value.now) self.old self.new result }
         ensures visited { WasVisited (T.may_show value.now) (T.effect value.now)
             self.old.collector.now self.new.collector.now }
     {

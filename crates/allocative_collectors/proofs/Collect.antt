@@ -15,7 +15,7 @@ use Rattle.allocative_graph.specs.Collector.{last_of, without_last}
 use Rattle.allocative_graph.proofs.Basics.{identity_total, identity_antisymmetric, same_identity_turned}
 use Rattle.allocative_collectors.specs.Places.{to_root, outside, back_from, back_at, AddedAt}
 use Rattle.allocative_collectors.proofs.Entries.{total_entered, length_entered, path_entered, map_of-entered, mark_of}
-use Rattle.allocative_graph.proofs.Below.{entered-add}
+use Rattle.allocative_graph.proofs.Below.{bytes_entered-add}
 use Rattle.allocative_collectors.proofs.Keys.{map_same}
 
 -- ---- the identities
@@ -149,13 +149,13 @@ module _ {t new : Listed} {current : ℕ} {places : List ℕ} {n : ℕ} (ok : Is
     here = within;
     back = λ j h. let old = ok.back j h in omega (arith, length_entered entered.is);
     entered_is =
-        omega (arith, ok.entered_is, entered.count, ap bag.entered (map_of-entered entered.is ok.rooted), entered-add (map_of t) one);
+        omega (arith, ok.entered_is, entered.count, ap bag.bytes_entered (map_of-entered entered.is ok.rooted), bytes_entered-add (map_of t) one);
     total_is = omega (arith, ok.total_is, entered.count, total_entered entered.is);
     rooted = omega (arith, length_entered entered.is, ok.rooted);
     root_path = path_entered entered.is 0 ok.rooted ∙ ok.root_path;
   }
 
-  pub fits_map : bag.entered (map_of t) + size < 2 ^ 63
+  pub fits_map : bag.bytes_entered (map_of t) + size < 2 ^ 63
   fits_map = omega (arith, ok.entered_is, entered.fits)
 
   module _ (met : List Identity) (rooted : Bool) where

@@ -8,7 +8,7 @@ pub use Rattle.allocative_graph.specs.Collector.{Live, enter_live, go, leave_liv
 pub use Rattle.allocative_graph.specs.Format.{newline}
 pub use Rattle.allocative_graph.specs.Graph.{Graph, add_self, default, graph, is_root, sum_of, under, warning_text}
 pub use Rattle.allocative_graph.specs.Path.{Key, Path, is_one_below, is_same_path, key_cmp, path_cmp}
-pub use Rattle.allocative_graph.specs.Sums.{Sums, below, entered}
+pub use Rattle.allocative_graph.specs.Sums.{Sums, below, bytes_entered}
 pub use Rattle.allocative_graph.specs.declared.refusal.Refusal.{Refusal}
 pub use Rattle.allocative_graph.specs.declared.refusal.Refusal.TheVariants.{Memory, Open, TooLarge}
 pub use Rattle.allocative_collectors.specs.Finishing.{size_at_place}

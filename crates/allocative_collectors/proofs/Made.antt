@@ -7,7 +7,7 @@ use Rattle.std.proofs.Common.{zero-add}
 use Rattle.allocative_collectors.proofs.Common.{Ordering, Less, is_eq, is_lt, ordering_then, Key, Path, key_cmp}
 use Rattle.allocative_collectors.proofs.Common.{path_cmp, key_in, KeysRise, is_same_path, is_one_below, Sums, Graph}
 use Rattle.allocative_collectors.proofs.Common.{graph, sum_of, under, default, add_self, get, entries, shape, sums_of}
-use Rattle.allocative_collectors.proofs.Common.{IsTree, Listed, row, sum_at, path_at, map_of, below, entered, sums}
+use Rattle.allocative_collectors.proofs.Common.{IsTree, Listed, row, sum_at, path_at, map_of, below, bytes_entered, sums}
 use Rattle.allocative_collectors.proofs.Common.{children_at, keys_at, IsArena, Shape, size_at_place, ordering_reverse}
 use Rattle.std.specs.FinMap.{FinMap, entries_sorted, find, get-entries, get-insert}
 use Rattle.std.specs.FinMap.Entries.{is_sorted, below_all, is_sorted-where_key, find-where_key, same_entries}
@@ -231,7 +231,7 @@ one_of false true x y h = none_with y ∙ (h refl).1
 one_of false false x y h = refl
 
 -- the sizes that were found are within the bytes of all entries
-rows_fit : (s : Listed) (p : Path) (t : Path → Bool) → sum_by (size_in s) (rows_behind s p t) ≤ entered (map_of s)
+rows_fit : (s : Listed) (p : Path) (t : Path → Bool) → sum_by (size_in s) (rows_behind s p t) ≤ bytes_entered (map_of s)
 rows_fit s p t =
     let both = sum_by-filter_both (λ (e : Path × Node). behind p t e.0) _ (λ e. refl) (size_in s) (entries (map_of s))
     in
@@ -240,14 +240,14 @@ rows_fit s p t =
     omega arith
 
 -- the bytes one key below a path are within those of all entries
-pub below_fits : (m : Sums) (p : Path) → below m p ≤ entered m
+pub below_fits : (m : Sums) (p : Path) → below m p ≤ bytes_entered m
 below_fits m p = sum_by-le-sum_by (λ e. cond (is_one_below p e.0) e.1.bytes 0) (λ (e : Path × Node). e.1.bytes)
     (entries m)
     (λ e. cond_both (is_one_below p e.0) e.1.bytes 0 (λ (n : ℕ). n ≤ e.1.bytes) (λ _. omega arith) (λ _. omega arith))
 
 -- A graph of a part has at most the bytes of all entries.
 pub part_fits : {s : Listed} {p : Path} {t : Path → Bool} {w w' : List Warned} {g : Graph} → MakesPart s p t w w' g →
-    total g ≤ entered (map_of s)
+    total g ≤ bytes_entered (map_of s)
 part_fits {s} {p} {t} part = omega (arith, part.total_is, rows_fit s p t)
 
 abbrev pub warned_at : Listed → ℕ → List Warned
@@ -267,7 +267,7 @@ module _ (s : Listed) (ok : IsListing s) where
       (omega (arith, sum_by-cons (size_in s) e []), append-nil (warned (map_of s) e))
 
   module _ (i : ℕ) (hi : i < length s) (ks : List Key) where
-    pub own_fits : size_at_place s i ≤ entered (map_of s)
+    pub own_fits : size_at_place s i ≤ bytes_entered (map_of s)
     own_fits = omega (arith, rows_fit s (path_at s i) (begun ks 0), (own_row i hi ks).0)
 
     pub part_start : (w w' : List Warned) (g : Graph) → g ≡ add_self (size_at_place s i) default →

@@ -19,7 +19,8 @@ shape n = record {
 abbrev pub sums_of : List Node → Listed
 sums_of ns = sums (map shape ns)
 
--- The nodes are an arena, and the sums and the lists of children have a place for each.
+-- The nodes are an arena. That the sums and the lists of children have a place for each follows from it, and is stated
+-- for proofs that index them.
 pub record IsTree (ns : List Node) (cs : List Children) : Type 0 where
   pub arena : IsArena (map shape ns) (map numbers cs)
   pub size : length (sums_of ns) ≡ length ns

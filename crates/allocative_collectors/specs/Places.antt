@@ -6,7 +6,7 @@ use Rattle.allocative_graph.specs.declared.refusal.Refusal.{Refusal}
 use Rattle.allocative_graph.specs.declared.refusal.Refusal.TheVariants.{Memory, TooLarge}
 use Rattle.allocative_graph.specs.Identity.{Identity}
 use Rattle.allocative_graph.specs.Path.{Key, Path}
-use Rattle.allocative_graph.specs.Sums.{entered}
+use Rattle.allocative_graph.specs.Sums.{bytes_entered}
 use Rattle.allocative_graph.specs.Collector.{Live}
 use Rattle.allocative_collectors.specs.Listed.{Listed, path_at, total, map_of, IsEntered}
 
@@ -44,7 +44,7 @@ live t met current places is_rooted = record {
 pub record IsPlaced (t : Listed) (current : ℕ) (places : List ℕ) (room : ℕ) : Type 0 where
   pub here : current < length t
   pub back : (j : ℕ) → j < length places → slice_index places j < length t
-  pub entered_is : entered (map_of t) + room + 1 ≡ 2 ^ 63
+  pub entered_is : bytes_entered (map_of t) + room + 1 ≡ 2 ^ 63
   pub total_is : total t + room + 1 ≡ 2 ^ 63
   pub rooted : 0 < length t
   pub root_path : path_at t 0 ≡ []

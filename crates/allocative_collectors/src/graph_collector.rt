@@ -1,6 +1,6 @@
 //! The state of a flame graph's collector: the arena of paths, the identities met, and where its visitors are.
 ghost use Rattle.std.specs.Prelude.{◌≡◌, ◌+◌, ◌^◌, ◌<◌, [], false, IfOk, IfErr, OnOk, OnErr, IsTrue, ◌↔◌};
-ghost use Rattle.allocative_graph.specs.Sums.{entered};
+ghost use Rattle.allocative_graph.specs.Sums.{bytes_entered};
 ghost use Rattle.allocative_graph.specs.Collector.{OfGraph, no_entries, enter_live, leave_live, go, IsClosed, IsAtRoot};
 ghost use Rattle.allocative_graph.specs.Graph.{total as graph_total};
 ghost use Rattle.allocative_graph.specs.Visits.{Refuses, IsProfile};
@@ -71,7 +71,7 @@ impl GraphCollector {
     /// tested before memory is allocated. An error changes nothing.
     #[inline(always)]
     pub fn enter(&mut self, key: &Key, size: usize, is_unique: bool) -> Result<(), Refusal>
-        ensures ok { OnOk result ((entered self.old.sums + size < 2 ^ 63)
+        ensures ok { OnOk result ((bytes_entered self.old.sums + size < 2 ^ 63)
             × (self.new ≡ enter_live is_unique key.now size self.old)) }
         ensures err { IfErr result (Refuses is_unique size (OfGraph self.old)) }
         ensures kept { OnErr result (self.new ≡ self.old) }
@@ -87,7 +87,7 @@ impl GraphCollector {
     /// if there would be more than 2^32 - 1 paths. An error changes nothing.
     #[inline(always)]
     pub fn enter_simple(&mut self, key: &Key, size: usize) -> Result<(), Refusal>
-        ensures ok { OnOk result ((entered self.old.sums + size < 2 ^ 63)
+        ensures ok { OnOk result ((bytes_entered self.old.sums + size < 2 ^ 63)
             × (self.new ≡ leave_live (enter_live false key.now size self.old))) }
         ensures err { IfErr result (Refuses false size (OfGraph self.old)) }
         ensures kept { OnErr result (self.new ≡ self.old) }
@@ -104,7 +104,7 @@ impl GraphCollector {
     /// and `Memory`, also if there would be more than 2^32 - 1 paths. `TooLarge` changes nothing. After `Memory` the
     /// entry may have been counted.
     pub fn enter_shared(&mut self, key: &Key, size: usize, id: Identity) -> Result<bool, Refusal>
-        ensures ok { IfOk result (λ new. (entered self.old.sums + size < 2 ^ 63)
+        ensures ok { IfOk result (λ new. (bytes_entered self.old.sums + size < 2 ^ 63)
             × MeetsAs key.now size id self.old new self.new) }
         ensures err { IfErr result (Refuses false size (OfGraph self.old)) }
         ensures kept { IfErr result (λ e. e ≡ Refusal.TooLarge → self.new ≡ self.old) }

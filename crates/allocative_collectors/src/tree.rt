@@ -2,7 +2,7 @@
 ghost use Rattle.std.specs.Prelude.{◌≡◌, ◌+◌, ◌^◌, ◌<◌, ◌≤◌, [], ◌∷◌, ◌++◌, length, map, IfOk, IfErr, IfSome, IfNone, OnOk, OnErr, IsTrue, ◌↔◌, false, sum_by, ℕ, slice_index_or};
 ghost use Rattle.std.specs.List.{All};
 ghost use Rattle.allocative_graph.specs.Graph.{total as graph_total};
-ghost use Rattle.allocative_graph.specs.Sums.{entered, below as bytes_below};
+ghost use Rattle.allocative_graph.specs.Sums.{bytes_entered, below as bytes_below};
 ghost use Rattle.allocative_graph.specs.Path.{key_cmp, texts};
 ghost use Rattle.allocative_graph.specs.Visits.{IsProfile};
 ghost use Rattle.allocative_collectors.specs.Listed.{root_sum, put, total, path_at, map_of, IsEntered, IsAbove};
@@ -145,7 +145,7 @@ impl Tree {
     ///
     /// One walk makes the graph and lists the paths that have a warning. The text is made from the list.
     pub(crate) fn finish(&self) -> Result<FlameGraphOutput, Refusal>
-        requires { entered (map_of self.now) < 2 ^ 63 }
+        requires { bytes_entered (map_of self.now) < 2 ^ 63 }
         ensures made { IfOk result (IsProfile (map_of self.now)) }
         ensures total { IfOk result (λ o. graph_total o.graph < 2 ^ 63) }
         ensures err { IfErr result (λ e. e ≡ Refusal.Memory) }
@@ -165,7 +165,7 @@ impl Tree {
         warned: &mut Vec<WarnedPath>,
     ) -> Result<FlameGraph, Refusal>
         requires within { at < length self.now }
-        requires fits { entered (map_of self.now) < 2 ^ 63 }
+        requires fits { bytes_entered (map_of self.now) < 2 ^ 63 }
         requires keys { texts keys.old.items ≡ path_at self.now at }
         ensures keys { OnOk result (keys.new.items ≡ keys.old.items) }
         ensures made { IfOk result (MakesGraph self.now at

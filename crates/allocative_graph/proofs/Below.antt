@@ -7,7 +7,7 @@ use Rattle.allocative_graph.proofs.Common.{is_sorted, below_all, Path, is_one_be
 use Rattle.allocative_graph.proofs.Common.{node_of, add, add_all, sums_of, below, both, first, second, sum_by-cons}
 use Rattle.allocative_graph.proofs.Common.{empty}
 pub use Rattle.allocative_graph.specs.Sums.{below_in}
-use Rattle.allocative_graph.specs.Sums.{entered}
+use Rattle.allocative_graph.specs.Sums.{bytes_entered}
 use Rattle.std.specs.Cmp.{IsTotalOrder}
 use Rattle.std.specs.FinMap.{FinMap}
 use Rattle.allocative_graph.proofs.Basics.{path_total, path_antisymmetric, is_eq-Equal}
@@ -75,12 +75,12 @@ pub below-add : (s : Sums) (e : Entry) (p : Path) →
 below-add s e p = added_bytes (is_one_below p) s e
 
 -- One more entry adds its bytes to all bytes entered.
-pub entered-add : (s : Sums) (e : Entry) → entered (add s e) ≡ entered s + e.size
-entered-add s e = added_bytes (λ p. true) s e
+pub bytes_entered-add : (s : Sums) (e : Entry) → bytes_entered (add s e) ≡ bytes_entered s + e.size
+bytes_entered-add s e = added_bytes (λ p. true) s e
 
 -- Empty sums have no bytes entered.
-pub entered-empty : entered empty ≡ 0
-entered-empty = ap (sum_by (λ x. x.1.bytes)) entries-empty
+pub bytes_entered-empty : bytes_entered empty ≡ 0
+bytes_entered-empty = ap (sum_by (λ x. x.1.bytes)) entries-empty
 
 -- Adding a bag adds the bytes that it has one key below p to those that the sums have there.
 pub below-add_all : (s : Sums) (b : Bag) (p : Path) → below (add_all s b) p ≡ below s p + below_in b p

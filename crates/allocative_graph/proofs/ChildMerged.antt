@@ -164,7 +164,7 @@ pub record Going (all : Bool) (cs ds out cs' ds' : List Child) (size room : ℕ)
   pub theirs : AreChildren ds'
   pub fewer_rows : length (rows_of ds') ≤ length (rows_of ds)
   pub fits : weight out + (weight cs' + weight ds') < 2 ^ 64
-  pub exact : size ≡ weight out
+  pub weighed : size ≡ weight out
   pub has_room : length out + (length cs' + length ds') ≤ room
 
 -- The next child is pushed.
@@ -183,7 +183,7 @@ going_next {all = all} {a = a} {cs = cs} {ds = ds} {out = out} {c = c} g n all_i
       theirs = n.theirs;
       fewer_rows = omega (arith, g.fewer_rows, n.fewer_rows);
       fits = omega (arith, g.fits, n.fits, w, weight-one c, ap weight out_is);
-      exact = omega (arith, g.exact, w, weight-one c, ap weight out_is, size_is);
+      weighed = omega (arith, g.weighed, w, weight-one c, ap weight out_is, size_is);
       has_room = omega (arith, g.has_room, n.fewer, l, ap length out_is, more);
     }
 

@@ -28,7 +28,7 @@ pub use Rattle.std.specs.declared.cmp.Ordering.TheVariants.{Equal, Greater, Less
 pub use Rattle.allocative_graph.specs.Collector.{entries_at}
 pub use Rattle.allocative_graph.specs.Forest.{Again, AsInline, AsShared, AsUnique, Bag, Empty, Entry, First, Fits}
 pub use Rattle.allocative_graph.specs.Forest.{Forest, Inline, Unique, all, content_entries, contents, followed_by}
-pub use Rattle.allocative_graph.specs.Forest.{insert_all, met_after, own, own_behind, shown}
+pub use Rattle.allocative_graph.specs.Forest.{insert_all, met_after, own, own_behind, content_identities}
 pub use Rattle.allocative_graph.specs.Graph.{CanBeAdded, Graph, HasNothing, HasPlainKeys, HasWords, IsBehind, IsTree}
 pub use Rattle.allocative_graph.specs.Graph.{Lacks, add_self, begins, default, graph, is_root, joined, remaining}
 pub use Rattle.allocative_graph.specs.Graph.{size_at, sizes, sum_of, text, text_of_entries, total, total_at, under}
@@ -38,10 +38,10 @@ pub use Rattle.allocative_graph.specs.Many.{sum_of_all, total_of}
 pub use Rattle.allocative_graph.specs.Meaning.{IsMeaning, IsWhole, Reached, content_of, has_mark, inside, is_among}
 pub use Rattle.allocative_graph.specs.Meaning.{is_mark_of, marked}
 pub use Rattle.allocative_graph.specs.Path.{Key, Path, is_one_below, is_same_path, key_cmp, path_cmp}
-pub use Rattle.allocative_graph.specs.Read.{AreStacks, IsCut, IsFault, IsNumber, IsRead, IsStack, IsWrong, Means, Stack}
+pub use Rattle.allocative_graph.specs.Read.{AreStacks, IsCut, IsFault, IsNumber, IsRead, IsStack, IsWrong, SaysStacks, Stack}
 pub use Rattle.allocative_graph.specs.Read.{all_bytes, bytes_at, is_path_of, number_of, line_stack}
-pub use Rattle.allocative_graph.specs.Reads.{AreChildren, Figures, figures_behind, keys_of, node, rows_of}
-pub use Rattle.allocative_graph.specs.Reads.{rows_of_child, under_rows}
+pub use Rattle.allocative_graph.specs.Rows.{AreChildren, Figures, figures_behind, keys_of, node, rows_of}
+pub use Rattle.allocative_graph.specs.Rows.{rows_of_child, under_rows}
 pub use Rattle.allocative_graph.specs.Representation.Children.{AddsUp, AddsUpInPart, AllAbove, AllBelow, InOrder}
 pub use Rattle.allocative_graph.specs.Representation.Children.{IsChildGap, IsFound, size_under, Added, Merged}
 pub use Rattle.allocative_graph.specs.Representation.Children.{child_of_path}

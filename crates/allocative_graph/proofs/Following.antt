@@ -2,7 +2,7 @@
 use Rattle.std.proofs.Common.{◌≡◌, ◌↔◌, Bool, false, ◌||◌, List, [], ◌∷◌, ◌++◌, refl, ap, sym, ◌∙◌, append_assoc, arith}
 use Rattle.allocative_graph.proofs.Common.{AllByRecursion, Sums, add, add_all, contains, Path, Identities, Identity}
 use Rattle.allocative_graph.proofs.Common.{Forest, Empty, Inline, Unique, First, Again, AsInline, AsUnique, AsShared}
-use Rattle.allocative_graph.proofs.Common.{Bag, own_behind, contents, shown, followed_by, insert_all, met_after, Fits}
+use Rattle.allocative_graph.proofs.Common.{Bag, own_behind, contents, content_identities, followed_by, insert_all, met_after, Fits}
 use Rattle.allocative_graph.proofs.Common.{entries_at, flat_map-append}
 use Rattle.std.specs.FinSet.{insert}
 use Rattle.allocative_graph.proofs.Basics.{or_left, each-parts}
@@ -85,14 +85,14 @@ module _ (more : Identity → Bool) where
   fits_more s t Empty h a w = tt
   fits_more s t (Inline k n f after) h a w =
       let xs = each-parts (λ c. more c.0 ≡ false) (contents f) (contents after) a in
-      (fits_more s t f h xs.0 w.0, fits_more (met_after s f) (met_after t f) after (more-insert_all s t (shown f) h) xs.1 w.1)
+      (fits_more s t f h xs.0 w.0, fits_more (met_after s f) (met_after t f) after (more-insert_all s t (content_identities f) h) xs.1 w.1)
   fits_more s t (Unique k n f after) h a w =
       let xs = each-parts (λ c. more c.0 ≡ false) (contents f) (contents after) a in
-      (fits_more s t f h xs.0 w.0, fits_more (met_after s f) (met_after t f) after (more-insert_all s t (shown f) h) xs.1 w.1)
+      (fits_more s t f h xs.0 w.0, fits_more (met_after s f) (met_after t f) after (more-insert_all s t (content_identities f) h) xs.1 w.1)
   fits_more s t (First k n j f after) h a w =
       let xs = each-parts (λ c. more c.0 ≡ false) (contents f) (contents after) a.1 in
       let up = more-insert_all s t (j ∷ []) h in
       let rest = fits_more (met_after (insert s j) f) (met_after (insert t j) f) after
-      (more-insert_all (insert s j) (insert t j) (shown f) up) xs.1 w.2 in
+      (more-insert_all (insert s j) (insert t j) (content_identities f) up) xs.1 w.2 in
       (h j ∙ ap (λ c. c || more j) w.0 ∙ a.0, fits_more (insert s j) (insert t j) f up xs.0 w.1, rest)
   fits_more s t (Again k n j after) h a w = (h j ∙ or_left _ (more j) w.0, fits_more s t after h a w.1)

@@ -25,7 +25,7 @@ pub mod ChildLookup
 pub mod OneMeaning
 pub mod ChildMerged
 pub mod Behind
-pub mod ReadRows
+pub mod Rows
 pub mod Gathered
 pub mod Owned
 pub mod StackSums

@@ -2,7 +2,7 @@
 use Rattle.std.proofs.Common.{◌≡◌, ◌+◌, false, cond, ◌||◌, List, [], ◌∷◌, ◌++◌, map, Some, None, is_some, refl, ap, sym}
 use Rattle.std.proofs.Common.{◌∙◌, arith}
 use Rattle.allocative_graph.proofs.Common.{option_map, get, entries, keys, get-entries, get-from_entries, same_map}
-use Rattle.allocative_graph.proofs.Common.{find, Key, Path, path_cmp, is_same_path, Forest, all, contents, shown}
+use Rattle.allocative_graph.proofs.Common.{find, Key, Path, path_cmp, is_same_path, Forest, all, contents, content_identities}
 use Rattle.allocative_graph.proofs.Common.{followed_by, met_after, is_among, IsWhole, Sums, add_all, sums_of, below}
 use Rattle.allocative_graph.proofs.Common.{Graph, graph, sizes, remaining, size_at, sum_of, CanBeAdded, list_any-append}
 use Rattle.std.specs.FinMap.{empty, contains_key-keys}
@@ -68,7 +68,7 @@ graphs_add f g can = same_map path_total path_antisymmetric _ _ each
 -- If two whole showings reach no identity in common, one followed by the other is a whole showing.
 pub whole_following : (f g : Forest) → IsWhole f → IsWhole g → ReachApart f g → IsWhole (followed_by f g)
 whole_following f g v w apart =
-    let away = shown_each (λ i. is_among i (shown f) ≡ false) (contents g)
+    let away = shown_each (λ i. is_among i (content_identities f) ≡ false) (contents g)
     (λ i h. false_from_ne_true _ (λ there. apart i ((reaches_exactly f v i).0 there)
     ((reaches_exactly g w i).0 h))) in
-    (fits-following set.empty f g).1 (v, fits_more (λ i. is_among i (shown f)) set.empty (met_after set.empty f) g (contains-insert_all set.empty (shown f)) away w)
+    (fits-following set.empty f g).1 (v, fits_more (λ i. is_among i (content_identities f)) set.empty (met_after set.empty f) g (contains-insert_all set.empty (content_identities f)) away w)

@@ -105,7 +105,7 @@ module _ {n s : ℕ} {cs es : List Child} {g : Graph} {c : Child} (view : node n
       let all : n + weight es ≡ total g + total c.graph =
       sym (total-node n es m.children.sorted) ∙ ap total sum_grown ∙ total-sum_of g (under c.key c.graph)
       ∙ ap (λ k. total g + k) (total-under c.key c.graph) in
-      record { children = m.children; exact = omega (arith, all, own, h.exact); fits = omega (arith, all, own, h.exact, fits) }
+      record { children = m.children; weighed = omega (arith, all, own, h.weighed); fits = omega (arith, all, own, h.weighed, fits) }
 
 -- A child that comes after all others is put at the end.
 pub pushed : {n s : ℕ} {cs : List Child} {g : Graph} (view : node n cs ≡ g) → IsNode cs s n → (c : Child) →
@@ -123,7 +123,7 @@ module _ {g h : Graph} {m n s t : ℕ} {cs ds : List Child} (mine : node m cs �
 
   pub merged_node : {all : Bool} {cs' ds' es : List Child} {size : ℕ} → cs' ≡ cs → ds' ≡ ds →
       total g + total h < 2 ^ 64 → Merged all cs' ds' es → size ≡ weight es → IsNode es size (m + n)
-  merged_node e f fits k exact = record { children = k.children; exact = exact; fits = omega (arith, total_of_both, k.at_most, ap weight e, ap weight f, exact, fits) }
+  merged_node e f fits k weighed = record { children = k.children; weighed = weighed; fits = omega (arith, total_of_both, k.at_most, ap weight e, ap weight f, weighed, fits) }
 
   pub merged_graph : {all : Bool} {cs' ds' es : List Child} → cs' ≡ cs → ds' ≡ ds → Merged all cs' ds' es →
       Added all g h (node (m + n) es)
@@ -137,5 +137,5 @@ module _ {g h : Graph} {m n s t : ℕ} {cs ds : List Child} (mine : node m cs �
   child_of_one {c = c} one fits = (
     omega (arith, len_of_node theirs b, ap (λ l. length (rows_of l)) one, length-append (rows_of_child c) [], len-child c),
     first_tree c [] (subst AreChildren (sym one) b.children),
-    omega (arith, total_of_both, ap weight one, weight-one c, a.exact, fits),
+    omega (arith, total_of_both, ap weight one, weight-one c, a.weighed, fits),
   )

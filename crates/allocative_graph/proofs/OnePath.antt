@@ -36,7 +36,7 @@ total-path (k ∷ p) n = total-under k (graph_of_path p n) ∙ total-path p n
 pub node_of_path : (k : Key) (p : Path) (n : ℕ) → n < 2 ^ 64 → IsNode (child_of_path k p n ∷ []) n 0
 node_of_path k p n fits = record {
   children = one_child (child_of_path k p n) (tree-path p n);
-  exact = omega (arith, weight-one (child_of_path k p n), total-path p n);
+  weighed = omega (arith, weight-one (child_of_path k p n), total-path p n);
   fits = omega arith;
 }
 

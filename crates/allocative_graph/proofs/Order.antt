@@ -3,7 +3,7 @@ use Rattle.std.proofs.Common.{◌≡◌, ℕ, ◌+◌, cond, IsTrue, List, [], �
 use Rattle.std.proofs.Common.{sym, ◌∙◌, sum_by, arith, IsPermutation}
 use Rattle.allocative_graph.proofs.Common.{option_map, entries, from_entries, get, get-from_entries, same_map, Identity}
 use Rattle.allocative_graph.proofs.Common.{identity_cmp, is_same_identity, Forest, Bag, Entry, own, content_entries}
-use Rattle.allocative_graph.proofs.Common.{all, shown, is_mark_of, is_among, Reached, marked, inside, content_of}
+use Rattle.allocative_graph.proofs.Common.{all, content_identities, is_mark_of, is_among, Reached, marked, inside, content_of}
 use Rattle.allocative_graph.proofs.Common.{IsWhole, sums_of, sum_by-cons, sum_by-IsPermutation, IsPermutation-sym}
 use Rattle.allocative_graph.proofs.Common.{list_any-IsPermutation, All-from_recursion}
 use Rattle.std.specs.FinMap.{FinMap, empty}
@@ -33,7 +33,7 @@ agree_back f g a = record { own_entries = IsPermutation-sym _ _ a.own_entries; s
 
 -- Two whole showings that agree show the contents of the same identities.
 same_shown : (f g : Forest) → IsWhole f → IsWhole g → Agree f g → (i : Identity) →
-    is_among i (shown f) ≡ is_among i (shown g)
+    is_among i (content_identities f) ≡ is_among i (content_identities g)
 same_shown f g v w a i = both_ways _ _
     (λ h. (reaches_exactly g w i).1 (same_reached f g v w a i ((reaches_exactly f v i).0 h)))
     (λ h. (reaches_exactly f v i).1 (same_reached g f w v (agree_back f g a) i ((reaches_exactly g w i).0 h)))
@@ -78,7 +78,7 @@ module _ (is js : List Identity) (d : IsDistinct is_same_identity is) (e : IsDis
 -- Whatever is added up over all entries, two whole showings that agree have the same sum.
 same_all : (f g : Forest) → IsWhole f → IsWhole g → Agree f g → SameSums (all f) (all g)
 same_all f g v w a x =
-    let flat = same_flat (shown f) (shown g) (shown_distinct f v) (shown_distinct g w) (same_shown f g v w a)
+    let flat = same_flat (content_identities f) (content_identities g) (shown_distinct f v) (shown_distinct g w) (same_shown f g v w a)
     (content_of f) (content_of g)
     (λ k h. a.same_content k (same_shown f g v w a k ∙ h) h) x in
     let inner = sym (ap (sum_by x) (as_flat f v)) ∙ flat ∙ ap (sum_by x) (as_flat g w) in

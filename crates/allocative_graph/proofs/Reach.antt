@@ -3,7 +3,7 @@ use Rattle.std.proofs.Common.{◌≡◌, false, ◌||◌, IsTrue, List, [], ◌�
 use Rattle.std.proofs.Common.{true≢false, IsPermutation, unwrap_or, Bool, arith}
 use Rattle.allocative_graph.proofs.Common.{⊤, AllByRecursion, contains, contains-insert, contains-empty, Path}
 use Rattle.allocative_graph.proofs.Common.{Identities, Identity, identity_cmp, is_same_identity, Forest, Empty, Inline}
-use Rattle.allocative_graph.proofs.Common.{Unique, First, Again, Bag, Entry, own, own_behind, contents, all, shown}
+use Rattle.allocative_graph.proofs.Common.{Unique, First, Again, Bag, Entry, own, own_behind, contents, all, content_identities}
 use Rattle.allocative_graph.proofs.Common.{insert_all, met_after, Fits, is_mark_of, has_mark, is_among, Reached, marked}
 use Rattle.allocative_graph.proofs.Common.{inside, IsMeaning, content_of, IsWhole, IsPermutation-refl, list_any}
 use Rattle.allocative_graph.proofs.Common.{list_any-append, map-append}
@@ -60,7 +60,7 @@ contains-insert_all s (j ∷ is) i = grind
 -- ---- each identity shown is reached
 module _ (b : Bag) (content : Identity → Bag) where
   reach : (p : Path) (f : Forest) → ((i : Identity) → IsTrue (has_mark i (own_behind p f)) → Reached b content i)
-      → AllByRecursion (λ c. content c.0 ≡ c.1) (contents f) → (i : Identity) → IsTrue (is_among i (shown f)) →
+      → AllByRecursion (λ c. content c.0 ≡ c.1) (contents f) → (i : Identity) → IsTrue (is_among i (content_identities f)) →
       Reached b content i
   reach p Empty m g i h = absurd (true≢false (sym h))
   reach p (Inline k n f after) m g i h =
@@ -96,7 +96,7 @@ two_marked i s a b cs ds f g h = grind (arith, f, g, h, list_any-append (marks i
 
 -- If a forest that fits the identities met points to an identity, it was met or the forest shows its content.
 fits_marks : (p : Path) (s : Identities) (f : Forest) → Fits s f → (i : Identity) →
-    IsTrue (marked_in i (own_behind p f) (contents f)) → IsTrue (contains s i || is_among i (shown f))
+    IsTrue (marked_in i (own_behind p f) (contents f)) → IsTrue (contains s i || is_among i (content_identities f))
 fits_marks p s Empty w i h = absurd (true≢false (sym h))
 fits_marks p s (Inline k n f after) w i h =
     two_marked i s (own_behind (p ++ k ∷ []) f) (own_behind p after) (contents f) (contents after)
@@ -150,7 +150,7 @@ fresh_distinct s (c ∷ cs) h =
     ((h.0, each-implies _ _ (λ j g. (apart j g).1) (ids cs) rest.0), (each-implies _ _ (λ j g. same_identity_turned c.0 j ∙ (apart j g).0) (ids cs) rest.0, rest.1))
 
 -- A whole showing shows the content of each identity at most once.
-pub shown_distinct : (f : Forest) → IsWhole f → IsDistinct is_same_identity (shown f)
+pub shown_distinct : (f : Forest) → IsWhole f → IsDistinct is_same_identity (content_identities f)
 shown_distinct f w = (fresh_distinct empty (contents f) (fits_fresh empty f w)).1
 
 -- In a whole showing, `content_of` finds each content by its identity.
@@ -164,7 +164,7 @@ own_content f w = recursion_from_All _ (contents f) (All-weaker (Contains (conte
 pub reaches_exactly : (f : Forest) → IsWhole f → ReachesExactly f
 reaches_exactly f w i = (
   reach (own f) (content_of f) [] f (λ j h. marked h) (own_content f w) i,
-  λ r. sym (ap (λ b. b || is_among i (shown f)) (contains-empty identity_cmp i))
+  λ r. sym (ap (λ b. b || is_among i (content_identities f)) (contains-empty identity_cmp i))
       ∙ fits_marks [] empty f w i (elim r [
         | marked h ↦ or_left _ _ h
         | inside j q h ↦ or_right (has_mark i (own f))
@@ -173,7 +173,7 @@ reaches_exactly f w i = (
 )
 
 -- The entries of all contents are those of the content of each identity shown.
-pub as_flat : (f : Forest) → IsWhole f → flat_map (content_of f) (shown f) ≡ flat_map (λ c. c.1) (contents f)
+pub as_flat : (f : Forest) → IsWhole f → flat_map (content_of f) (content_identities f) ≡ flat_map (λ c. c.1) (contents f)
 as_flat f w = each (contents f) (own_content f w)
   where
     each : (cs : Contents) → AllByRecursion (λ c. content_of f c.0 ≡ c.1) cs →
@@ -185,4 +185,4 @@ as_flat f w = each (contents f) (own_content f w)
 pub all_is_meaning : (f : Forest) → IsWhole f → IsMeaning (own f) (content_of f) (all f)
 all_is_meaning f w =
     let same = subst (λ b. IsPermutation (own f ++ b) (all f)) (sym (as_flat f w)) (IsPermutation-refl (all f)) in
-    record { identities = shown f; once = shown_distinct f w; reached = reaches_exactly f w; is = same }
+    record { identities = content_identities f; once = shown_distinct f w; reached = reaches_exactly f w; is = same }

@@ -5,7 +5,7 @@ use Rattle.std.proofs.Common.{true≢false, arith, unwrap_or, decimal, ne_eqb, i
 use Rattle.allocative_graph.proofs.Common.{AllByRecursion, list_any, slice_split, lines, lines_of_parts, get, entries}
 use Rattle.allocative_graph.proofs.Common.{LEVELS, LineFault, Key, Path, is_same_path, Graph, text, joined, begins}
 use Rattle.allocative_graph.proofs.Common.{size_at, Lacks, HasPlainKeys, HasWords, Stack, IsStack, IsCut, IsNumber}
-use Rattle.allocative_graph.proofs.Common.{AreStacks, Means, IsFault, IsRead, number_of, bytes_at, is_path_of}
+use Rattle.allocative_graph.proofs.Common.{AreStacks, SaysStacks, IsFault, IsRead, number_of, bytes_at, is_path_of}
 use Rattle.allocative_graph.proofs.Common.{all_bytes, All-from_recursion, fold-map, sum_by-cons}
 use Rattle.std.specs.List.{All}
 use Rattle.std.specs.Str.Lines.{strip_carriage_return}
@@ -16,7 +16,7 @@ use Rattle.std.proofs.lemmas.List.Filters.{sum_by-filter_both}
 use Rattle.std.proofs.lemmas.List.Splits.{slice_split_none, slice_split_at, length-slice_split}
 use Rattle.allocative_graph.specs.Read.{Exceeds, CanBeRead, keys_of}
 use Rattle.allocative_graph.proofs.Basics.{each-implies, false_from_ne_true, on_test, or_parts}
-use Rattle.allocative_graph.proofs.Text.{Plain, Sized, Good, is_shown, full, body, shown, good_entries, size_shown}
+use Rattle.allocative_graph.proofs.Text.{Plain, Sized, Good, is_shown, full, body, written_entries, good_entries, size_shown}
 use Rattle.allocative_graph.proofs.Text.{shown_lines, full_body, body_lacks, decimal_lacks, bytes_in}
 use Rattle.allocative_graph.proofs.ReadLines.{stacks-cons, stacks-first, one_cut, cut_once}
 use Rattle.allocative_graph.proofs.StackSums.{same_begins}
@@ -103,9 +103,9 @@ entries_read (e ∷ es) good ss h =
     f.2 ∙ (λ i. entry_read e good.0 f.0 f.3 i ∷ entries_read es good.1 f.1 f.4 i)
 
 -- If the keys of a graph are plain and its total fits a word, its text has the lines of the entries shown.
-lines-text : (g : Graph) → HasPlainKeys g → HasWords g → lines (text g) ≡ map body (shown g)
+lines-text : (g : Graph) → HasPlainKeys g → HasWords g → lines (text g) ≡ map body (written_entries g)
 lines-text g plain fits = ap lines (shown_lines (entries g))
-    ∙ lines-full (shown g) (each-implies Good _ (λ e good. good.plain) (shown g) (good_entries (entries g) plain fits))
+    ∙ lines-full (written_entries g) (each-implies Good _ (λ e good. good.plain) (written_entries g) (good_entries (entries g) plain fits))
 
 -- Two good entries with the same line are equal.
 same_entry : (e f : Sized) → Good e → Good f → body e ≡ body f → e ≡ f
@@ -127,14 +127,14 @@ same_entries (e ∷ es) (f ∷ fs) a b h = λ i. same_entry e f a.0 b.0 (cc) i �
 pub text_tells : (g h : Graph) → HasPlainKeys g → HasPlainKeys h → HasWords g → HasWords h → text g ≡ text h →
     (k : Key) (p : Path) → size_at g (k ∷ p) ≡ size_at h (k ∷ p)
 text_tells g h a b v w e k p =
-    let same = same_entries (shown g) (shown h) (good_entries (entries g) a v) (good_entries (entries h) b w)
+    let same = same_entries (written_entries g) (written_entries h) (good_entries (entries g) a v) (good_entries (entries h) b w)
     (sym (lines-text g a v) ∙ ap lines e ∙ lines-text h b w) in
     size_shown g k p ∙ ap (λ es. bytes_in es (k ∷ p)) same ∙ sym (size_shown h k p)
 
 -- The stacks of the text of a graph are its entries that have a line.
-stacks_of_text : (g : Graph) → HasPlainKeys g → HasWords g → (ss : List Stack) → Means (text g) ss →
-    ss ≡ map said (shown g)
-stacks_of_text g plain fits ss h = entries_read (shown g) (good_entries (entries g) plain fits) ss
+stacks_of_text : (g : Graph) → HasPlainKeys g → HasWords g → (ss : List Stack) → SaysStacks (text g) ss →
+    ss ≡ map said (written_entries g)
+stacks_of_text g plain fits ss h = entries_read (written_entries g) (good_entries (entries g) plain fits) ss
     (subst (λ (ls : List (List ℕ)). AreStacks ls ss) (lines-text g plain fits) h)
 
 -- ---- the bytes at a path
@@ -163,7 +163,7 @@ pub reads_back : (g h : Graph) → HasPlainKeys g → HasWords g → IsRead (tex
     size_at h (k ∷ p) ≡ size_at g (k ∷ p)
 reads_back g h plain fits read k p =
     rw (size_at-read read.stacks h k p (read.graph (k ∷ p)), stacks_of_text g plain fits read.stacks read.means, size_shown g k p)
-    (fold-map (λ n (s : Stack). n + cond (is_same_path (k ∷ p) s.path) s.size 0) said 0 (shown g))
+    (fold-map (λ n (s : Stack). n + cond (is_same_path (k ∷ p) s.path) s.size 0) said 0 (written_entries g))
 
 -- ---- nothing in the text of a graph is refused
 -- The line of a good entry is a stack with its path and its size.
@@ -197,15 +197,15 @@ no_fault ((b ∷ bs) ∷ before) line rest (s ∷ ss) h some none = no_fault bef
 pub never_refused : (g : Graph) → HasPlainKeys g → HasWords g → CanBeRead g → (n : ℕ) (w : LineFault) →
     IsFault (text g) n w → ⊥
 never_refused g plain fits can n w fault =
-    no_fault fault.before fault.line fault.rest (map said (shown g))
-    (subst (λ (ls : List (List ℕ)). AreStacks ls (map said (shown g))) (sym (lines-text g plain fits) ∙ fault.parts)
-    (said_stacks (shown g) (good_entries (entries g) plain fits) can))
+    no_fault fault.before fault.line fault.rest (map said (written_entries g))
+    (subst (λ (ls : List (List ℕ)). AreStacks ls (map said (written_entries g))) (sym (lines-text g plain fits) ∙ fault.parts)
+    (said_stacks (written_entries g) (good_entries (entries g) plain fits) can))
     fault.some fault.none
 
 -- ---- its bytes fit
 -- The bytes in the text of a graph whose sizes are words never exceed a word.
 pub never_exceeds : (g : Graph) → HasPlainKeys g → HasWords g → Exceeds (text g) → ⊥
 never_exceeds g plain fits e =
-    let is : all_bytes e.stacks ≡ all_bytes (map said (shown g)) =
+    let is : all_bytes e.stacks ≡ all_bytes (map said (written_entries g)) =
     ap all_bytes (stacks_of_text g plain fits e.stacks e.means) in
-    omega (arith, is, fold-map (λ n (s : Stack). n + s.size) said 0 (shown g), sum_by-filter_both is_shown (λ x. not (is_shown x)) (λ x. refl) (λ x. x.1) (entries g), e.exceeds, fits)
+    omega (arith, is, fold-map (λ n (s : Stack). n + s.size) said 0 (written_entries g), sum_by-filter_both is_shown (λ x. not (is_shown x)) (λ x. refl) (λ x. x.1) (entries g), e.exceeds, fits)

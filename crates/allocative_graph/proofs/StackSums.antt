@@ -4,7 +4,7 @@ use Rattle.std.proofs.Common.{take, Option, Some, None, is_some, refl, sym, ap, 
 use Rattle.std.proofs.Common.{sum_by, arith, zero-add}
 use Rattle.allocative_graph.proofs.Common.{list_any, IsPermutation, is_eq, get, contains_key, get-insert, Line, Key}
 use Rattle.allocative_graph.proofs.Common.{Path, key_cmp, path_cmp, is_same_path, Graph, size_at, total, begins}
-use Rattle.allocative_graph.proofs.Common.{is_root, default, sum_of, Means, IsRead, Stack, bytes_at, is_path_of}
+use Rattle.allocative_graph.proofs.Common.{is_root, default, sum_of, SaysStacks, IsRead, Stack, bytes_at, is_path_of}
 use Rattle.allocative_graph.proofs.Common.{all_bytes, graph_of_path, one_stack, sum_of_stacks, map_push, fold-map}
 use Rattle.allocative_graph.proofs.Common.{sum_by-IsPermutation}
 use Rattle.std.specs.Option.{SomeIff}
@@ -99,7 +99,7 @@ total-stacks ss =
 
 -- ---- lines in any order
 -- What lines add up to in another order is what their text is read as.
-pub is_read : (t : List ℕ) (ls sorted : List Line) (g : Graph) → Means t (map line_stack ls) → IsPermutation ls sorted →
+pub is_read : (t : List ℕ) (ls sorted : List Line) (g : Graph) → SaysStacks t (map line_stack ls) → IsPermutation ls sorted →
     g ≡ sum_of_stacks default (map line_stack sorted) → IsRead t g
 is_read t ls sorted g means moved e =
     let ss = map line_stack ls in
@@ -135,7 +135,7 @@ line_more ls i l g h more was is =
     ∙ fold-append (λ h s. sum_of h (one_stack s)) default (map line_stack (take i ls)) (line_stack l ∷ []))
 
 -- If the bytes of lines were added up in vain, they exceed a word.
-pub sum_exceeds : (t : List ℕ) (ls given : List Line) (o : Option ℕ) → Means t (map line_stack ls) → given ≡ ls
+pub sum_exceeds : (t : List ℕ) (ls given : List Line) (o : Option ℕ) → SaysStacks t (map line_stack ls) → given ≡ ls
     → SomeIff o (sum_by (λ l. l.size) given < 2 ^ 64) (sum_by (λ l. l.size) given) → is_some o ≡ false → Exceeds t
 sum_exceeds t ls given None means e h none =
     record { stacks = map line_stack ls; means = means; exceeds = omega (arith, h, ap (λ (xs : List Line). sum_by (λ l. l.size) xs) e, fold-map (λ n (s : Stack). n + s.size) line_stack 0 ls) }

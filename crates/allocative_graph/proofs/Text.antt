@@ -94,8 +94,8 @@ body_lacks e h = each-append (λ b. b ≢ 10) (joined e.0) _ (joined_lacks e.0 h
     ((λ g. omega (arith, g)), decimal_lacks 10 e.1 (omega arith))
 
 -- ---- the entries that have a line
-abbrev pub shown : Graph → List Sized
-shown g = filter is_shown (entries g)
+abbrev pub written_entries : Graph → List Sized
+written_entries g = filter is_shown (entries g)
 
 -- If the keys are plain and all sizes together fit a word, each entry that is shown is good.
 pub good_entries : (es : List Sized) → AllByRecursion (λ p. AllByRecursion Plain p) (map (λ e. e.0) es) →
@@ -143,7 +143,7 @@ bytes-find q (e ∷ es) h =
     (λ apart. zero-add (bytes_in es q) ∙ rest)
 
 -- A size of a graph, but for the root's, is that of the lines.
-pub size_shown : (g : Graph) (k : Key) (p : Path) → size_at g (k ∷ p) ≡ bytes_in (shown g) (k ∷ p)
+pub size_shown : (g : Graph) (k : Key) (p : Path) → size_at g (k ∷ p) ≡ bytes_in (written_entries g) (k ∷ p)
 size_shown g k p =
     ap (λ o. unwrap_or o 0) (get-entries g (k ∷ p)) ∙ sym (bytes-find (k ∷ p) (entries g) (entries_sorted g))
     ∙ sym (sum-filter is_shown (λ e. cond (is_same_path (k ∷ p) e.0) e.1 0) (λ e h. unseen e k p h) (entries g))

@@ -73,8 +73,8 @@ abbrev pub all : Forest → Bag
 all f = own f ++ content_entries f
 
 -- The identities whose content f shows, in reading order.
-abbrev pub shown : Forest → List Identity
-shown f = map (λ c. c.0) (contents f)
+abbrev pub content_identities : Forest → List Identity
+content_identities f = map (λ c. c.0) (contents f)
 
 -- A set of identities with those of a list added.
 abbrev pub insert_all : Identities → List Identity → Identities
@@ -82,7 +82,7 @@ insert_all s is = fold insert s is
 
 -- The identities met once f is shown, if those of s were met before.
 abbrev pub met_after : Identities → Forest → Identities
-met_after s f = insert_all s (shown f)
+met_after s f = insert_all s (content_identities f)
 
 -- f fits the identities met: a shared entry shows its content exactly if its identity is not in s and was not met
 -- earlier in reading order.

@@ -17,6 +17,6 @@ pub mod Read
 pub mod Laws
 pub mod WorkedExamples
 pub mod Report
-pub mod Reads
+pub mod Rows
 pub mod Many
 pub mod Representation

@@ -5,7 +5,7 @@ use Rattle.std.specs.Map.{lookup}
 use Rattle.std.specs.Option.{unwrap_or}
 use Rattle.std.specs.FinSet as set
 use Rattle.allocative_graph.specs.Identity.{Identity, is_same_identity}
-use Rattle.allocative_graph.specs.Forest.{Forest, Mark, AsShared, Bag, own, contents, shown, Fits}
+use Rattle.allocative_graph.specs.Forest.{Forest, Mark, AsShared, Bag, own, contents, content_identities, Fits}
 
 -- Whether a mark is that of a pointer to i.
 abbrev pub is_mark_of : Identity → Mark → Bool
@@ -44,12 +44,12 @@ IsWhole f = Fits set.empty f
 -- Two showings agree: they have one bag of own entries, and one content for each identity that both show.
 pub record Agree (f g : Forest) : Type 0 where
   pub own_entries : IsPermutation (own f) (own g)
-  pub same_content : (i : Identity) → IsTrue (is_among i (shown f)) → IsTrue (is_among i (shown g))
+  pub same_content : (i : Identity) → IsTrue (is_among i (content_identities f)) → IsTrue (is_among i (content_identities g))
       → IsPermutation (content_of f i) (content_of g i)
 
 -- The identities whose content f shows are exactly those that f reaches.
 abbrev pub ReachesExactly : Forest → Type 0
-ReachesExactly f = (i : Identity) → IsTrue (is_among i (shown f)) ↔ Reached (own f) (content_of f) i
+ReachesExactly f = (i : Identity) → IsTrue (is_among i (content_identities f)) ↔ Reached (own f) (content_of f) i
 
 -- No identity is reached by both.
 abbrev pub ReachApart : Forest → Forest → Type 0

@@ -76,8 +76,8 @@ AreStacks ((b ∷ bs) ∷ ls) [] = ⊥
 AreStacks ((b ∷ bs) ∷ ls) (s ∷ ss) = IsStack (b ∷ bs) s × AreStacks ls ss
 
 -- Each line of the text but the blank ones is a stack, and these are the stacks.
-abbrev pub Means : List ℕ → List Stack → Type 0
-Means t ss = AreStacks (lines t) ss
+abbrev pub SaysStacks : List ℕ → List Stack → Type 0
+SaysStacks t ss = AreStacks (lines t) ss
 
 -- The line of this number, from 1 on, is the first one of the text that is neither blank nor a stack, and this is
 -- wrong with it.
@@ -117,14 +117,14 @@ all_bytes ss = sum_by (λ s. s.size) ss
 -- Each line of the text but the blank ones is a stack, and the graph is that of these stacks, with all their bytes.
 pub record IsRead (t : List ℕ) (g : Graph) : Type 0 where
   pub stacks : List Stack
-  pub means : Means t stacks
+  pub means : SaysStacks t stacks
   pub graph : IsGraphOfStacks stacks g
   pub bytes : total g ≡ all_bytes stacks
 
 -- Each line of the text but the blank ones is a stack, and their bytes exceed a word.
 pub record Exceeds (t : List ℕ) : Type 0 where
   pub stacks : List Stack
-  pub means : Means t stacks
+  pub means : SaysStacks t stacks
   pub exceeds : 2 ^ 64 ≤ all_bytes stacks
 
 -- Each path that has a line in the text of g has at most `LEVELS` keys, and is not one empty key.

@@ -59,8 +59,8 @@ abbrev pub sums_of : Bag → Sums
 sums_of b = add_all empty b
 
 -- The sum of all bytes entered.
-abbrev pub entered : Sums → ℕ
-entered s = sum_by (λ e. e.1.bytes) (entries s)
+abbrev pub bytes_entered : Sums → ℕ
+bytes_entered s = sum_by (λ e. e.1.bytes) (entries s)
 
 -- The bytes of the paths one key below p.
 abbrev pub below : Sums → Path → ℕ

@@ -8,7 +8,7 @@ use Rattle.allocative_graph.specs.Path.{Key}
 use Rattle.allocative_graph.specs.Identity.{Identity}
 use Rattle.allocative_graph.specs.Forest.{Forest, Bag, own, all, followed_by}
 use Rattle.allocative_graph.specs.Meaning.{IsWhole, IsMeaning, ReachesExactly, ReachApart, content_of}
-use Rattle.allocative_graph.specs.Sums.{Sums, entered, sums_of}
+use Rattle.allocative_graph.specs.Sums.{Sums, bytes_entered, sums_of}
 use Rattle.allocative_graph.specs.Graph.{Graph, Warned, graph, warnings, warned_paths, sum_of, CanBeAdded}
 use Rattle.allocative_graph.specs.Collector.{Live, Holding, Owning, Kind, OfGraph, OfHeld, OfOwned, State, Failed}
 use Rattle.allocative_graph.specs.Collector.{Going, held_bytes, enter, enter_first, enter_again, count_owning, plus}
@@ -35,7 +35,7 @@ HasFailed s r = s ≡ Failed r
 -- ---- entering
 -- An entry of n bytes exceeds no bound.
 abbrev pub HasRoom : Bool → ℕ → Kind → Type 0
-HasRoom is_unique n (OfGraph c) = entered c.sums + n < 2 ^ 63
+HasRoom is_unique n (OfGraph c) = bytes_entered c.sums + n < 2 ^ 63
 HasRoom is_unique n (OfHeld h) = (h.sum + held_bytes h.is_in_unique is_unique n < 2 ^ 64)
     × (suc h.open_visitors < 2 ^ 64)
 HasRoom is_unique n (OfOwned o) = (o.sum + (n - o.spare) < 2 ^ 64) × (suc o.open_visitors < 2 ^ 64)
@@ -43,8 +43,8 @@ HasRoom is_unique n (OfOwned o) = (o.sum + (n - o.spare) < 2 ^ 64) × (suc o.ope
 -- An entry of n bytes is refused with e. Either e is TooLarge and a bound would be exceeded, or e is Memory and no
 -- bound would be exceeded. Memory is refused only by the collector of a flame graph.
 abbrev pub Refuses : Bool → ℕ → Kind → Refusal → Type 0
-Refuses is_unique n (OfGraph c) e = ((e ≡ TooLarge) × (2 ^ 63 ≤ entered c.sums + n))
-    ⊎ ((e ≡ Memory) × (entered c.sums + n < 2 ^ 63))
+Refuses is_unique n (OfGraph c) e = ((e ≡ TooLarge) × (2 ^ 63 ≤ bytes_entered c.sums + n))
+    ⊎ ((e ≡ Memory) × (bytes_entered c.sums + n < 2 ^ 63))
 Refuses is_unique n (OfHeld h) e = (e ≡ TooLarge)
     × ((2 ^ 64 ≤ h.sum + held_bytes h.is_in_unique is_unique n) ⊎ (2 ^ 64 ≤ suc h.open_visitors))
 Refuses is_unique n (OfOwned o) e = (e ≡ TooLarge)
@@ -82,9 +82,9 @@ pub data OpensShared (k : Key) (n : ℕ) (i : Identity) : State → Result Bool 
       → OpensShared k n i (Going (OfOwned o)) (Err e) (Failed e)
   counts : {o p : Owning} → o.sum + (n - o.spare) < 2 ^ 64 → p ≡ count_owning n o
       → OpensShared k n i (Going (OfOwned o)) (Ok false) (Going (OfOwned p))
-  enters_first : {c d : Live} → entered c.sums + n < 2 ^ 63 → contains c.met i ≡ false → d ≡ enter_first k n i c
+  enters_first : {c d : Live} → bytes_entered c.sums + n < 2 ^ 63 → contains c.met i ≡ false → d ≡ enter_first k n i c
       → OpensShared k n i (Going (OfGraph c)) (Ok true) (Going (OfGraph d))
-  enters_again : {c d : Live} → entered c.sums + n < 2 ^ 63 → contains c.met i ≡ true → d ≡ enter_again k n i c
+  enters_again : {c d : Live} → bytes_entered c.sums + n < 2 ^ 63 → contains c.met i ≡ true → d ≡ enter_again k n i c
       → OpensShared k n i (Going (OfGraph c)) (Ok false) (Going (OfGraph d))
 
 -- ---- closing

@@ -7,7 +7,7 @@ ghost use Rattle.allocative_graph.specs.Path.{key_cmp, texts};
 ghost use Rattle.allocative_graph.specs.Format.{semicolon, AppendsText, ReturnsText};
 ghost use Rattle.allocative_graph.specs.Graph.{add_self, total, text, default, sum_of, under, joined, ExceedWord, IsTree, IsPartOfSum};
 ghost use Rattle.allocative_graph.specs.Representation.PathRows.{size_text, lines_from, lines_below, HasRootAlone};
-ghost use Rattle.allocative_graph.specs.Reads.{AreChildren};
+ghost use Rattle.allocative_graph.specs.Rows.{AreChildren};
 ghost use Rattle.allocative_graph.specs.Representation.Node.{weight};
 ghost use Rattle.allocative_graph.specs.Representation.Children.{front_order, InOrder, IsFound, IsChildGap, Added, Merged, IsNext};
 ghost use Rattle.allocative_graph.specs.declared.flamegraph.Child.{Child};
@@ -24,11 +24,11 @@ use std::mem;
 mod at_path;
 mod in_order;
 mod many;
-mod reads;
+mod rows;
 
 pub use at_path::add_at;
 pub use in_order::push_child;
-pub use reads::Row;
+pub use rows::Row;
 
 /// A map from paths of keys to sizes in bytes.
 ///
@@ -74,7 +74,7 @@ impl Model for FlameGraph {
 
     ghost coded = { map.code (coded_list (coded_list coded_ℕ)) coded_ℕ };
 
-    ghost use Rattle.allocative_graph.specs.Reads.{node};
+    ghost use Rattle.allocative_graph.specs.Rows.{node};
     ghost use Rattle.allocative_graph.specs.Representation.Node.{IsNode};
 
     ghost view = { λ a. node a.node_size a.children.items };
@@ -370,11 +370,11 @@ fn place_by_halving(children: &[Child], key: &str) -> Result<usize, usize>
 #[tactic(auto, using(crate::proofs::ChildMerged::weight_at_gap))]
 fn put_child(children: &mut Vec<Child>, size: &mut usize, child: Child) -> Result<(), AllocError>
     requires children { AreChildren children.old.items }
-    requires exact { size.old ≡ weight children.old.items }
+    requires weighed { size.old ≡ weight children.old.items }
     requires tree { IsTree child.graph }
     requires fits { size.old + total child.graph < 2 ^ 64 }
     ensures merged { Merged (is_ok result) children.old.items (child ∷ []) children.new.items }
-    ensures exact { size.new ≡ weight children.new.items }
+    ensures weighed { size.new ≡ weight children.new.items }
 {
     let Child { key, graph } = child;
     match place_of(children, &key) {
@@ -420,11 +420,11 @@ fn interleave(
     theirs: Vec<Child>,
 ) -> Result<(), AllocError>
     requires mine { AreChildren children.old.items }
-    requires exact { size.old ≡ weight children.old.items }
+    requires weighed { size.old ≡ weight children.old.items }
     requires theirs { AreChildren theirs.items }
     requires fits { size.old + weight theirs.items < 2 ^ 64 }
     ensures merged { Merged (is_ok result) children.old.items theirs.items children.new.items }
-    ensures exact { size.new ≡ weight children.new.items }
+    ensures weighed { size.new ≡ weight children.new.items }
 {
     let alloc = *children.allocator();
     let merged = Vec::with_capacity(alloc, children.len() + theirs.len())?;

@@ -4,7 +4,7 @@ ghost use Rattle.std.specs.Option.{SomeIff};
 ghost use Rattle.std.specs.Str.Parse.{IsNumeral};
 ghost use Rattle.allocative_graph.specs.Graph.{default};
 ghost use Rattle.allocative_graph.specs.declared.read.ReadFault.TheVariants.{Memory};
-ghost use Rattle.allocative_graph.specs.Read.{line_stack, IsStack, IsWrong, Means, IsRead, Exceeds, ReadsBack, TellsFault};
+ghost use Rattle.allocative_graph.specs.Read.{line_stack, IsStack, IsWrong, SaysStacks, IsRead, Exceeds, ReadsBack, TellsFault};
 ghost use Rattle.allocative_graph.specs.Representation.PathRows.{sum_of_stacks};
 
 use crate::flamegraph::{FlameGraph, add_at};
@@ -133,7 +133,7 @@ fn read_line(line: &'static str) -> Result<Line, LineFault>
 
 // Reads the lines of a text up to the first that is none. Blank lines are counted, and passed over.
 fn read_lines(alloc: Global, text: &'static str) -> Result<Vec<Line>, ReadFault>
-    ensures ok { IfOk result (λ lines. Means text.now (map line_stack lines.items)) }
+    ensures ok { IfOk result (λ lines. SaysStacks text.now (map line_stack lines.items)) }
     ensures line { TellsFault text.now result }
     ensures fits { ¬ (IsErrOf result ReadFault.TooLarge) }
 {

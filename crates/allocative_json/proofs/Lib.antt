@@ -3,5 +3,4 @@ pub mod NumbersLemmas
 pub mod Reports
 pub mod FieldsLemmas
 pub mod LinesLemmas
-pub mod Writes
 pub mod WordsLemmas

@@ -13,8 +13,8 @@ use Rattle.allocative_json.specs.Fault.{fault_of}
 use Rattle.allocative.specs.Forest.{Forest, followed_by}
 use Rattle.allocative.specs.Shows.{Nothing, Both, each_shows}
 use Rattle.allocative.specs.Collector.{Kind, OfGraph, begin, no_entries}
-use Rattle.allocative.specs.Exact.{CanTake, MayRefuseProfile}
-use Rattle.allocative.proofs.Exact.{each_one, followed_by-empty, may_refuse}
+use Rattle.allocative.specs.Strict.{CanTake, MayRefuseProfile}
+use Rattle.allocative.proofs.Strict.{each_one, followed_by-empty, may_refuse}
 use Rattle.allocative.specs.Visits.{Profile, IsProfileOf}
 use Rattle.allocative_json.specs.declared.fault.Fault.{Fault}
 use Rattle.allocative_json.specs.declared.fault.Fault.TheVariants.{Memory, TooLarge, Reading, Writing, Open}
@@ -102,11 +102,11 @@ two_shown p a b f (g, h, here, (k, none, there, empty, e), d) =
 both_shown : {T : Type 0} (p : T → Showing) (a b : T) (f : Forest) → Both (p a) (p b) f → each_shows p (a ∷ b ∷ []) f
 both_shown p a b f (g, h, here, there, e) = (g, h, here, each_one p b h there, e)
 
--- Roots of exact types: what is profiled of two is what both show, and what is profiled of one is what it shows, followed by
+-- Roots of strict types: what is profiled of two is what both show, and what is profiled of one is what it shows, followed by
 -- nothing. They are refused if all together may be.
 module _ {T : Type 0} (shows : T → Showing × Bool) (roots : List T) (x : Result Profile Refusal) where
   abbrev IsProfiledAs : Bool → Showing → Type 0
-  IsProfiledAs is_exact p = record { profile : IfOk x (IsProfileOf p); refused : IfErr x (MayRefuseProfile is_exact p) }
+  IsProfiledAs is_strict p = record { profile : IfOk x (IsProfileOf p); refused : IfErr x (MayRefuseProfile is_strict p) }
 
   abbrev IsProfiled : Type 0
   IsProfiled = IsProfiledAs (list_all (λ y. (shows y).1) roots) (each_shows (λ y. (shows y).0) roots)
@@ -118,20 +118,20 @@ module _ {T : Type 0} (shows : T → Showing × Bool) (roots : List T) (x : Resu
       let k : Kind = begin (OfGraph no_entries) in
       let can : CanTake k (Both (p a) (p b)) → CanTake k (each_shows p (a ∷ b ∷ [])) =
       λ w. ((w.0.0, both_shown p a b w.0.0 w.0.1, w.0.2), λ f y. w.1 f (two_shown p a b f y)) in
-      let exact = ap (λ (y : Showing × Bool). y.1) first in
+      let strict = ap (λ (y : Showing × Bool). y.1) first in
       let other = ap (λ (y : Showing × Bool). y.1) last in
       rw (← ap (λ (y : Showing × Bool). y.0) first, ← ap (λ (y : Showing × Bool). y.0) last) (record {
         profile = IfOk-weaker x _ _ (λ o g. profile_weaker (each_shows p (a ∷ b ∷ [])) (Both (p a) (p b)) o
             (two_shown p a b) g) (rw is at h.profile);
-        refused = IfErr-weaker x _ _ (λ e g _. may_refuse k k can refl e (g refl)) (rw (is, exact, other) at h.refused);
+        refused = IfErr-weaker x _ _ (λ e g _. may_refuse k k can refl e (g refl)) (rw (is, strict, other) at h.refused);
       })
 
   pub one_profiled : (a : T) (q : Showing) → roots ≡ a ∷ [] → shows a ≡ (q, true) → IsProfiled →
       IsProfiledAs true (Both q Nothing)
   one_profiled a q is first h =
-      let exact = ap (λ (y : Showing × Bool). y.1) first in
+      let strict = ap (λ (y : Showing × Bool). y.1) first in
       rw (← ap (λ (y : Showing × Bool). y.0) first)
-      (record { profile = rw is at h.profile; refused = rw (is, exact) at h.refused })
+      (record { profile = rw is at h.profile; refused = rw (is, strict) at h.refused })
 
 -- ---- reports of a run
 -- A right report of the input that was read is one for the reader's bytes.

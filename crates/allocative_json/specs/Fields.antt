@@ -18,7 +18,7 @@ use Rattle.allocative_json.specs.declared.fault.Fault.{Fault}
 use Rattle.allocative_json.specs.declared.fault.Fault.TheVariants.{Memory, NotJson, TooLarge, Reading, Writing}
 use Rattle.allocative_json.specs.Fault.{status_of, line_of}
 use Rattle.allocative_json.specs.Roots.{IsDocument}
-use Rattle.allocative_json.specs.Run.{AppendsBeginning}
+use Rattle.allocative_io.specs.Streams.{AppendsBeginning}
 
 -- ---- keys
 -- A character of a name in a key: `%`, `;`, `[`, a line feed and a carriage return by `%` and two digits, and any other

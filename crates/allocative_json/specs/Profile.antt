@@ -8,7 +8,7 @@ use Rattle.allocative.specs.Graph.{text}
 use Rattle.allocative.specs.Shows.{Showing, Nothing, Both, Inside, Field, each_shows}
 use Rattle.allocative.specs.Visits.{Profile, IsProfileOf}
 use Rattle.allocative.specs.Collector.{OfGraph, begin, no_entries}
-use Rattle.allocative.specs.Exact.{CanTake}
+use Rattle.allocative.specs.Strict.{CanTake}
 use Rattle.allocative.specs.JsonShows.{stored_value}
 use Rattle.allocative.specs.Parts.{optional_shows}
 use Rattle.allocative_json.specs.declared.fault.Fault.{Fault}

@@ -1,6 +1,7 @@
 -- What a whole run does.
-use Rattle.std.specs.Prelude.{◌≡◌, ℕ, ◌<◌, ⊤, ◌⊎◌, List, ◌++◌, length, Option, IfSome, codes, string_bytes}
+use Rattle.std.specs.Prelude.{◌≡◌, ℕ, ◌<◌, ⊤, ◌⊎◌, List, length, Option, IfSome, codes, string_bytes}
 use Rattle.std.specs.Io.KnownBytes.{Appends}
+use Rattle.allocative_io.specs.Streams.{AppendsBeginning}
 use Rattle.allocative_json.specs.declared.fault.Fault.{Fault}
 use Rattle.allocative_json.specs.declared.fault.Fault.TheVariants.{Memory, Reading, Writing, Open}
 use Rattle.allocative_json.specs.declared.fault.Fault.TheVariants as fault
@@ -18,16 +19,6 @@ pub record IsReportFor (texts : List Word) (known : Option (List ℕ)) (made : R
   pub input : List ℕ
   pub is_read : IfSome known (λ bytes. input ≡ bytes)
   pub right : IsRightReport input asked.index asked.exact made
-
--- What is written of a text, all but its rest, follows what the writer held, if that is known.
-pub record IsWrittenUpTo (old new : Option (List ℕ)) (text rest : List ℕ) : Type 0 where
-  pub written : List ℕ
-  pub split : text ≡ written ++ rest
-  pub follows : Appends old new written
-
--- A beginning of a text, maybe all of it or nothing, follows what the writer held, if that is known.
-abbrev pub AppendsBeginning : Option (List ℕ) → Option (List ℕ) → List ℕ → Type 0
-AppendsBeginning old new text = (rest : List ℕ) × IsWrittenUpTo old new text rest
 
 -- The report follows what the two writers held, if that is known.
 pub record IsWritten (output output' errors errors' : Option (List ℕ)) (made : Report) : Type 0 where

@@ -3,7 +3,7 @@
 
 ghost use Rattle.std.specs.Prelude.{true, IfOk, IfErr};
 ghost use Rattle.std.specs.Option.{option_copied};
-ghost use Rattle.allocative.specs.Exact.{MayRefuseProfile};
+ghost use Rattle.allocative.specs.Strict.{MayRefuseProfile};
 ghost use Rattle.allocative.specs.Visits.{IsProfileOf};
 ghost use Rattle.allocative_json.specs.Profile.{roots_show, IsReportOf, IsRightReport, RefusesRoots, RefusesReport};
 
@@ -28,7 +28,7 @@ struct Roots<'a> {
 impl Allocative for Roots<'_> {
     ghost may_show = { λ r. roots_show r.document.now (option_copied r.numbers) };
 
-    ghost is_exact = { true };
+    ghost is_strict = { true };
 
     fn visit(&self, visitor: &mut Visitor<'_>) -> Result<(), Refusal> {
         match self.numbers {

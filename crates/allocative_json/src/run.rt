@@ -1,9 +1,9 @@
 //! The program `allocative-json`, over any reader and two writers.
 ghost use Rattle.std.specs.Prelude.{◌≡◌, ◌≢◌, OnOk, IfOk, IfErr, IfSome};
-ghost use Rattle.std.specs.Io.KnownBytes.{Appends};
+ghost use Rattle.allocative_io.specs.Streams.{AppendsBeginning};
 ghost use Rattle.allocative_json.specs.Fault.{status_of, line_of};
 ghost use Rattle.allocative_json.specs.Profile.{IsRightReport, RefusesReport};
-ghost use Rattle.allocative_json.specs.Run.{StopsReading, IsReportFor, AppendsBeginning, IsWritten, IsBegun, EndsWell, EndsCutOff, EndsIn, MayEndRun};
+ghost use Rattle.allocative_json.specs.Run.{StopsReading, IsReportFor, IsWritten, IsBegun, EndsWell, EndsCutOff, EndsIn, MayEndRun};
 ghost use Rattle.allocative_json.specs.Words.{words_of};
 
 use crate::fault::Fault;
@@ -11,49 +11,23 @@ use crate::printed::Report;
 use crate::profile::{report_by_registry, report_of};
 use crate::roots::read_roots;
 use crate::words::{Words, read_words};
+use allocative_io::{Unread, read_input, write_text};
 use std::alloc::Global;
-use std::io::{self, ErrorKind, Read, Write};
+use std::io::{self, Read, Write};
 use std::mem;
 
 /// Reads to the end of the input. It returns `Fault::Reading` if a read fails, and `Fault::Memory` if memory
-/// runs out, which an empty input never causes. An interrupted read is repeated.
-pub(crate) fn read_input<R: Read>(alloc: Global, input: &mut R) -> Result<Vec<u8>, Fault>
+/// runs out, which an empty input never causes.
+pub(crate) fn read_bytes<R: Read>(alloc: Global, input: &mut R) -> Result<Vec<u8>, Fault>
     ensures ok { IfOk result
         (λ bytes. IfSome (R.remaining input.old) (λ known. bytes.items ≡ known)) }
     ensures err { IfErr result (StopsReading (R.remaining input.old)) }
 {
-    let mut bytes = Vec::new(alloc);
-    let mut piece = [0u8; 4096];
-    for _ in 0..u64::MAX {
-        match input.read(&mut piece) {
-            Ok(0) => return Ok(bytes),
-            Ok(count) => bytes.extend_from_slice(&piece[..count])?,
-            Err(error) if error.kind() == ErrorKind::Interrupted => {}
-            Err(_) => return Err(Fault::Reading),
-        }
+    match read_input(alloc, input) {
+        Ok(bytes) => Ok(bytes),
+        Err(Unread::Memory) => Err(Fault::Memory),
+        Err(Unread::Failed(_)) => Err(Fault::Reading),
     }
-    Err(Fault::Reading)
-}
-
-/// Writes and flushes the whole text. If a write fails, a beginning of it is written. An interrupted write is repeated.
-#[tactic(auto, using(crate::proofs::Writes::writing))]
-pub(crate) fn write_text<W: Write>(output: &mut W, text: &str) -> io::Result<()>
-    ensures whole { OnOk result (Appends (W.contents output.old) (W.contents output.new) text.now) }
-    ensures beginning { AppendsBeginning (W.contents output.old) (W.contents output.new) text.now }
-{
-    let mut rest = text.as_bytes();
-    for _ in 0..u64::MAX {
-        if rest.is_empty() {
-            return output.flush();
-        }
-        match output.write(rest) {
-            Ok(0) => return Err(ErrorKind::WriteZero.into()),
-            Ok(count) => rest = &rest[count..],
-            Err(error) if error.kind() == ErrorKind::Interrupted => {}
-            Err(error) => return Err(error),
-        }
-    }
-    Err(ErrorKind::WriteZero.into())
 }
 
 // Writes the line of a fault.
@@ -99,7 +73,7 @@ fn make_report<R: Read>(alloc: Global, words: &[String], input: &mut R) -> Resul
     ensures err { IfErr result (MayEndRun (words_of words.now) (R.remaining input.old)) }
 {
     let asked = read_words(words)?;
-    let bytes = read_input(alloc, input)?;
+    let bytes = read_bytes(alloc, input)?;
     profile_as_asked(alloc, asked, bytes.as_slice())
 }
 

@@ -6,11 +6,11 @@ pub use Rattle.std.specs.declared.cmp.Ordering.{Ordering}
 pub use Rattle.std.specs.declared.cmp.Ordering.TheVariants.{Equal, Greater, Less}
 pub use Rattle.allocative_graph.specs.Graph.{Graph, total, total_at}
 pub use Rattle.allocative_graph.specs.Path.{Path, is_same_path, key_cmp, path_cmp}
-pub use Rattle.allocative_graph.specs.Reads.{Figures, figures_behind}
+pub use Rattle.allocative_graph.specs.Rows.{Figures, figures_behind}
 pub use Rattle.allocative_graph.specs.Representation.Node.{weight}
 pub use Rattle.allocative_graph.specs.declared.flamegraph.Child.{Child}
 pub use Rattle.allocative_picture.specs.Boxes.{is_drawn}
 pub use Rattle.allocative_picture.specs.Escape.{escaped_char}
 pub use Rattle.allocative_picture.specs.Page.{warning_lines}
-pub use Rattle.allocative_picture.specs.Rows.{RowData, before_in, row_from, row_of, rows_from, row_data}
-pub use Rattle.allocative_picture.specs.declared.row.Mark.{Mark}
+pub use Rattle.allocative_picture.specs.Frames.{FrameData, before_in, frame_from, frame_of, frames_from, frame_data}
+pub use Rattle.allocative_picture.specs.declared.frame.Mark.{Mark}

@@ -1,8 +1,8 @@
--- Which rows have a box, and how often a path occurs.
+-- Which frames have a box, and how often a path occurs.
 use Rattle.std.proofs.Common.{◌≡◌, ℕ, ◌+◌, Bool, true, false, cond, List, [], ◌∷◌, ◌++◌, Some, refl, sym, ap, subst}
 use Rattle.std.proofs.Common.{◌∙◌, T, filter, flat_map, count_by}
 use Rattle.allocative_picture.proofs.Common.{is_eq, entries, entries_sorted, is_sorted, below_all, Path, path_cmp}
-use Rattle.allocative_picture.proofs.Common.{is_same_path, Graph, RowData, is_drawn}
+use Rattle.allocative_picture.proofs.Common.{is_same_path, Graph, FrameData, is_drawn}
 use Rattle.std.proofs.lemmas.List.Sums.{sum_by-cons}
 use Rattle.std.specs.Option.{is_some}
 use Rattle.std.specs.FinMap.{contains_key, get-entries}
@@ -12,14 +12,14 @@ use Rattle.allocative_picture.specs.Boxes.{element}
 use Rattle.allocative_picture.specs.Laws.{boxes}
 use Rattle.allocative_picture.proofs.Placing.{less_than, in_order}
 
--- A row has its element if it is drawn.
-one : (b : Bool) (x rest : List ℕ) (all : ℕ) (r : RowData) (rs : List RowData) → x ≡ element all r →
+-- A frame has its element if it is drawn.
+one : (b : Bool) (x rest : List ℕ) (all : ℕ) (r : FrameData) (rs : List FrameData) → x ≡ element all r →
     rest ≡ flat_map (element all) rs → cond b x [] ++ rest ≡ flat_map (element all) (cond b (r ∷ rs) rs)
 one true x rest all r rs e f = λ i. e i ++ f i
 one false x rest all r rs e f = f
 
--- The boxes of some rows are the elements of those that are wide enough.
-pub boxes_are : (least all : ℕ) (rs : List RowData) →
+-- The boxes of some frames are the elements of those that are wide enough.
+pub boxes_are : (least all : ℕ) (rs : List FrameData) →
     boxes least all rs ≡ flat_map (element all) (filter (is_drawn least all) rs)
 boxes_are least all [] = refl
 boxes_are least all (r ∷ rs) = one (is_drawn least all r) (element all r) (boxes least all rs) all r

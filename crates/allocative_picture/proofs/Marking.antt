@@ -5,7 +5,7 @@ use Rattle.allocative_picture.proofs.Common.{entries, Path, Graph, total_at}
 use Rattle.std.proofs.lemmas.List.Sums.{sum_by-le-sum_by}
 use Rattle.allocative_graph.specs.Path.{Key}
 use Rattle.allocative_graph.specs.Graph.{size_at, begins, IsBehind, HasNothing}
-use Rattle.allocative_picture.specs.declared.rows.Marks.{Marks}
+use Rattle.allocative_picture.specs.declared.frames.Marks.{Marks}
 use Rattle.allocative_picture.specs.Marks.{mark_with, mark_by, mark_in}
 
 -- What g has behind a key marks each path below the key.

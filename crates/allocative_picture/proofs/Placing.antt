@@ -1,16 +1,16 @@
--- The bytes before a path are the own bytes of the rows before its row.
+-- The bytes before a path are the own bytes of the frames before its frame.
 use Rattle.std.proofs.Common.{◌≡◌, ℕ, ◌+◌, cond, List, [], ◌∷◌, ◌++◌, map, sum_by, length, refl, sym, ap, subst, ◌∙◌}
 use Rattle.std.proofs.Common.{append_assoc, T, arith}
 use Rattle.allocative_picture.proofs.Common.{is_lt, ordering_reverse, Less, Greater, entries, entries_sorted, is_sorted}
 use Rattle.allocative_picture.proofs.Common.{below_all, Path, path_cmp, Graph, total_at, Figures, Mark, before_in}
-use Rattle.allocative_picture.proofs.Common.{row_of, rows_from}
+use Rattle.allocative_picture.proofs.Common.{frame_of, frames_from}
 use Rattle.std.proofs.lemmas.List.Sums.{sum_by-cons, sum_by-append}
 use Rattle.std.specs.Cmp.{tied_itself}
-use Rattle.allocative_graph.specs.Reads.{figures}
+use Rattle.allocative_graph.specs.Rows.{figures}
 use Rattle.allocative_graph.specs.Representation.NodeRows.{first, second}
 use Rattle.allocative_graph.proofs.Basics.{path_total}
 use Rattle.allocative_graph.proofs.Below.{is_lt-Less}
-use Rattle.allocative_picture.specs.Rows.{rows_of}
+use Rattle.allocative_picture.specs.Frames.{frames_of}
 
 -- Paths with their sizes.
 abbrev Sizes : Type 0
@@ -69,9 +69,9 @@ own-cons f fs = sum_by-cons (λ (x : Figures). x.self_size) f fs
 abbrev figure : Graph → Path × ℕ → Figures
 figure g e = record { path = e.0; self_size = e.1; total_size = total_at g e.0 }
 
--- Each row of a graph begins at the bytes of the entries to its left.
+-- Each frame of a graph begins at the bytes of the entries to its left.
 placed : (M : Path → Mark) (g : Graph) (a c : Sizes) → entries g ≡ a ++ c →
-    rows_from M (bytes_of a) (map (figure g) c) ≡ map (row_of M g) c
+    frames_from M (bytes_of a) (map (figure g) c) ≡ map (frame_of M g) c
 placed M g a [] e = refl
 placed M g a (x ∷ c) e =
     let sorted : T (is_sorted path_cmp (a ++ x ∷ c)) =
@@ -81,11 +81,11 @@ placed M g a (x ∷ c) e =
     let next : entries g ≡ (a ++ x ∷ []) ++ c = e ∙ sym (append_assoc a (x ∷ []) c) in
     let more : bytes_of a + x.1 ≡ bytes_of (a ++ x ∷ []) =
     omega (arith, sum_by-append (λ (y : Path × ℕ). y.1) a (x ∷ []), sum_by-cons (λ (y : Path × ℕ). y.1) x []) in
-    let rest : rows_from M (bytes_of a + x.1) (map (figure g) c) ≡ map (row_of M g) c =
-    ap (λ n. rows_from M n (map (figure g) c)) more ∙ placed M g (a ++ x ∷ []) c next in
-    λ i. record { depth = length x.0; key = (row_of M g x).key; own = x.1; whole = total_at g x.0; before = sym place i; mark = M x.0 } ∷ rest i
+    let rest : frames_from M (bytes_of a + x.1) (map (figure g) c) ≡ map (frame_of M g) c =
+    ap (λ n. frames_from M n (map (figure g) c)) more ∙ placed M g (a ++ x ∷ []) c next in
+    λ i. record { depth = length x.0; key = (frame_of M g x).key; own = x.1; whole = total_at g x.0; before = sym place i; mark = M x.0 } ∷ rest i
 
--- The rows made from the figures of a graph are the rows of the graph.
-pub rows_from-figures : (M : Path → Mark) (g : Graph) → rows_from M 0 (figures g) ≡ rows_of M g
-unfolding rows_of
-rows_from-figures M g = placed M g [] (entries g) refl
+-- The frames made from the figures of a graph are the frames of the graph.
+pub frames_from-figures : (M : Path → Mark) (g : Graph) → frames_from M 0 (figures g) ≡ frames_of M g
+unfolding frames_of
+frames_from-figures M g = placed M g [] (entries g) refl

@@ -10,9 +10,9 @@ use Rattle.allocative_graph.proofs.Basics.{path_total}
 use Rattle.allocative_graph.proofs.Graphs.{size_at-sum_of}
 use Rattle.allocative_graph.proofs.StackSums.{size_at-path}
 use Rattle.std.proofs.lemmas.Cmp.{eq_by_cmp_equiv}
-use Rattle.allocative_picture.specs.declared.row.Mark.TheVariants.{Plain}
-use Rattle.allocative_picture.specs.declared.row.Mark.TheVariants as mark
-use Rattle.allocative_picture.specs.Rows.{is_warned, warned_mark}
+use Rattle.allocative_picture.specs.declared.frame.Mark.TheVariants.{Plain}
+use Rattle.allocative_picture.specs.declared.frame.Mark.TheVariants as mark
+use Rattle.allocative_picture.specs.Frames.{is_warned, warned_mark}
 
 -- How many of the warned paths are a path.
 abbrev pub warnings_at : List Warned → Path → ℕ
@@ -30,13 +30,13 @@ warning_more ws w g h p was is =
     omega (arith, ap (λ (f : Graph). size_at f p) is, size_at-sum_of g (graph_of_path w.path 1) p, size_at-path w.path 1 p, was, sum_by_push (λ (v : Warned). cond (is_same_path p v.path) 1 0) ws w)
 
 -- Whether two paths are the same does not depend on which comes first.
-turned : (p q : Path) → is_same_path p q ≡ is_same_path q p
-turned p q = (eq_by_cmp_equiv path_total).symm p q
+same_path_symm : (p q : Path) → is_same_path p q ≡ is_same_path q p
+same_path_symm p q = (eq_by_cmp_equiv path_total).symm p q
 
 -- The count of warnings at a path is 0 exactly if no warning has this path.
 none_counted : (ws : List Warned) (p : Path) → (warnings_at ws p == 0) ≡ not (list_any (λ w. is_same_path w.path p) ws)
 none_counted [] p = refl
-none_counted (w ∷ ws) p = rw (warnings_at-cons w ws p, turned w.path p) (grind (arith, none_counted ws p))
+none_counted (w ∷ ws) p = rw (warnings_at-cons w ws p, same_path_symm w.path p) (grind (arith, none_counted ws p))
 
 -- If a is the opposite of b, `Plain` for a and else `Warned` is `Warned` for b and else `Plain`.
 chosen : (a b : Bool) → a ≡ not b → cond a Plain mark.Warned ≡ cond b mark.Warned Plain

@@ -1,4 +1,4 @@
--- The box of a row: its place and its element.
+-- The box of a frame: its place and its element.
 use Rattle.std.specs.Prelude.{ℕ, ◌+◌, ◌-◌, ◌*◌, ◌/◌, ◌%◌, ◌==◌, ◌&&◌, Bool, not, cond, nat_lt, max, length, List, []}
 use Rattle.std.specs.Prelude.{◌∷◌, ◌++◌, codes, decimal}
 use Rattle.std.specs.List.{concat}
@@ -7,9 +7,9 @@ use Rattle.allocative_graph.specs.Path.{Key}
 use Rattle.allocative_graph.specs.Fnv.{fnv}
 use Rattle.allocative_picture.specs.Escape.{escaped}
 use Rattle.allocative_picture.specs.Figures.{size_text, bytes_text, percent_text, place_text}
-use Rattle.allocative_picture.specs.Rows.{RowData}
-use Rattle.allocative_picture.specs.declared.row.Mark.{Mark}
-use Rattle.allocative_picture.specs.declared.row.Mark.TheVariants.{Plain, Warned, Changed}
+use Rattle.allocative_picture.specs.Frames.{FrameData}
+use Rattle.allocative_picture.specs.declared.frame.Mark.{Mark}
+use Rattle.allocative_picture.specs.declared.frame.Mark.TheVariants.{Plain, Warned, Changed}
 
 -- ---- where a box is placed
 -- The place of a number of bytes on a line of a million units that stands for all bytes, rounded down. It is 0 if all
@@ -17,20 +17,20 @@ use Rattle.allocative_picture.specs.declared.row.Mark.TheVariants.{Plain, Warned
 abbrev pub edge : ℕ → ℕ → ℕ
 edge all bytes = bytes * 1000000 / all
 
--- The left edge of a row's box, in units.
-abbrev pub left : ℕ → RowData → ℕ
-left all r = edge all r.before
+-- The left edge of a frame's box, in units.
+abbrev pub left_edge : ℕ → FrameData → ℕ
+left_edge all r = edge all r.before
 
--- The right edge of a row's box, in units.
-abbrev pub right : ℕ → RowData → ℕ
-right all r = edge all (r.before + r.whole)
+-- The right edge of a frame's box, in units.
+abbrev pub right_edge : ℕ → FrameData → ℕ
+right_edge all r = edge all (r.before + r.whole)
 
--- The width of a row's box, in units.
-abbrev pub width : ℕ → RowData → ℕ
-width all r = right all r - left all r
+-- The width of a frame's box, in units.
+abbrev pub width : ℕ → FrameData → ℕ
+width all r = right_edge all r - left_edge all r
 
--- Whether a row has a box: its width is neither 0 nor less than the least width.
-abbrev pub is_drawn : ℕ → ℕ → RowData → Bool
+-- Whether a frame has a box: its width is neither 0 nor less than the least width.
+abbrev pub is_drawn : ℕ → ℕ → FrameData → Bool
 is_drawn least all r = not (width all r == 0) && not (nat_lt (width all r) least)
 
 -- ---- classes
@@ -48,8 +48,8 @@ key_class depth k =
     cond (depth == 0) (codes "root")
     (cond (bytes_eq k (codes "unused_capacity")) (codes "spare") (codes "k" ++ decimal (fnv k % 12)))
 
--- The class of a row's box, by its mark.
-unfoldable pub class_text : Mark → RowData → List ℕ
+-- The class of a frame's box, by its mark.
+unfoldable pub class_text : Mark → FrameData → List ℕ
 class_text Plain r = key_class r.depth r.key
 class_text Warned r = codes "warned"
 class_text (Changed before) r = change_class before (r.whole - before)
@@ -81,8 +81,8 @@ change_paint before after =
     (codes " style=\"fill:rgb(" ++ colour_text 214 40 40 (after - before) (before + after) ++ codes ")\"")
     (codes " style=\"fill:rgb(" ++ colour_text 29 95 191 (before - after) (before + after) ++ codes ")\""))
 
--- The paint of a row's box, by its mark. There is none if the class gives the colour.
-unfoldable pub paint_text : Mark → RowData → List ℕ
+-- The paint of a frame's box, by its mark. There is none if the class gives the colour.
+unfoldable pub paint_text : Mark → FrameData → List ℕ
 paint_text Plain r = []
 paint_text Warned r = []
 paint_text (Changed before) r = change_paint before (r.whole - before)
@@ -94,15 +94,15 @@ change_text before after =
     cond (before == after) (codes "unchanged")
     (cond (nat_lt before after) (codes "+" ++ size_text (after - before)) (codes "-" ++ size_text (before - after)))
 
--- The figure after the key in a row's box, by its mark.
-unfoldable pub figure_text : Mark → RowData → List ℕ
+-- The figure after the key in a frame's box, by its mark.
+unfoldable pub figure_text : Mark → FrameData → List ℕ
 figure_text Plain r = size_text r.whole
 figure_text Warned r = size_text r.whole
 figure_text (Changed before) r = change_text before (r.whole - before)
 
 -- The bytes of a path and all below it, their share of all in millionths, and the path's own bytes if they differ
 -- from these.
-unfoldable pub declared_text : ℕ → RowData → List ℕ
+unfoldable pub declared_text : ℕ → FrameData → List ℕ
 declared_text u r =
     concat (bytes_text r.whole ∷ codes ", " ∷ percent_text u
     ∷ cond (r.own == r.whole) (codes "% of all") (codes "% of all\n" ++ bytes_text r.own ++ codes " of its own") ∷ [])
@@ -113,25 +113,25 @@ both_text before after =
     (size_text before ++ codes " before, " ++ size_text after ++ codes " after")
     ++ (codes " (" ++ decimal before ++ codes " and " ++ decimal after ++ codes " bytes)\n" ++ change_text before after)
 
--- The title of a row's box after the key, by its mark, from the share of its bytes in millionths.
-unfoldable pub title_text : ℕ → Mark → RowData → List ℕ
+-- The title of a frame's box after the key, by its mark, from the share of its bytes in millionths.
+unfoldable pub title_text : ℕ → Mark → FrameData → List ℕ
 title_text u Plain r = declared_text u r
 title_text u Warned r = declared_text u r ++ codes "\ndeclared smaller than its parts: see the warnings"
 title_text u (Changed before) r = both_text before (r.whole - before)
 
 -- ---- the element
--- The beginning of a row's box, a viewport that clips its texts.
-unfoldable pub frame : ℕ → RowData → List ℕ
-frame all r =
+-- The beginning of a frame's box, a viewport that clips its texts.
+unfoldable pub viewport : ℕ → FrameData → List ℕ
+viewport all r =
     concat (codes "<svg class=\"b " ∷ class_text r.mark r ∷ fit_text (width all r) (length r.key)
-    ∷ codes "\" x=\"" ∷ place_text (left all r) ∷ codes "\" y=\"" ∷ decimal (54 + 18 * r.depth)
+    ∷ codes "\" x=\"" ∷ place_text (left_edge all r) ∷ codes "\" y=\"" ∷ decimal (54 + 18 * r.depth)
     ∷ codes "\" width=\"" ∷ place_text (width all r) ∷ codes "\" height=\"18\">" ∷ [])
 
--- The element of a row's box: its beginning, the title with the key, the rectangle with its paint, and the label with
+-- The element of a frame's box: its beginning, the title with the key, the rectangle with its paint, and the label with
 -- the key and the figure. The key stands there as markup.
-unfoldable pub element : ℕ → RowData → List ℕ
+unfoldable pub element : ℕ → FrameData → List ℕ
 element all r =
-    frame all r
+    viewport all r
     ++ concat (codes "<title>" ∷ escaped r.key ∷ codes "\n" ∷ title_text (edge all r.whole) r.mark r
     ∷ codes "</title><rect width=\"100%\" height=\"100%\" rx=\"2\"" ∷ paint_text r.mark r
     ∷ codes "/><text x=\"4\" y=\"13\">" ∷ escaped r.key ∷ codes "<tspan class=\"n\" dx=\"8\">" ∷ figure_text r.mark r

@@ -4,52 +4,52 @@ use Rattle.std.specs.declared.cmp.Ordering.TheVariants.{Less}
 use Rattle.std.specs.FinMap.{entries, contains_key}
 use Rattle.allocative_graph.specs.Path.{Key, Path, key_cmp, is_same_path}
 use Rattle.allocative_graph.specs.Graph.{Graph, total, total_at, sum_of, size_at}
-use Rattle.allocative_picture.specs.declared.row.Mark.{Mark}
-use Rattle.allocative_picture.specs.Rows.{RowData, row_of}
-use Rattle.allocative_picture.specs.Boxes.{left, right, width, is_drawn, element}
+use Rattle.allocative_picture.specs.declared.frame.Mark.{Mark}
+use Rattle.allocative_picture.specs.Frames.{FrameData, frame_of}
+use Rattle.allocative_picture.specs.Boxes.{left_edge, right_edge, width, is_drawn, element}
 
--- The row of a path of a graph.
-abbrev pub row_at : (Path → Mark) → Graph → Path → RowData
-row_at M g p = row_of M g (p, size_at g p)
+-- The frame of a path of a graph.
+abbrev pub frame_at : (Path → Mark) → Graph → Path → FrameData
+frame_at M g p = frame_of M g (p, size_at g p)
 
 -- The second box lies within the first, from left to right.
-pub record IsInside (all : ℕ) (outer inner : RowData) : Type 0 where
-  pub starts : left all outer ≤ left all inner
-  pub ends : right all inner ≤ right all outer
+pub record IsInside (all : ℕ) (outer inner : FrameData) : Type 0 where
+  pub starts : left_edge all outer ≤ left_edge all inner
+  pub ends : right_edge all inner ≤ right_edge all outer
 
 -- The box of each path lies within the box of its parent, the path without its last key.
 abbrev pub InsideLaw : Type 0
 InsideLaw =
-    (M : Path → Mark) (g : Graph) (p : Path) (k : Key) → IsInside (total g) (row_at M g p) (row_at M g (p ++ k ∷ []))
+    (M : Path → Mark) (g : Graph) (p : Path) (k : Key) → IsInside (total g) (frame_at M g p) (frame_at M g (p ++ k ∷ []))
 
 -- Of two boxes with one parent, the box of the lesser key ends at or before the beginning of the other.
 abbrev pub ApartLaw : Type 0
 ApartLaw = (M : Path → Mark) (g : Graph) (p : Path) (k l : Key) → key_cmp k l ≡ Less
-    → right (total g) (row_at M g (p ++ k ∷ [])) ≤ left (total g) (row_at M g (p ++ l ∷ []))
+    → right_edge (total g) (frame_at M g (p ++ k ∷ [])) ≤ left_edge (total g) (frame_at M g (p ++ l ∷ []))
 
 -- The width of a box differs from the share of its bytes, in units of a millionth of all, by less than one unit.
-pub record IsShare (all : ℕ) (r : RowData) : Type 0 where
+pub record IsShare (all : ℕ) (r : FrameData) : Type 0 where
   pub not_wider : width all r * all < r.whole * 1000000 + all
   pub not_narrower : r.whole * 1000000 < width all r * all + all
 
 -- The width of each box is its share of all bytes, to less than one unit.
 abbrev pub ShareLaw : Type 0
-ShareLaw = (all : ℕ) (r : RowData) → 0 < all → IsShare all r
+ShareLaw = (all : ℕ) (r : FrameData) → 0 < all → IsShare all r
 
 -- No box extends past the right edge of the picture.
 abbrev pub WithinLaw : Type 0
-WithinLaw = (M : Path → Mark) (g : Graph) (p : Path) → 0 < total g → right (total g) (row_at M g p) ≤ 1000000
+WithinLaw = (M : Path → Mark) (g : Graph) (p : Path) → 0 < total g → right_edge (total g) (frame_at M g p) ≤ 1000000
 
--- The boxes of some rows, one after another: the element of a row, or no text if it has none.
-abbrev pub boxes : ℕ → ℕ → List RowData → List ℕ
+-- The boxes of some frames, one after another: the element of a frame, or no text if it has none.
+abbrev pub boxes : ℕ → ℕ → List FrameData → List ℕ
 boxes least all rs = flat_map (λ r. cond (is_drawn least all r) (element all r) []) rs
 
--- The boxes are the elements of the rows that are wide enough, each once and in the order of the rows.
+-- The boxes are the elements of the frames that are wide enough, each once and in the order of the frames.
 abbrev pub BoxesLaw : Type 0
 BoxesLaw =
-    (least all : ℕ) (rs : List RowData) → boxes least all rs ≡ flat_map (element all) (filter (is_drawn least all) rs)
+    (least all : ℕ) (rs : List FrameData) → boxes least all rs ≡ flat_map (element all) (filter (is_drawn least all) rs)
 
--- Each path of a graph occurs once among the graph's entries, from which the rows are made.
+-- Each path of a graph occurs once among the graph's entries, from which the frames are made.
 abbrev pub OnceLaw : Type 0
 OnceLaw = (g : Graph) (p : Path) → contains_key g p ≡ true → count_by (λ e. is_same_path p e.0) (entries g) ≡ 1
 

@@ -1,6 +1,6 @@
 pub mod Escape
 pub mod Figures
-pub mod Rows
+pub mod Frames
 pub mod Marks
 pub mod Boxes
 pub mod Page

@@ -2,11 +2,11 @@
 use Rattle.std.specs.Prelude.{ℕ, ◌==◌, cond, Option, None, Some}
 use Rattle.allocative_graph.specs.Path.{Path}
 use Rattle.allocative_graph.specs.Graph.{Graph, size_at, total_at}
-use Rattle.allocative_picture.specs.declared.row.Mark.{Mark}
-use Rattle.allocative_picture.specs.declared.row.Mark.TheVariants.{Plain, Changed}
-use Rattle.allocative_picture.specs.declared.row.Mark.TheVariants as mark
-use Rattle.allocative_picture.specs.declared.rows.Marks.{Marks}
-use Rattle.allocative_picture.specs.declared.rows.Marks.TheVariants.{Warned, Earlier}
+use Rattle.allocative_picture.specs.declared.frame.Mark.{Mark}
+use Rattle.allocative_picture.specs.declared.frame.Mark.TheVariants.{Plain, Changed}
+use Rattle.allocative_picture.specs.declared.frame.Mark.TheVariants as mark
+use Rattle.allocative_picture.specs.declared.frames.Marks.{Marks}
+use Rattle.allocative_picture.specs.declared.frames.Marks.TheVariants.{Warned, Earlier}
 
 -- The mark of a path with so many bytes of its own in the other graph, and so many with all below it.
 abbrev pub mark_with : Marks → ℕ → ℕ → Mark

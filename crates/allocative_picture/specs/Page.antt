@@ -4,7 +4,7 @@ use Rattle.std.specs.List.{concat}
 use Rattle.allocative_graph.specs.Graph.{Warned, warning_text}
 use Rattle.allocative_picture.specs.Escape.{escaped}
 use Rattle.allocative_picture.specs.Figures.{bytes_text}
-use Rattle.allocative_picture.specs.Rows.{RowData}
+use Rattle.allocative_picture.specs.Frames.{FrameData}
 use Rattle.allocative_picture.specs.Boxes.{both_text}
 use Rattle.allocative_picture.specs.declared.fixed.TheConstants.{STYLE, TOOLS, LEGEND}
 use Rattle.allocative_picture.specs.declared.page.Subject.{Subject}
@@ -25,8 +25,8 @@ unfoldable pub subject_text : Subject → List ℕ
 subject_text (Profile bytes) = bytes_text bytes ++ codes " declared"
 subject_text (Change before after) = both_text before after
 
--- The number of levels of boxes that some rows need.
-unfoldable pub levels : List RowData → ℕ
+-- The number of levels of boxes that some frames need.
+unfoldable pub levels : List FrameData → ℕ
 levels rs = fold (λ n r. max n (r.depth + 1)) 0 rs
 
 -- The beginning of a picture of some height, with the style.

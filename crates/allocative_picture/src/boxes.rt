@@ -1,14 +1,14 @@
-//! The boxes of rows.
+//! The boxes of frames.
 ghost use Rattle.std.specs.Prelude.{◌≡◌, ◌+◌, ◌*◌, ◌^◌, ◌<◌, Some, OnOk};
 ghost use Rattle.allocative_graph.specs.Format.{AppendsText};
-ghost use Rattle.allocative_picture.specs.Rows.{row_data};
-ghost use Rattle.allocative_picture.specs.Boxes.{edge, left, width, is_drawn, figure_text, declared_text, title_text, frame, element};
+ghost use Rattle.allocative_picture.specs.Frames.{frame_data};
+ghost use Rattle.allocative_picture.specs.Boxes.{edge, left_edge, width, is_drawn, figure_text, declared_text, title_text, viewport, element};
 
-use crate::change::{Change, Comparison, Paint};
+use crate::change::{Comparison, Difference, Paint};
 use crate::class::{Class, fit};
 use crate::escape::escaped;
 use crate::figures::{Bytes, Percent, Place, Size};
-use crate::row::{Mark, Row};
+use crate::frame::{Frame, Mark};
 use std::alloc::{AllocError, Global};
 use std::fmt;
 
@@ -23,42 +23,42 @@ fn edge(all: u128, bytes: u128) -> u128
     bytes * 1_000_000 / all
 }
 
-/// The left edge of a row's box.
-fn left(all: u128, row: &Row<'_>) -> u128
-    ensures { result ≡ left all (row_data row.now) }
+/// The left edge of a frame's box.
+fn left_edge(all: u128, frame: &Frame<'_>) -> u128
+    ensures { result ≡ left_edge all (frame_data frame.now) }
 {
-    edge(all, row.before as u128)
+    edge(all, frame.before as u128)
 }
 
-/// The width of a row's box.
-fn width(all: u128, row: &Row<'_>) -> u128
-    ensures { result ≡ width all (row_data row.now) }
+/// The width of a frame's box.
+fn width(all: u128, frame: &Frame<'_>) -> u128
+    ensures { result ≡ width all (frame_data frame.now) }
 {
-    let right = edge(all, row.before as u128 + row.whole as u128);
-    right.saturating_sub(left(all, row))
+    let right = edge(all, frame.before as u128 + frame.whole as u128);
+    right.saturating_sub(left_edge(all, frame))
 }
 
-/// Whether a row has a box: its width is neither 0 nor less than the least width.
-pub(crate) fn is_drawn(least: u32, all: u128, row: &Row<'_>) -> bool
-    ensures { result ≡ is_drawn least all (row_data row.now) }
+/// Whether a frame has a box: its width is neither 0 nor less than the least width.
+pub(crate) fn is_drawn(least: u32, all: u128, frame: &Frame<'_>) -> bool
+    ensures { result ≡ is_drawn least all (frame_data frame.now) }
 {
-    let width = width(all, row);
+    let width = width(all, frame);
     width != 0 && width >= least as u128
 }
 
-/// A row and the share of its bytes, printed as the row's bytes and their share of all.
+/// A frame and the share of its bytes, printed as the frame's bytes and their share of all.
 #[derive(Clone, Copy)]
 struct Declared<'a> {
     share: Percent,
-    row: Row<'a>,
+    frame: Frame<'a>,
 }
 
 #[tactic(auto, unfolding(crate::specs::Boxes::declared_text))]
 impl fmt::Display for Declared<'_> {
-    ghost output = { λ d. Some (declared_text d.share.0 (row_data d.row)) };
+    ghost output = { λ d. Some (declared_text d.share.0 (frame_data d.frame)) };
 
     fn fmt<W: fmt::Write>(&self, f: &mut fmt::Formatter<W>) -> fmt::Result {
-        let Row { own, whole, .. } = self.row;
+        let Frame { own, whole, .. } = self.frame;
         let (share, whole_bytes) = (self.share, Bytes(whole));
         if own == whole {
             return write!(f, "{whole_bytes}, {share}% of all");
@@ -71,37 +71,37 @@ impl fmt::Display for Declared<'_> {
     }
 }
 
-/// A row, printed as the title of its box after the key.
+/// A frame, printed as the title of its box after the key.
 #[derive(Clone, Copy)]
 struct Title<'a>(Declared<'a>);
 
 #[tactic(auto, unfolding(crate::specs::Boxes::title_text))]
 impl fmt::Display for Title<'_> {
-    ghost output = { λ t. Some (title_text t.0.share.0 t.0.row.mark (row_data t.0.row)) };
+    ghost output = { λ t. Some (title_text t.0.share.0 t.0.frame.mark (frame_data t.0.frame)) };
 
     fn fmt<W: fmt::Write>(&self, f: &mut fmt::Formatter<W>) -> fmt::Result {
         let declared = self.0;
-        match declared.row.mark {
+        match declared.frame.mark {
             Mark::Plain => write!(f, "{declared}"),
             Mark::Warned => write!(
                 f,
                 "{declared}\ndeclared smaller than its parts: see the warnings"
             ),
             Mark::Changed { was } => {
-                let after = declared.row.whole.saturating_sub(was);
-                write!(f, "{}", Comparison(Change { before: was, after }))
+                let after = declared.frame.whole.saturating_sub(was);
+                write!(f, "{}", Comparison(Difference { before: was, after }))
             }
         }
     }
 }
 
-/// A row, printed as the figure after its key.
+/// A frame, printed as the figure after its key.
 #[derive(Clone, Copy)]
-struct Figure<'a>(Row<'a>);
+struct Figure<'a>(Frame<'a>);
 
 #[tactic(auto, unfolding(crate::specs::Boxes::figure_text))]
 impl fmt::Display for Figure<'_> {
-    ghost output = { λ g. Some (figure_text g.0.mark (row_data g.0)) };
+    ghost output = { λ g. Some (figure_text g.0.mark (frame_data g.0)) };
 
     fn fmt<W: fmt::Write>(&self, f: &mut fmt::Formatter<W>) -> fmt::Result {
         let whole = self.0.whole;
@@ -109,21 +109,21 @@ impl fmt::Display for Figure<'_> {
             Mark::Plain | Mark::Warned => write!(f, "{}", Size(whole)),
             Mark::Changed { was } => {
                 let after = whole.saturating_sub(was);
-                write!(f, "{}", Change { before: was, after })
+                write!(f, "{}", Difference { before: was, after })
             }
         }
     }
 }
 
-/// Appends the beginning of a row's box.
-fn push_frame(all: u128, row: &Row<'_>, text: &mut String) -> Result<(), AllocError>
-    ensures { OnOk result (AppendsText text.old text.new (frame all (row_data row.now))) }
+/// Appends the beginning of a frame's box.
+fn push_viewport(all: u128, frame: &Frame<'_>, text: &mut String) -> Result<(), AllocError>
+    ensures { OnOk result (AppendsText text.old text.new (viewport all (frame_data frame.now))) }
 {
-    let units = width(all, row);
-    let (class, fit) = (Class(*row), fit(units, row.key.len()));
+    let units = width(all, frame);
+    let (class, fit) = (Class(*frame), fit(units, frame.key.len()));
     let (x, y, width) = (
-        Place(left(all, row)),
-        54 + 18 * row.depth as u128,
+        Place(left_edge(all, frame)),
+        54 + 18 * frame.depth as u128,
         Place(units),
     );
     write!(
@@ -133,20 +133,23 @@ fn push_frame(all: u128, row: &Row<'_>, text: &mut String) -> Result<(), AllocEr
     Ok(())
 }
 
-/// Appends the box of a row. The only error is that memory runs out.
+/// Appends the box of a frame. The only error is that memory runs out.
 pub(crate) fn push_element(
     alloc: Global,
     all: u128,
-    row: &Row<'_>,
+    frame: &Frame<'_>,
     text: &mut String,
 ) -> Result<(), AllocError>
-    ensures { OnOk result (AppendsText text.old text.new (element all (row_data row.now))) }
+    ensures { OnOk result (AppendsText text.old text.new (element all (frame_data frame.now))) }
 {
-    push_frame(all, row, text)?;
-    let key = escaped(alloc, row.key)?;
-    let share = Percent(edge(all, row.whole as u128));
-    let title = Title(Declared { share, row: *row });
-    let (paint, figure) = (Paint(*row), Figure(*row));
+    push_viewport(all, frame, text)?;
+    let key = escaped(alloc, frame.key)?;
+    let share = Percent(edge(all, frame.whole as u128));
+    let title = Title(Declared {
+        share,
+        frame: *frame,
+    });
+    let (paint, figure) = (Paint(*frame), Figure(*frame));
     write!(
         text,
         "<title>{key}\n{title}</title><rect width=\"100%\" height=\"100%\" rx=\"2\"{paint}/>\

@@ -1,28 +1,28 @@
 //! How the bytes of a path changed.
 ghost use Rattle.std.specs.Prelude.{◌≡◌, ◌+◌, ◌-◌, ◌*◌, ◌<◌, ◌≤◌, Some};
-ghost use Rattle.allocative_picture.specs.Rows.{row_data};
+ghost use Rattle.allocative_picture.specs.Frames.{frame_data};
 ghost use Rattle.allocative_picture.specs.Boxes.{shade, paint_text, change_text, both_text};
 
 use crate::figures::Size;
-use crate::row::{Mark, Row};
+use crate::frame::{Frame, Mark};
 use std::fmt;
 
 /// The bytes of a path in an earlier profile and in a later one. They are printed as their difference with a sign, for
 /// example `+1.5 KiB`, or as `unchanged`.
 #[derive(Clone, Copy)]
-pub(crate) struct Change {
+pub(crate) struct Difference {
     pub before: usize,
     pub after: usize,
 }
 
 /// A change, printed as the title of its box says it.
 #[derive(Clone, Copy)]
-pub(crate) struct Comparison(pub Change);
+pub(crate) struct Comparison(pub Difference);
 
-/// A row, printed as the paint of its box: red if bytes grew, blue if they shrank, and none if they are equal
+/// A frame, printed as the paint of its box: red if bytes grew, blue if they shrank, and none if they are equal
 /// or the class gives the colour.
 #[derive(Clone, Copy)]
-pub(crate) struct Paint<'a>(pub Row<'a>);
+pub(crate) struct Paint<'a>(pub Frame<'a>);
 
 /// One component of a colour. It is 236 if nothing changed, and reaches `full` when `change` is `all`.
 fn shade(full: u128, change: usize, all: u128) -> u128
@@ -34,11 +34,11 @@ fn shade(full: u128, change: usize, all: u128) -> u128
 }
 
 #[tactic(auto, unfolding(crate::specs::Boxes::change_text))]
-impl fmt::Display for Change {
+impl fmt::Display for Difference {
     ghost output = { λ c. Some (change_text c.before c.after) };
 
     fn fmt<W: fmt::Write>(&self, f: &mut fmt::Formatter<W>) -> fmt::Result {
-        let Change { before, after } = *self;
+        let Difference { before, after } = *self;
         if before == after {
             write!(f, "unchanged")
         } else if before < after {
@@ -55,7 +55,7 @@ impl fmt::Display for Comparison {
 
     fn fmt<W: fmt::Write>(&self, f: &mut fmt::Formatter<W>) -> fmt::Result {
         let change = self.0;
-        let Change { before, after } = change;
+        let Difference { before, after } = change;
         let (earlier, later) = (Size(before), Size(after));
         write!(f, "{earlier} before, {later} after")?;
         write!(f, " ({before} and {after} bytes)\n{change}")
@@ -64,7 +64,7 @@ impl fmt::Display for Comparison {
 
 #[tactic(auto, unfolding(crate::specs::Boxes::paint_text, crate::specs::Boxes::change_paint))]
 impl fmt::Display for Paint<'_> {
-    ghost output = { λ p. Some (paint_text (p.0).mark (row_data p.0)) };
+    ghost output = { λ p. Some (paint_text (p.0).mark (frame_data p.0)) };
 
     fn fmt<W: fmt::Write>(&self, f: &mut fmt::Formatter<W>) -> fmt::Result {
         let Mark::Changed { was } = self.0.mark else {

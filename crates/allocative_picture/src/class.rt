@@ -1,22 +1,22 @@
 //! The classes of boxes.
 ghost use Rattle.std.specs.Prelude.{◌≡◌, ◌+◌, ◌-◌, ◌*◌, ◌<◌, Some};
-ghost use Rattle.allocative_picture.specs.Rows.{row_data};
+ghost use Rattle.allocative_picture.specs.Frames.{frame_data};
 ghost use Rattle.allocative_picture.specs.Boxes.{class_text, change_class, fit_text};
 
-use crate::row::{Mark, Row};
+use crate::frame::{Frame, Mark};
 use allocative_graph::key::Key;
 use std::fmt;
 
-/// A row, printed as the class of its box.
+/// A frame, printed as the class of its box.
 #[derive(Clone, Copy)]
-pub(crate) struct Class<'a>(pub Row<'a>);
+pub(crate) struct Class<'a>(pub Frame<'a>);
 
 #[tactic(auto, unfolding(crate::specs::Boxes::class_text, crate::specs::Boxes::key_class))]
 impl fmt::Display for Class<'_> {
-    ghost output = { λ c. Some (class_text (c.0).mark (row_data c.0)) };
+    ghost output = { λ c. Some (class_text (c.0).mark (frame_data c.0)) };
 
     fn fmt<W: fmt::Write>(&self, f: &mut fmt::Formatter<W>) -> fmt::Result {
-        let Row {
+        let Frame {
             depth,
             key,
             whole,

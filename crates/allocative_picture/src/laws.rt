@@ -22,13 +22,13 @@ pub fn within_law()
     ensures { WithinLaw }
 {}
 
-/// Each row that is wide enough has one box, and no other row has one.
+/// Each frame that is wide enough has one box, and no other frame has one.
 #[tactic(auto, using(crate::proofs::Counting::boxes_are))]
 pub fn boxes_law()
     ensures { BoxesLaw }
 {}
 
-/// Each path of a graph occurs once among the entries from which the rows are made.
+/// Each path of a graph occurs once among the entries from which the frames are made.
 #[tactic(auto, using(crate::proofs::Counting::stands_once))]
 pub fn once_law()
     ensures { OnceLaw }

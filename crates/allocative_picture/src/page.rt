@@ -1,17 +1,17 @@
 //! The parts of a picture around its boxes.
 ghost use Rattle.std.specs.Prelude.{◌≡◌, ◌+◌, ◌*◌, ◌^◌, ◌<◌, ◌≤◌, Some, OnOk, map, flat_map};
 ghost use Rattle.allocative_graph.specs.Format.{AppendsText};
-ghost use Rattle.allocative_collectors.specs.Warned as held;
-ghost use Rattle.allocative_picture.specs.Rows.{row_data};
+ghost use Rattle.allocative_collectors.specs.Warned.{warning_of};
+ghost use Rattle.allocative_picture.specs.Frames.{frame_data};
 ghost use Rattle.allocative_picture.specs.Boxes.{element};
 ghost use Rattle.allocative_picture.specs.Page.{all_of, legend_of, subject_text, levels, opening, heading, warning_line, warning_lines};
 
 use crate::boxes::push_element;
-use crate::change::{Change, Comparison};
+use crate::change::{Comparison, Difference};
 use crate::escape::escaped;
 use crate::figures::Bytes;
 use crate::fixed::{LEGEND, STYLE, TOOLS};
-use crate::row::Row;
+use crate::frame::Frame;
 use allocative_collectors::output::WarnedPath;
 use std::alloc::{AllocError, Global};
 use std::fmt;
@@ -63,21 +63,21 @@ impl fmt::Display for Subject {
         match *self {
             Subject::Profile { bytes } => write!(f, "{} declared", Bytes(bytes)),
             Subject::Change { before, after } => {
-                write!(f, "{}", Comparison(Change { before, after }))
+                write!(f, "{}", Comparison(Difference { before, after }))
             }
         }
     }
 }
 
-/// The number of levels of boxes that the rows need.
+/// The number of levels of boxes that the frames need.
 #[tactic(auto, unfolding(crate::specs::Page::levels))]
-pub(crate) fn levels(rows: &[Row<'_>]) -> u128
-    ensures levels { result ≡ levels (map row_data rows.now) }
+pub(crate) fn levels(frames: &[Frame<'_>]) -> u128
+    ensures levels { result ≡ levels (map frame_data frames.now) }
     ensures bound { result ≤ 2 ^ 64 }
 {
     let mut levels = 0u128;
-    for row in rows {
-        levels = levels.max(row.depth as u128 + 1);
+    for frame in frames {
+        levels = levels.max(frame.depth as u128 + 1);
     }
     levels
 }
@@ -116,18 +116,18 @@ pub(crate) fn push_heading(
     Ok(())
 }
 
-/// Appends the boxes of rows.
+/// Appends the boxes of frames.
 pub(crate) fn push_boxes(
     alloc: Global,
     all: u128,
-    rows: &[Row<'_>],
+    frames: &[Frame<'_>],
     text: &mut String,
 ) -> Result<(), AllocError>
     ensures { OnOk result
-        (AppendsText text.old text.new (flat_map (element all) (map row_data rows.now))) }
+        (AppendsText text.old text.new (flat_map (element all) (map frame_data frames.now))) }
 {
-    for row in rows {
-        push_element(alloc, all, row, text)?;
+    for frame in frames {
+        push_element(alloc, all, frame, text)?;
     }
     Ok(())
 }
@@ -140,7 +140,7 @@ fn push_warning(
     text: &mut String,
 ) -> Result<(), AllocError>
     ensures { OnOk result
-        (AppendsText text.old text.new (warning_line y (held.warning_of warned.now))) }
+        (AppendsText text.old text.new (warning_line y (warning_of warned.now))) }
 {
     let mut said = String::new(alloc);
     warned.push_warning(&mut said)?;
@@ -161,7 +161,7 @@ pub(crate) fn push_warnings(
 ) -> Result<(), AllocError>
     requires { top < 2 ^ 80 }
     ensures { OnOk result
-        (AppendsText text.old text.new (warning_lines top (map held.warning_of warned.now))) }
+        (AppendsText text.old text.new (warning_lines top (map warning_of warned.now))) }
 {
     for (index, one) in warned.iter().enumerate() {
         push_warning(alloc, top + 16 * index as u128, one, text)?;

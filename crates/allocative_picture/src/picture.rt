@@ -2,15 +2,15 @@
 ghost use Rattle.std.specs.Prelude.{◌≡◌, ◌↔◌, IfErr, IsErrOf, map};
 ghost use Rattle.allocative_graph.specs.Format.{ReturnsText};
 ghost use Rattle.allocative_graph.specs.Graph.{ExceedWord};
-ghost use Rattle.allocative_picture.specs.Rows.{row_data, rows_of};
+ghost use Rattle.allocative_picture.specs.Frames.{frame_data, frames_of};
 ghost use Rattle.allocative_picture.specs.Marks.{mark_by};
 ghost use Rattle.allocative_picture.specs.Picture.{drawing, drawing_of, profile_drawing, change_drawing};
 
 use crate::fixed::CLOSING;
+use crate::frame::Frame;
+use crate::frames::{Marks, Shown, push_frames, push_wide};
 use crate::options::Options;
 use crate::page::{Subject, levels, push_boxes, push_heading, push_opening, push_warnings};
-use crate::row::Row;
-use crate::rows::{Marks, Shown, push_rows, push_wide};
 use crate::warned::graph_of_warned;
 use allocative_graph::flamegraph::FlameGraph;
 use allocative_graph::refusal::Refusal;
@@ -60,7 +60,7 @@ pub fn change_picture(
     Ok(draw_graph(alloc, subject, Marks::Earlier, before, &both, options)?)
 }
 
-// The picture of the rows of a flame graph, with the marks that another one gives.
+// The picture of the frames of a flame graph, with the marks that another one gives.
 fn draw_graph(
     alloc: Global,
     subject: Subject,
@@ -70,7 +70,7 @@ fn draw_graph(
     options: &Options<'_>,
 ) -> Result<String, AllocError>
     ensures { ReturnsText result
-        (drawing subject options.now (rows_of (mark_by marks other.now) graph.now)) }
+        (drawing subject options.now (frames_of (mark_by marks other.now) graph.now)) }
 {
     let shown = Shown {
         marks,
@@ -82,7 +82,7 @@ fn draw_graph(
     let (mut before, mut paths) = (0, 0);
     // The contract of `total_size` says that all bytes fit a `usize`, so no sum below overflows.
     let _all = graph.total_size();
-    push_rows(
+    push_frames(
         &shown,
         graph,
         Some(other),
@@ -94,42 +94,49 @@ fn draw_graph(
     draw_wide(alloc, subject, wide.as_slice(), paths, options)
 }
 
-/// The picture of some rows, as an SVG document. The rows are expected in the order of paths, with the totals of the
+/// The picture of some frames, as an SVG document. The frames are expected in the order of paths, with the totals of the
 /// subject. Otherwise the boxes may not fit together.
 ///
 /// The only error is that memory runs out.
 pub fn draw(
     alloc: Global,
     subject: Subject,
-    rows: &[Row<'_>],
+    frames: &[Frame<'_>],
     options: &Options<'_>,
 ) -> Result<String, AllocError>
-    ensures { ReturnsText result (drawing subject options.now (map row_data rows.now)) }
+    ensures { ReturnsText result (drawing subject options.now (map frame_data frames.now)) }
 {
     let mut wide = Vec::new(alloc);
-    for row in rows {
-        push_wide(options.narrowest, subject.all(), *row, &mut wide)?;
+    for frame in frames {
+        push_wide(options.narrowest, subject.all(), *frame, &mut wide)?;
     }
-    draw_wide(alloc, subject, wide.as_slice(), rows.len(), options)
+    draw_wide(alloc, subject, wide.as_slice(), frames.len(), options)
 }
 
-// The picture of so many paths, if the rows are those that are wide enough for a box.
+// The picture of so many paths, if the frames are those that are wide enough for a box.
 fn draw_wide(
     alloc: Global,
     subject: Subject,
-    rows: &[Row<'_>],
+    frames: &[Frame<'_>],
     paths: usize,
     options: &Options<'_>,
 ) -> Result<String, AllocError>
-    ensures { ReturnsText result (drawing_of subject options.now (map row_data rows.now) paths) }
+    ensures { ReturnsText result (drawing_of subject options.now (map frame_data frames.now) paths) }
 {
-    let bottom = 64 + 18 * levels(rows);
+    let bottom = 64 + 18 * levels(frames);
     let height = bottom + 8 + 16 * options.warned.len() as u128;
     let mut text = String::new(alloc);
     push_opening(height, &mut text)?;
-    push_heading(alloc, options.title, subject, rows.len(), paths, &mut text)?;
+    push_heading(
+        alloc,
+        options.title,
+        subject,
+        frames.len(),
+        paths,
+        &mut text,
+    )?;
     text.push_str(subject.legend())?;
-    push_boxes(alloc, subject.all(), rows, &mut text)?;
+    push_boxes(alloc, subject.all(), frames, &mut text)?;
     push_warnings(alloc, bottom + 14, options.warned, &mut text)?;
     text.push_str(CLOSING)?;
     Ok(text)

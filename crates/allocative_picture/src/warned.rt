@@ -1,10 +1,10 @@
 //! The paths that have a warning, as a flame graph.
 ghost use Rattle.std.specs.Prelude.{◌≡◌, IfOk, map};
 ghost use Rattle.allocative_graph.specs.Path.{Path};
-ghost use Rattle.allocative_collectors.specs.Warned as held;
-ghost use Rattle.allocative_picture.specs.Rows.{warned_mark};
+ghost use Rattle.allocative_collectors.specs.Warned.{warning_of};
+ghost use Rattle.allocative_picture.specs.Frames.{warned_mark};
 ghost use Rattle.allocative_picture.specs.Marks.{mark_by};
-ghost use Rattle.allocative_picture.specs.declared.rows.Marks.{Marks};
+ghost use Rattle.allocative_picture.specs.declared.frames.Marks.{Marks};
 
 use allocative_collectors::output::WarnedPath;
 use allocative_graph::flamegraph::{FlameGraph, add_at};
@@ -16,7 +16,7 @@ pub(crate) fn graph_of_warned(
     warned: &[WarnedPath],
 ) -> Result<FlameGraph, AllocError>
     ensures { IfOk result (λ graph. (p : Path)
-        → mark_by Marks.Warned graph p ≡ warned_mark (map held.warning_of warned.now) p) }
+        → mark_by Marks.Warned graph p ≡ warned_mark (map warning_of warned.now) p) }
 {
     let mut graph = FlameGraph::default(alloc);
     for one in warned {

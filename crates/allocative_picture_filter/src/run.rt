@@ -2,6 +2,7 @@
 ghost use Rattle.std.specs.Prelude.{◌≡◌, ◌≢◌, ◌⊎◌, ◌&&◌, ◌==◌, ℕ, OnOk, IfOk, IfErr, IfSome, List, map, string_bytes};
 ghost use Rattle.std.specs.Io.KnownBytes.{Appends};
 ghost use Rattle.allocative_graph.specs.Graph.{default, total};
+ghost use Rattle.allocative_io.specs.Streams.{AppendsBeginning};
 ghost use Rattle.allocative_picture_filter.specs.Fault.{status_of, IsUnread};
 ghost use Rattle.allocative_picture_filter.specs.declared.run.TheConstants.{USAGE};
 ghost use Rattle.allocative_picture_filter.specs.Run.{sourced, without_mark, later_texts, Reads, Adds, AddUp, StopsReading, StopsAdding, StopsAddingUp, StopsProfile, Stops, IsMade, IsStopped};
@@ -10,10 +11,11 @@ use crate::arguments::Arguments;
 use crate::fault::{Fault, Source};
 use allocative_graph::flamegraph::FlameGraph;
 use allocative_graph::read::ReadFault;
+use allocative_io::{Unread, read_input, write_text};
 use allocative_picture::options::Options;
 use allocative_picture::picture::{change_picture, picture};
 use std::alloc::Global;
-use std::io::{ErrorKind, Read, Write};
+use std::io::{Read, Write};
 
 /// How the program is used.
 pub const USAGE: &str =
@@ -48,7 +50,7 @@ fn without_mark(bytes: &'static [u8]) -> &'static [u8]
 }
 
 /// Reads all bytes of a reader, and leaves out a byte-order mark at their beginning. It fails with `Fault::Reading` if
-/// a read fails. The only other error is `Fault::Memory`. An interrupted read is repeated.
+/// a read fails. The only other error is `Fault::Memory`.
 pub fn read_text<'a, R: Read>(
     alloc: Global,
     source: Source<'a>,
@@ -59,33 +61,14 @@ pub fn read_text<'a, R: Read>(
     ensures source { IfOk result (λ text. text.source ≡ source.entry) }
     ensures err { IfErr result (λ f. (f ≡ Fault.Memory) ⊎ IsUnread source.entry f) }
 {
-    let mut bytes = Vec::new(alloc);
-    let mut piece = [0u8; 4096];
-    for _ in 0..u64::MAX {
-        match input.read(&mut piece) {
-            Ok(0) => {
-                return Ok(Text {
-                    source,
-                    bytes: without_mark(bytes.leak()),
-                });
-            }
-            Ok(count) => bytes.extend_from_slice(&piece[..count])?,
-            Err(error) if error.kind() == ErrorKind::Interrupted => {}
-            Err(error) => return Err(Fault::Reading(source, error.kind())),
-        }
+    match read_input(alloc, input) {
+        Ok(bytes) => Ok(Text {
+            source,
+            bytes: without_mark(bytes.leak()),
+        }),
+        Err(Unread::Memory) => Err(Fault::Memory),
+        Err(Unread::Failed(kind)) => Err(Fault::Reading(source, kind)),
     }
-    Err(Fault::Reading(source, ErrorKind::Other))
-}
-
-// Writes the whole text.
-fn write_text<W: Write>(output: &mut W, text: &str) -> Result<(), Fault<'static>>
-    ensures ok { OnOk result (Appends (W.contents output.old) (W.contents output.new) text.now) }
-    ensures err { IfErr result (λ f. f ≡ Fault.Writing) }
-{
-    if output.write_all(text.as_bytes()).is_err() || output.flush().is_err() {
-        return Err(Fault::Writing);
-    }
-    Ok(())
 }
 
 /// Writes the line of a fault, and returns its status. A line that cannot be written does not change the status.
@@ -97,14 +80,15 @@ pub fn tell<E: Write>(errors: &mut E, fault: Fault<'_>) -> u8
     fault.status()
 }
 
-/// Writes how the program is used, and returns the status: 0, or 7 if that cannot be written.
+/// Writes how the program is used, and returns the status: 0, or 7 if a write fails, and a beginning of it is written.
 pub fn show_usage<W: Write, E: Write>(output: &mut W, errors: &mut E) -> u8
     ensures shown { result ≡ 0 → Appends (W.contents output.old) (W.contents output.new) USAGE.now }
-    ensures unwritten { result ≢ 0 → result ≡ 7 }
+    ensures unwritten { result ≢ 0 → (result ≡ 7)
+        × AppendsBeginning (W.contents output.old) (W.contents output.new) USAGE.now }
 {
     match write_text(output, USAGE) {
         Ok(()) => 0,
-        Err(fault) => tell(errors, fault),
+        Err(_) => tell(errors, Fault::Writing),
     }
 }
 
@@ -208,9 +192,10 @@ fn make<'a, R: Read>(
 /// Runs the program but for reading its arguments and files, and returns the status.
 ///
 /// With status 0 what the arguments ask for is on the output: the picture of the graph that all texts add up to, that
-/// of the change to it from the graph of the earlier texts, or its text. With any other status the line of the fault
-/// goes to the errors, and nothing goes to the output, except for status 7. The earlier texts are added up first, then
-/// the others, and the input last. The status is that of the first fault:
+/// of the change to it from the graph of the earlier texts, or its text. With status 7 a beginning of that is on the
+/// output. With any other status nothing goes to the output. With every status but 0 the line of the fault goes to the
+/// errors. The earlier texts are added up first, then the others, and the input last. The status is that of the first
+/// fault:
 /// - 1 that memory runs out,
 /// - 2 that a line of a text is not a path, a space and a number of bytes, or has too many keys,
 /// - 3 that a text is not UTF-8,
@@ -231,7 +216,8 @@ pub fn run<'a, R: Read, W: Write, E: Write>(
         (λ known. (made : List ℕ) × IsMade asked.now before.now (later_texts after.now asked.now.reads_input known) made
         × Appends (W.contents output.old) (W.contents output.new) made) }
     ensures unwritten { result ≡ 7 → IfSome (R.remaining input.old)
-        (λ known. (made : List ℕ) × IsMade asked.now before.now (later_texts after.now asked.now.reads_input known) made) }
+        (λ known. (made : List ℕ) × IsMade asked.now before.now (later_texts after.now asked.now.reads_input known) made
+        × AppendsBeginning (W.contents output.old) (W.contents output.new) made) }
     ensures stopped { result ≢ 0 → result ≢ 7
         → IfSome (R.remaining input.old) (λ known. IsStopped asked.now before.now after.now known result) }
     ensures untouched { result ≢ 0 → result ≢ 7 → output.new ≡ output.old }
@@ -239,7 +225,7 @@ pub fn run<'a, R: Read, W: Write, E: Write>(
     match make(alloc, asked, before, after, input) {
         Ok(text) => match write_text(output, text.as_str()) {
             Ok(()) => 0,
-            Err(fault) => tell(errors, fault),
+            Err(_) => tell(errors, Fault::Writing),
         },
         Err(fault) => tell(errors, fault),
     }

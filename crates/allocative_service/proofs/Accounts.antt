@@ -2,11 +2,11 @@
 use Rattle.std.proofs.Common.{◌≡◌, ◌≢◌, ◌∙◌, ℕ, ◌+◌, ◌≤◌, Bool, false, List, Option, Some, None, refl, sym, ap, arith}
 use Rattle.std.proofs.Common.{subst, nat_cmp, string_bytes, IfNone, IfSome, OnErr, OnOk, Result, Ok, Err, String}
 use Rattle.std.proofs.Common.{unwrap_or, Global}
-use Rattle.allocative_service.proofs.Common.{Holding, ChangesAccount, is_at, lookup, remove_entry}
+use Rattle.allocative_service.proofs.Common.{AccountData, ChangesAccount, is_at, lookup, remove_entry}
 use Rattle.std.specs.BTreeMap.{BTreeMap, UpdatesBy, WritesThrough, get_by_text, insert_entry}
 use Rattle.std.specs.Cmp.Lexicographic.{slice_cmp}
 use Rattle.std.specs.List.Sorted.{IsStrictlySortedBy}
-use Rattle.std.specs.Map.{keys_of, set_value}
+use Rattle.std.specs.Map.{keys_of}
 use Rattle.std.specs.Option.{is_some, option_and_then}
 use Rattle.std.specs.Str.{bytes_eq}
 use Rattle.std.specs.String.{string_cmp, string_cmp_total}
@@ -17,13 +17,13 @@ use Rattle.std.proofs.lemmas.Map.Steps.{set_value_same}
 use Rattle.std.proofs.lemmas.Map.Text.{btree_map_updates_text}
 use Rattle.std.proofs.lemmas.Slice.Eq.{bytes_eq-Decides}
 use Rattle.allocative_service.specs.declared.ledger.Ledger.{Ledger}
-use Rattle.allocative_service.specs.Holding.{all_bytes, bytes_at, sum_of}
+use Rattle.allocative_service.specs.AccountData.{all_bytes, bytes_at, sum_of}
 use Rattle.allocative_service.specs.Accounts.{SameTerms}
 use Rattle.allocative_service.proofs.Sums.{had_within}
 
 -- All accounts, by their tenants' names.
 abbrev Accounts : Type 0
-Accounts = BTreeMap (String Global) Holding
+Accounts = BTreeMap (String Global) AccountData
 
 -- Whether a name is that of the tenant.
 abbrev is_tenant : List ℕ → String Global → Bool
@@ -31,12 +31,12 @@ is_tenant tenant = is_at (λ k. slice_cmp nat_cmp tenant (string_bytes k))
 
 -- ---- one account
 -- The tenant now has this account, or none, and no other account has changed.
-pub record ChangesOne (tenant : List ℕ) (now : Option Holding) (old new : Accounts) : Type 0 where
+pub record ChangesOne (tenant : List ℕ) (now : Option AccountData) (old new : Accounts) : Type 0 where
   pub changed : get_by_text new tenant ≡ now
   pub others : (other : List ℕ) → other ≢ tenant → get_by_text new other ≡ get_by_text old other
 
 -- Updating the map under a tenant's name changes the account of this tenant and no other.
-pub changes : (tenant : List ℕ) (now : Option Holding) (old new : Accounts) →
+pub changes : (tenant : List ℕ) (now : Option AccountData) (old new : Accounts) →
     UpdatesBy string_cmp (λ k. slice_cmp nat_cmp tenant (string_bytes k)) old new now → ChangesOne tenant now old new
 changes tenant now old new h = record {
   changed = h.1;
@@ -48,60 +48,60 @@ changes tenant now old new h = record {
 }
 
 -- A ledger whose accounts have changed so, on the same terms.
-pub in_ledger : (tenant : List ℕ) (now : Option Holding) (old new : Ledger) →
+pub in_ledger : (tenant : List ℕ) (now : Option AccountData) (old new : Ledger) →
     ChangesOne tenant now old.accounts new.accounts → SameTerms old new → ChangesAccount tenant now old new
 in_ledger tenant now old new c same = record { changed = c.changed; others = c.others; terms = same }
 
 -- What is written through the account that `get_mut` lent: the account changes and no other. The sum of all changes
 -- by as much as that of the account. If the account stays as it is, so do all.
-pub record Written (tenant : List ℕ) (before now : Holding) (old new : Accounts) : Type 0 where
+pub record Written (tenant : List ℕ) (before now : AccountData) (old new : Accounts) : Type 0 where
   pub one : ChangesOne tenant (Some now) old new
   pub all : all_bytes new.entries + sum_of before.entries ≡ all_bytes old.entries + sum_of now.entries
   pub same : now ≡ before → new.entries ≡ old.entries
 
 -- A write through the account that `get_mut` lent changes this account, and the sum by as much.
-pub written : (tenant : List ℕ) (before now : Holding) (old new : Accounts) → Some before ≡ get_by_text old tenant
+pub written : (tenant : List ℕ) (before now : AccountData) (old new : Accounts) → Some before ≡ get_by_text old tenant
     → WritesThrough string_cmp (λ k. slice_cmp nat_cmp tenant (string_bytes k)) old now new →
     Written tenant before now old new
 written tenant before now old new account w = record {
   one = changes tenant (Some now) old new (w.3 (rw (← account) refl));
-  all = rw w.0 (sum_by-set_value (λ (h : Holding). sum_of h.entries) (is_tenant tenant) old.entries before now
+  all = rw w.0 (sum_by-set_value (λ (h : AccountData). sum_of h.entries) (is_tenant tenant) old.entries before now
       (sym account));
   same = λ is. w.0 ∙ set_value_same _ old.entries now (sym account ∙ ap Some (sym is));
 }
 
 -- Inserting an account under a tenant's name changes the account of this tenant and no other.
-pub opens : (tenant : List ℕ) (name : String Global) (now : Holding) (old new : Accounts) → string_bytes name ≡ tenant →
+pub opens : (tenant : List ℕ) (name : String Global) (now : AccountData) (old new : Accounts) → string_bytes name ≡ tenant →
     UpdatesBy string_cmp (string_cmp name) old new (Some now) → ChangesOne tenant (Some now) old new
 opens tenant name now old new same h = subst (λ (t : List ℕ). ChangesOne t (Some now) old new) same
     (changes (string_bytes name) (Some now) old new h)
 
 -- ---- the sum of all accounts
 -- A new account without bytes leaves the sum as it is.
-pub all_bytes-open : (tenant : List ℕ) (name : String Global) (now : Holding) (old : Accounts) →
+pub all_bytes-open : (tenant : List ℕ) (name : String Global) (now : AccountData) (old : Accounts) →
     string_bytes name ≡ tenant → get_by_text old tenant ≡ None → sum_of now.entries ≡ 0 →
     IsStrictlySortedBy string_cmp (keys_of old.entries)
     → all_bytes (insert_entry string_cmp old.entries name now) ≡ all_bytes old.entries
 all_bytes-open tenant name now old same none empty sorted =
     let here : lookup (is_at (string_cmp name)) old.entries ≡ None =
     subst (λ (t : List ℕ). get_by_text old t ≡ None) (sym same) none in
-    let sum = rw here at (sum_by-insert_entry (λ (h : Holding). sum_of h.entries) string_cmp_total old.entries name now
+    let sum = rw here at (sum_by-insert_entry (λ (h : AccountData). sum_of h.entries) string_cmp_total old.entries name now
     sorted) in
     omega (arith, sum, empty)
 
 -- Without one account the sum is less by its bytes.
-pub all_bytes-close : (tenant : List ℕ) (old : Accounts) (h : Holding) → Some h ≡ get_by_text old tenant →
+pub all_bytes-close : (tenant : List ℕ) (old : Accounts) (h : AccountData) → Some h ≡ get_by_text old tenant →
     all_bytes (remove_entry (is_tenant tenant) old.entries) + sum_of h.entries ≡ all_bytes old.entries
 all_bytes-close tenant old h account = rw (sym account)
-    at (sum_by-remove_entry (λ (h : Holding). sum_of h.entries) (is_tenant tenant) old.entries)
+    at (sum_by-remove_entry (λ (h : AccountData). sum_of h.entries) (is_tenant tenant) old.entries)
 
 -- The bytes of one account are part of the sum.
-pub account_within : (tenant : List ℕ) (old : Accounts) (h : Holding) → get_by_text old tenant ≡ Some h →
+pub account_within : (tenant : List ℕ) (old : Accounts) (h : AccountData) → get_by_text old tenant ≡ Some h →
     sum_of h.entries ≤ all_bytes old.entries
 account_within tenant old h account = omega (arith, all_bytes-close tenant old h (sym account))
 
 -- The bytes under a number of an account are part of its bytes.
-pub had_in_account : (number had : ℕ) (o : Option Holding) → had ≡ unwrap_or (option_and_then (bytes_at number) o) 0 →
+pub had_in_account : (number had : ℕ) (o : Option AccountData) → had ≡ unwrap_or (option_and_then (bytes_at number) o) 0 →
     IfSome o (λ h. had ≤ sum_of h.entries)
 had_in_account number had None is = tt
 had_in_account number had (Some h) is = rw is (had_within number h.entries)

@@ -7,5 +7,5 @@ pub use Rattle.allocative_service.specs.Accounts.{ChangesAccount}
 pub use Rattle.allocative_service.specs.Changes.{Changed, HasEach, changes_of, is_grown, lines_of, change_data}
 pub use Rattle.allocative_service.specs.Entries.{Bounded, Entries, IsBounded, IsMeasured, KeepsRecent, bounded}
 pub use Rattle.allocative_service.specs.Entries.{bytes_of}
-pub use Rattle.allocative_service.specs.Holding.{Holding}
+pub use Rattle.allocative_service.specs.AccountData.{AccountData}
 pub use Rattle.allocative_service.specs.declared.cache.Kept.{Kept}

@@ -8,7 +8,7 @@ use Rattle.std.specs.Map.{keys_of}
 use Rattle.std.specs.Option.{unwrap_or}
 use Rattle.std.proofs.lemmas.Iterator.Adapters.{option_map_id}
 use Rattle.std.proofs.lemmas.Map.Entries.{sum_by-insert_entry, sum_by-remove_entry}
-use Rattle.allocative_service.specs.Holding.{sum_of}
+use Rattle.allocative_service.specs.AccountData.{sum_of}
 
 -- An insertion adds the bytes of the entry to the sum, and takes off those that it had.
 pub sum_of-insert_entry : (number bytes : ℕ) (entries : List (ℕ × ℕ)) → IsStrictlySortedBy nat_cmp (keys_of entries) →

@@ -8,7 +8,7 @@ use Rattle.std.proofs.lemmas.List.Concat.{flat_map-append}
 use Rattle.std.proofs.lemmas.List.Folds.{flat_map-map}
 use Rattle.allocative.specs.Path.{Key, Path}
 use Rattle.allocative.specs.Graph.{Graph, size_at, sum_of, IsBehind, HasNothing}
-use Rattle.allocative_graph.specs.Reads.{under_rows, rows_of, rows_of_child, node}
+use Rattle.allocative_graph.specs.Rows.{under_rows, rows_of, rows_of_child, node}
 use Rattle.allocative_graph.specs.declared.flamegraph.Child.{Child}
 use Rattle.allocative_graph.specs.Representation.Children.{InOrder}
 use Rattle.allocative_graph.specs.Representation.NodeRows.{entries-node}

@@ -7,15 +7,15 @@ use Rattle.allocative_service.specs.declared.ledger.Ledger.{Ledger}
 use Rattle.allocative_service.specs.declared.ledger.rejection.Rejection.{Rejection}
 use Rattle.allocative_service.specs.declared.ledger.rejection.Rejection.TheVariants.{LedgerFull, NotKept, TooLarge}
 use Rattle.allocative_service.specs.declared.measure.Measure.{Measure}
-use Rattle.allocative_service.specs.Holding.{Holding, all_bytes, bytes_at, sum_of, without, Puts}
+use Rattle.allocative_service.specs.AccountData.{AccountData, all_bytes, bytes_at, sum_of, without, Puts}
 use Rattle.allocative_service.specs.Rejected.{RejectsBytes}
 
 -- All accounts, each with its tenant's name.
-abbrev pub accounts_of : Ledger → List (String Global × Holding)
+abbrev pub accounts_of : Ledger → List (String Global × AccountData)
 accounts_of l = l.accounts.entries
 
 -- The account of the tenant with this name.
-abbrev pub account_of : List ℕ → Ledger → Option Holding
+abbrev pub account_of : List ℕ → Ledger → Option AccountData
 account_of tenant l = get_by_text l.accounts tenant
 
 -- The bytes of the tenant's entry under the number.
@@ -44,22 +44,22 @@ IsUnchanged old new = (accounts_of new ≡ accounts_of old) × SameTerms old new
 
 -- The tenant now has this account, or none. The accounts of all other tenants, the measure and the limit of the
 -- ledger are unchanged.
-pub record ChangesAccount (tenant : List ℕ) (now : Option Holding) (old new : Ledger) : Type 0 where
+pub record ChangesAccount (tenant : List ℕ) (now : Option AccountData) (old new : Ledger) : Type 0 where
   pub changed : account_of tenant new ≡ now
   pub others : (other : List ℕ) → other ≢ tenant → account_of other new ≡ account_of other old
   pub terms : SameTerms old new
 
 -- The tenant's account is now what f makes of it, and no other changes.
-pub record MapsAccount (tenant : List ℕ) (f : Holding → Holding) (old new : Ledger) : Type 0 where
-  pub before : Holding
+pub record MapsAccount (tenant : List ℕ) (f : AccountData → AccountData) (old new : Ledger) : Type 0 where
+  pub before : AccountData
   pub account : account_of tenant old ≡ Some before
   pub change : ChangesAccount tenant (Some (f before)) old new
 
 -- In the tenant's account, the number now has these bytes in place of `had`, and all bytes of that account together
 -- are `total`.
 pub record Enters (tenant : List ℕ) (number bytes : ℕ) (had : Option ℕ) (old new : Ledger) (total : ℕ) : Type 0 where
-  pub before : Holding
-  pub after : Holding
+  pub before : AccountData
+  pub after : AccountData
   pub account : account_of tenant old ≡ Some before
   pub puts : Puts number bytes had before after total
   pub change : ChangesAccount tenant (Some after) old new
@@ -68,7 +68,7 @@ pub record Enters (tenant : List ℕ) (number bytes : ℕ) (had : Option ℕ) (o
 -- The number had these bytes in the tenant's account, and its entry is gone. The sum of the account, and that of all
 -- accounts, is less by exactly these bytes.
 pub record Releases (tenant : List ℕ) (number : ℕ) (old new : Ledger) (bytes : ℕ) : Type 0 where
-  pub before : Holding
+  pub before : AccountData
   pub account : account_of tenant old ≡ Some before
   pub had_bytes : bytes_at number before ≡ Some bytes
   pub sum_is : sum_of (without number before).entries + bytes ≡ sum_of before.entries
@@ -77,7 +77,7 @@ pub record Releases (tenant : List ℕ) (number : ℕ) (old new : Ledger) (bytes
 
 -- Replacing the `had` bytes of one entry of this account by `bytes` is rejected. The new sum of all accounts exceeds a
 -- word, or the account rejects it, or its new sum is within its limit and that of all accounts exceeds the ledger's.
-abbrev pub RejectsPut : Ledger → ℕ → ℕ → Holding → Rejection → Type 0
+abbrev pub RejectsPut : Ledger → ℕ → ℕ → AccountData → Rejection → Type 0
 RejectsPut l had bytes h TooLarge = 2 ^ 64 + had ≤ total_of l + bytes
 RejectsPut l had bytes h (LedgerFull b n) = (b + had ≡ total_of l + bytes) × (n ≡ limit_of l) × (limit_of l < b)
     × (sum_of h.entries + bytes ≤ h.limit + had)

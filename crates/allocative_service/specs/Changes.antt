@@ -1,13 +1,13 @@
 -- The differences between two profiles.
-use Rattle.std.specs.Prelude.{◌≡◌, ℕ, ◌+◌, ◌-◌, ◌^◌, ◌<◌, ◌≤◌, ◌==◌, Bool, ◌&&◌, cond, nat_lt, List, ◌++◌, ◌∷◌, []}
+use Rattle.std.specs.Prelude.{◌≡◌, ℕ, ◌+◌, ◌-◌, ◌^◌, ◌<◌, ◌≤◌, ◌==◌, Bool, cond, nat_lt, List, ◌++◌, ◌∷◌, []}
 use Rattle.std.specs.Prelude.{length, map, filter, flat_map, min, sum_by, All, AllPairs, codes, decimal}
 use Rattle.std.specs.List.Sorted.{IsPermutation}
 use Rattle.std.specs.FinMap.{keys}
 use Rattle.allocative.specs.Path.{Path, is_same_path}
 use Rattle.allocative.specs.Graph.{Graph, size_at, sum_of, joined}
 use Rattle.allocative_service.specs.declared.history.changes.Change.{Change}
-use Rattle.allocative_service.specs.declared.history.changes.Kind.{Kind}
-use Rattle.allocative_service.specs.declared.history.changes.Kind.TheVariants.{Grew, Shrank, Came, Went}
+use Rattle.allocative_service.specs.declared.history.changes.ChangeKind.{ChangeKind}
+use Rattle.allocative_service.specs.declared.history.changes.ChangeKind.TheVariants.{Grew, Shrank, Came, Went}
 
 -- A path, and its own bytes in two profiles.
 pub record Changed : Type 0 where
@@ -37,13 +37,10 @@ changes_of g h = flat_map (change_of g h) (keys (sum_of g h))
 abbrev pub HasEach : Graph → Graph → List Changed → Type 0
 HasEach g h cs = (p : Path) → filter (λ c. is_same_path p c.path) cs ≡ change_of g h p
 
--- Whether a change is of this kind. A path came if it had no bytes before, and went if it has none after. A path that
--- grew or shrank has bytes in both profiles.
-abbrev pub is_kind : Kind → Changed → Bool
-is_kind Grew c = nat_lt 0 c.earlier && nat_lt c.earlier c.later
-is_kind Shrank c = nat_lt 0 c.later && nat_lt c.later c.earlier
-is_kind Came c = c.earlier == 0
-is_kind Went c = c.later == 0
+-- The kind of a change. A path came if it had no bytes before, and went if it has none after. A path that grew or
+-- shrank has bytes in both profiles.
+abbrev pub kind_of : Changed → ChangeKind
+kind_of c = cond (c.earlier == 0) Came (cond (c.later == 0) Went (cond (nat_lt c.earlier c.later) Grew Shrank))
 
 -- The number of bytes by which a path grew, which is 0 if it shrank.
 abbrev pub growth : Changed → ℕ

@@ -112,9 +112,9 @@ module _ {V : Type 0} (size : Option ℕ) (may_show : V → Forest → Type 0) w
   -- Why a cache with this measure and this bound refuses v: a figure of v exceeds the bound, or v could not be
   -- measured, as the measure says, or a figure of v is within the bound and memory runs out.
   abbrev pub RefusesInsert : Bool → V → Measure → ℕ → CacheError → Type 0
-  RefusesInsert is_exact v m bound (TooLarge bytes most) = IsFigure m v bytes × (most ≡ bound) × (bound < bytes)
-  RefusesInsert is_exact v m bound (NotMeasured e) = MayRefuseMeasure m is_exact size (may_show v) e
-  RefusesInsert is_exact v m bound Memory = (bytes : ℕ) × IsFigure m v bytes × (bytes ≤ bound)
+  RefusesInsert is_strict v m bound (TooLarge bytes most) = IsFigure m v bytes × (most ≡ bound) × (bound < bytes)
+  RefusesInsert is_strict v m bound (NotMeasured e) = MayRefuseMeasure m is_strict size (may_show v) e
+  RefusesInsert is_strict v m bound Memory = (bytes : ℕ) × IsFigure m v bytes × (bytes ≤ bound)
 
   module _ {K : Type 0} where
     -- ---- what the cache promises
@@ -148,5 +148,5 @@ module _ {V : Type 0} (size : Option ℕ) (may_show : V → Forest → Type 0) w
     -- The value of the key that passes the test was changed as `changed` says, and inserting it again is refused. The
     -- refusal has the key and the changed value.
     abbrev pub RefusesChange : Bool → (K → Bool) → (V → V → Type 0) → Bounded K V → Refused K V → Type 0
-    RefusesChange is_exact test changed old r = (had : Kept V) × (lookup_entry test old.entries ≡ Some (r.key, had))
-        × changed had.value r.value × RefusesInsert is_exact r.value old.measure old.bound r.error
+    RefusesChange is_strict test changed old r = (had : Kept V) × (lookup_entry test old.entries ≡ Some (r.key, had))
+        × changed had.value r.value × RefusesInsert is_strict r.value old.measure old.bound r.error

@@ -1,5 +1,5 @@
 pub mod Measured
-pub mod Holding
+pub mod AccountData
 pub mod Accounts
 pub mod Rejected
 pub mod Told

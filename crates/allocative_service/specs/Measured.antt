@@ -1,6 +1,6 @@
 -- The bytes that are counted of a value.
 use Rattle.std.specs.Prelude.{◌≡◌, ℕ, Bool, Option}
-use Rattle.allocative.specs.Exact.{MayRefuseProfile}
+use Rattle.allocative.specs.Strict.{MayRefuseProfile}
 use Rattle.allocative.specs.Graph.{Graph, total}
 use Rattle.allocative.specs.Refusal.{Refusal}
 use Rattle.allocative.specs.Shows.{Showing}
@@ -19,9 +19,9 @@ Declares Owned size p bytes = IsSizeOfOwned p bytes
 Declares Shown size p bytes = IsSizeOfShown p bytes
 Declares Unique size p bytes = IsSizeOfUnique size p bytes
 
--- Why a value is not measured. One of an exact type is refused as `size_of_owned`
+-- Why a value is not measured. One of a strict type is refused as `size_of_owned`
 -- of it, as a profile of it, or as `size_of_unique` of it.
 abbrev pub MayRefuseMeasure : Measure → Bool → Option ℕ → Showing → Refusal → Type 0
-MayRefuseMeasure Owned is_exact size p e = MayRefuseOwned is_exact p e
-MayRefuseMeasure Shown is_exact size p e = MayRefuseProfile is_exact p e
-MayRefuseMeasure Unique is_exact size p e = MayRefuseSize is_exact size p e
+MayRefuseMeasure Owned is_strict size p e = MayRefuseOwned is_strict p e
+MayRefuseMeasure Shown is_strict size p e = MayRefuseProfile is_strict p e
+MayRefuseMeasure Unique is_strict size p e = MayRefuseSize is_strict size p e

@@ -1,5 +1,5 @@
 -- Why data is not admitted.
-use Rattle.std.specs.Prelude.{◌≡◌, ◌⊎◌, ℕ, ◌+◌, ◌^◌, ◌<◌, ◌≤◌, Bool, Option, Some, None, IsSome, ⊤}
+use Rattle.std.specs.Prelude.{◌≡◌, ◌⊎◌, ℕ, ◌+◌, ◌^◌, ◌<◌, ◌≤◌, Bool, Option, Some, None, IsSome}
 use Rattle.allocative.specs.Refusal.{Refusal}
 use Rattle.allocative.specs.Shows.{Showing}
 use Rattle.allocative_service.specs.declared.ledger.rejection.Rejection.{Rejection}
@@ -9,7 +9,7 @@ use Rattle.allocative_service.specs.declared.ledger.rejection.Rejection.TheVaria
 use Rattle.allocative_service.specs.declared.ledger.rejection.Rejection.TheVariants.{TooLarge}
 use Rattle.allocative_service.specs.declared.measure.Measure.{Measure}
 use Rattle.allocative_service.specs.Measured.{Declares, MayRefuseMeasure}
-use Rattle.allocative_service.specs.Holding.{Holding, sum_of, bytes_at}
+use Rattle.allocative_service.specs.AccountData.{AccountData, sum_of, bytes_at}
 
 -- The rejection has the requested bytes and the limit that they exceed.
 abbrev pub IsOverBudget : ℕ → ℕ → Rejection → Type 0
@@ -18,14 +18,14 @@ IsOverBudget bytes limit _ = ⊥
 
 -- A value by itself is rejected: it declares more than the limit, or it could not be measured, as the measure says.
 abbrev pub RejectsValue : Measure → Bool → Option ℕ → Showing → ℕ → Rejection → Type 0
-RejectsValue measure is_exact size p limit (OverBudget b l) =
+RejectsValue measure is_strict size p limit (OverBudget b l) =
     Declares measure size p b × (l ≡ limit) × (limit < b)
-RejectsValue measure is_exact size p limit (NotMeasured e) = MayRefuseMeasure measure is_exact size p e
-RejectsValue measure is_exact size p limit _ = ⊥
+RejectsValue measure is_strict size p limit (NotMeasured e) = MayRefuseMeasure measure is_strict size p e
+RejectsValue measure is_strict size p limit _ = ⊥
 
 -- Replacing the `had` bytes of one entry of an account by `bytes` is rejected. The new sum exceeds a word, or it
 -- exceeds the limit, or it is within the limit and memory runs out.
-abbrev pub RejectsBytes : ℕ → ℕ → Holding → Rejection → Type 0
+abbrev pub RejectsBytes : ℕ → ℕ → AccountData → Rejection → Type 0
 RejectsBytes had bytes h TooLarge = 2 ^ 64 + had ≤ sum_of h.entries + bytes
 RejectsBytes had bytes h (OverBudget b l) = (b + had ≡ sum_of h.entries + bytes) × (l ≡ h.limit) × (h.limit < b)
 RejectsBytes had bytes h NotKept = sum_of h.entries + bytes ≤ h.limit + had
@@ -33,24 +33,24 @@ RejectsBytes had bytes h _ = ⊥
 
 -- Taking `less` bytes off the `had` bytes of an entry is rejected. There are fewer, as the rejection says, or memory
 -- runs out.
-abbrev pub RejectsCredit : ℕ → ℕ → Holding → Rejection → Type 0
+abbrev pub RejectsCredit : ℕ → ℕ → AccountData → Rejection → Type 0
 RejectsCredit less had h (OverCredit b n) = (b ≡ had) × (n ≡ less) × (had < less)
 RejectsCredit less had h NotKept = less ≤ had
 RejectsCredit less had h _ = ⊥
 
 -- A new entry under a number is rejected. The number has an entry, as the rejection says, or it has none and P says
 -- why.
-abbrev pub RejectsNew : ℕ → (Holding → Rejection → Type 0) → Holding → Rejection → Type 0
+abbrev pub RejectsNew : ℕ → (AccountData → Rejection → Type 0) → AccountData → Rejection → Type 0
 RejectsNew number P h r = ((r ≡ Taken number) × IsSome (bytes_at number h)) ⊎ ((bytes_at number h ≡ None) × P h r)
 
 -- A change of the entry under a number is rejected. The number has no entry, as the rejection says, or P says of the
 -- entry's bytes why.
-abbrev pub RejectsChange : ℕ → (ℕ → Holding → Rejection → Type 0) → Holding → Rejection → Type 0
+abbrev pub RejectsChange : ℕ → (ℕ → AccountData → Rejection → Type 0) → AccountData → Rejection → Type 0
 RejectsChange number P h r = ((r ≡ NotThere number) × (bytes_at number h ≡ None))
     ⊎ ((had : ℕ) × (bytes_at number h ≡ Some had) × P had h r)
 
 -- A limit is rejected: the bytes of all entries exceed it.
-abbrev pub RejectsLimit : ℕ → Holding → Rejection → Type 0
+abbrev pub RejectsLimit : ℕ → AccountData → Rejection → Type 0
 RejectsLimit limit h = IsOverBudget (sum_of h.entries) limit
 
 -- A limit of the whole ledger is rejected: the bytes of all accounts exceed it, as the rejection says.
@@ -59,19 +59,19 @@ IsLedgerFull bytes limit (LedgerFull b l) = (b ≡ bytes) × (l ≡ limit) × (l
 IsLedgerFull bytes limit _ = ⊥
 
 -- The tenant has no account, as the rejection says, or the rejection of its account is one that P allows.
-abbrev pub RejectsIn : (Holding → Rejection → Type 0) → Option Holding → Rejection → Type 0
+abbrev pub RejectsIn : (AccountData → Rejection → Type 0) → Option AccountData → Rejection → Type 0
 RejectsIn P None r = r ≡ NoAccount
 RejectsIn P (Some h) r = P h r
 
 -- The value could not be measured, as the rejection says, or it declares bytes with a rejection that P allows.
-abbrev pub RejectsMeasured : Measure → Bool → Option ℕ → Showing → (ℕ → Holding → Rejection → Type 0) → Holding →
+abbrev pub RejectsMeasured : Measure → Bool → Option ℕ → Showing → (ℕ → AccountData → Rejection → Type 0) → AccountData →
     Rejection → Type 0
-RejectsMeasured measure is_exact size p P h r =
-    ((e : Refusal) × (r ≡ NotMeasured e) × MayRefuseMeasure measure is_exact size p e)
+RejectsMeasured measure is_strict size p P h r =
+    ((e : Refusal) × (r ≡ NotMeasured e) × MayRefuseMeasure measure is_strict size p e)
     ⊎ ((bytes : ℕ) × Declares measure size p bytes × P bytes h r)
 
 -- The tenant already has an account, as the rejection says, or it has none and memory runs out.
-abbrev pub RejectsOpening : Option Holding → Rejection → Type 0
+abbrev pub RejectsOpening : Option AccountData → Rejection → Type 0
 RejectsOpening had HasAccount = IsSome had
 RejectsOpening had NotKept = had ≡ None
 RejectsOpening had _ = ⊥

@@ -138,7 +138,7 @@ impl<K: Eq + Hash + Drop, V: Allocative + Described> BoundedCache<K, V> {
             (Inserts V.size V.may_show K.eq (step_of F.step) on_evict key value self.old self.new) }
         ensures had { IfOk result (λ had. had ≡ value_at (K.eq key) self.old.entries) }
         ensures refused { IfErr result
-            (λ r. RefusesInsert V.size V.may_show V.is_exact value self.old.measure self.old.bound r.error) }
+            (λ r. RefusesInsert V.size V.may_show V.is_strict value self.old.measure self.old.bound r.error) }
         ensures returned { IfErr result (λ r. (r.key ≡ key) × (r.value ≡ value)) }
         ensures err { OnErr result (self.new ≡ self.old) }
         ensures bounded { IsBounded V.size V.may_show self.new }
@@ -162,7 +162,7 @@ impl<K: Eq + Hash + Drop, V: Allocative + Described> BoundedCache<K, V> {
         ensures figure { IfOk result (IsFigure V.size V.may_show self.now.measure value.now) }
         ensures fits { IfOk result (λ bytes. bytes ≤ self.now.bound) }
         ensures refused { IfErr result
-            (RefusesInsert V.size V.may_show V.is_exact value.now self.now.measure self.now.bound) }
+            (RefusesInsert V.size V.may_show V.is_strict value.now self.now.measure self.now.bound) }
     {
         let bound = self.bound;
         let bytes = match self.measure.size_of(self.alloc, value) {
@@ -227,7 +227,7 @@ impl<K: Eq + Hash + Drop, V: Allocative + Described> BoundedCache<K, V> {
             (ChangesTo C.FnOnce change) self.old self.new)
             ((lookup_entry (K.eq key.now) self.old.entries ≡ None) × (self.new ≡ self.old))) }
         ensures refused { IfErr result
-            (RefusesChange V.size V.may_show V.is_exact (K.eq key.now) (ChangesTo C.FnOnce change) self.old) }
+            (RefusesChange V.size V.may_show V.is_strict (K.eq key.now) (ChangesTo C.FnOnce change) self.old) }
         ensures err { OnErr result (self.new ≡ without (K.eq key.now) self.old) }
         ensures bounded { IsBounded V.size V.may_show self.new }
     {

@@ -1,7 +1,7 @@
 //! The last profiles of a service.
 ghost use Rattle.std.specs.Prelude.{◌≡◌, ◌↔◌, [], OnOk, OnErr, IfOk, IfErr, IsErrOf, IsSomeAnd, length, option_map};
 ghost use Rattle.std.specs.Map.Iter.{deref_pair};
-ghost use Rattle.allocative.specs.Exact.{MayRefuseProfile};
+ghost use Rattle.allocative.specs.Strict.{MayRefuseProfile};
 ghost use Rattle.allocative.specs.Graph.{ExceedWord};
 ghost use Rattle.allocative_service.specs.Changes.{data_of, changes_of};
 ghost use Rattle.allocative_service.specs.History.{profiles_of, most_of, two_of, Keeps, TakesProfile, GrewMostBetween};
@@ -10,7 +10,7 @@ pub mod changes;
 pub mod text;
 mod walk;
 
-pub use crate::history::changes::{Change, Kind, by_growth, compare, grew_most};
+pub use crate::history::changes::{Change, ChangeKind, by_growth, compare, grew_most};
 pub use crate::history::text::report;
 use allocative::{Allocative, FlameGraph, Refusal, profile_value};
 use std::alloc::{AllocError, Global};
@@ -60,7 +60,7 @@ impl History {
     /// `profile_value` is, and with `Memory` if memory runs out. After an error the history is unchanged.
     pub fn take_profile<T: Allocative>(&mut self, alloc: Global, value: &T) -> Result<(), Refusal>
         ensures taken { OnOk result (TakesProfile (T.may_show value.now) self.old self.new) }
-        ensures refused { IfErr result (MayRefuseProfile T.is_exact (T.may_show value.now)) }
+        ensures refused { IfErr result (MayRefuseProfile T.is_strict (T.may_show value.now)) }
         ensures unchanged { OnErr result (profiles_of self.new ≡ profiles_of self.old) }
         ensures most { most_of self.new ≡ most_of self.old }
     {

@@ -1,6 +1,6 @@
 //! The accounts of all tenants.
 ghost use Rattle.std.specs.Prelude.{◌≡◌, ℕ, ◌+◌, ◌-◌, ◌^◌, ◌<◌, ◌≤◌, ◌↔◌, Some, None, [], IfOk, OnOk, IfErr, OnErr, IfSome, OnSome, IfNone, IsSomeAnd, IsTrue, MatchOption, option_map, unwrap_or};
-ghost use Rattle.allocative_service.specs.Holding.{all_bytes};
+ghost use Rattle.allocative_service.specs.AccountData.{all_bytes};
 
 pub mod account;
 pub mod budget;
@@ -31,7 +31,7 @@ pub struct Ledger {
 
 impl Ledger {
     ghost use Rattle.allocative_service.specs.Accounts.{account_of, accounts_of, entry_of, limit_of, measure_of, total_of, ChangesAccount, Enters, IsUnchanged, MapsAccount, RejectsPut, Releases};
-    ghost use Rattle.allocative_service.specs.Holding.{IsSummed, bytes_at, new_holding, sum_of, with_limit, with_peak_reset, with_soft_limit};
+    ghost use Rattle.allocative_service.specs.AccountData.{IsSummed, bytes_at, new_account, sum_of, with_limit, with_peak_reset, with_soft_limit};
     ghost use Rattle.allocative_service.specs.Measured.{Declares};
     ghost use Rattle.allocative_service.specs.Rejected.{IsLedgerFull, RejectsChange, RejectsCredit, RejectsIn, RejectsLimit, RejectsMeasured, RejectsNew, RejectsOpening};
 
@@ -88,7 +88,7 @@ impl Ledger {
     /// error all accounts are unchanged.
     pub fn open(&mut self, tenant: &str, budget: Budget) -> Result<(), Rejection>
         ensures opened { OnOk result
-            (ChangesAccount tenant.now (Some (new_holding budget.limit)) self.old self.new) }
+            (ChangesAccount tenant.now (Some (new_account budget.limit)) self.old self.new) }
         ensures new { OnOk result (account_of tenant.now self.old ≡ None) }
         ensures all { total_of self.new ≡ total_of self.old }
         ensures rejected { IfErr result (RejectsOpening (account_of tenant.now self.old)) }
@@ -219,7 +219,7 @@ impl Ledger {
             (λ total. (bytes : ℕ) × Declares (measure_of self.old) T.size (T.may_show value.now) bytes
             × Enters tenant.now number bytes None self.old self.new total) }
         ensures rejected { IfErr result (RejectsIn
-            (RejectsNew number (RejectsMeasured (measure_of self.old) T.is_exact T.size (T.may_show value.now)
+            (RejectsNew number (RejectsMeasured (measure_of self.old) T.is_strict T.size (T.may_show value.now)
             (RejectsPut self.old 0))) (account_of tenant.now self.old)) }
         ensures unchanged { OnErr result (IsUnchanged self.old self.new) }
     {
@@ -243,7 +243,7 @@ impl Ledger {
             (λ total. (bytes : ℕ) × (had : ℕ) × Declares (measure_of self.old) T.size (T.may_show value.now) bytes
             × Enters tenant.now number bytes (Some had) self.old self.new total) }
         ensures rejected { IfErr result (RejectsIn
-            (RejectsChange number (λ had. RejectsMeasured (measure_of self.old) T.is_exact T.size (T.may_show value.now)
+            (RejectsChange number (λ had. RejectsMeasured (measure_of self.old) T.is_strict T.size (T.may_show value.now)
             (RejectsPut self.old had))) (account_of tenant.now self.old)) }
         ensures unchanged { OnErr result (IsUnchanged self.old self.new) }
     {

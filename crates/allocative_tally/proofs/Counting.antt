@@ -7,7 +7,7 @@ use Rattle.allocative.proofs.Common.{Key, Forest, Empty, followed_by, entry_of, 
 use Rattle.allocative.proofs.Common.{InsideAs, Inside, Field, sized, each_shows}
 use Rattle.allocative_graph.specs.Owned.{direct}
 use Rattle.allocative_graph.proofs.Owned.{direct-following}
-use Rattle.allocative.proofs.Exact.{followed_by-empty, followed_by_assoc, each_append, each_one}
+use Rattle.allocative.proofs.Strict.{followed_by-empty, followed_by_assoc, each_append, each_one}
 use Rattle.allocative_tally.specs.Merged.{IsPlain, Merged}
 use Rattle.allocative_tally.specs.Shapes.{Width, Unique, Wide, Narrow, is_unique, Keeps, Shape}
 use Rattle.allocative_tally.specs.Shapes.{NoEntry, Beside, EntryAt, forest_of, Holds, entry_counted}

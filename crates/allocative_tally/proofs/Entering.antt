@@ -13,11 +13,11 @@ use Rattle.allocative_graph.specs.Collector.{Holding, Owning, plus_live, plus_ho
 use Rattle.allocative_graph.specs.Path.{Path}
 use Rattle.allocative_graph.specs.Visits.{added}
 use Rattle.allocative_graph.specs.Identity.{Identities}
-use Rattle.allocative.specs.Exact.{had_failed}
+use Rattle.allocative.specs.Strict.{had_failed}
 use Rattle.allocative.proofs.Meaning.{entered_as, entered_none, means_same}
 use Rattle.std.proofs.lemmas.Bool.{false≢true}
-use Rattle.allocative.proofs.Exact.{may_refuse, declared_entry, declared_both, declared_first, declared_append}
-use Rattle.allocative.proofs.Exact.{each_append, each_one}
+use Rattle.allocative.proofs.Strict.{may_refuse, declared_entry, declared_both, declared_first, declared_append}
+use Rattle.allocative.proofs.Strict.{each_append, each_one}
 use Rattle.allocative_tally.specs.Merged.{IsPlain, Merged}
 use Rattle.allocative_tally.specs.Shapes.{Width, is_unique, Shape, NoEntry, Beside, EntryAt, forest_of, IsNothing}
 use Rattle.allocative_tally.specs.Shapes.{entry_counted, shape_shows, is_shape}

@@ -8,7 +8,7 @@ use Rattle.allocative_tally.specs.Fields.{AddsSize, HasNothing}
 use Rattle.allocative_tally.specs.declared.tally.Sum.{Sum}
 use Rattle.allocative_tally.proofs.Counting.{both_bounds, counted_field, counted_inline, tallies_both, tallies_none}
 use Rattle.allocative_tally.proofs.Counting.{tallies_as}
-use Rattle.allocative.proofs.Exact.{followed_by-empty}
+use Rattle.allocative.proofs.Strict.{followed_by-empty}
 use Rattle.allocative_tally.proofs.Sizes.{HasRoom, room_up, room_sum, room_second, room_max_first, room_max_second}
 use Rattle.allocative_tally.proofs.Sizes.{room_then, room_both, room_grouped, fits_room}
 

@@ -12,8 +12,8 @@ use Rattle.allocative_graph.proofs.Basics.{same_path_itself}
 use Rattle.allocative_graph.proofs.Lookups.{add_all-same, get-add, same_sums}
 use Rattle.allocative_graph.proofs.Following.{own-following}
 use Rattle.allocative_graph.proofs.Owned.{direct-following, owned-following}
-use Rattle.allocative.specs.Exact.{FitsWords}
-use Rattle.allocative.proofs.Exact.{followed_by_assoc}
+use Rattle.allocative.specs.Strict.{FitsWords}
+use Rattle.allocative.proofs.Strict.{followed_by_assoc}
 use Rattle.allocative_tally.specs.Merged.{IsPlain, Merged}
 use Rattle.allocative_tally.proofs.Unshared.{plain_both, plain_entry}
 

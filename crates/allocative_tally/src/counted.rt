@@ -9,7 +9,7 @@ ghost use Rattle.allocative_tally.specs.Tallies.{Tallies};
 use crate::tally::{CountError, Tallied, Tally};
 use allocative::{Allocative, Described, Each, Part, Refusal, Visitor};
 
-/// Counts what each item shows.
+/// Counts what each item shows. It returns `Err` as `Tallied::tally` does.
 pub fn count_each<T: Tallied>(items: &[T], tally: &mut T::Tally) -> Result<(), CountError>
     ensures { IfOk result (λ _. Tallies None (each_shows T.may_show items.now)
         (T.Tally.shape tally.old) (T.Tally.shape tally.new)) }
@@ -30,7 +30,7 @@ pub struct Counted<'a, T>(pub &'a T);
 impl<'a, T: Tallied> Part for Counted<'a, T> {
     ghost may_show = { λ s. T.may_show s.0.now };
 
-    ghost is_exact = { T.is_exact };
+    ghost is_strict = { T.is_strict };
 
     fn enter(self, visitor: &mut Visitor<'_>) -> Result<(), Refusal> {
         let mut tally = T::Tally::none();
@@ -49,7 +49,7 @@ pub struct CountedValue<'a, T>(pub &'a T);
 impl<'a, T: Tallied> Allocative for CountedValue<'a, T> {
     ghost may_show = { λ s. T.may_show s.0.now };
 
-    ghost is_exact = { T.is_exact };
+    ghost is_strict = { T.is_strict };
 
     fn visit(&self, visitor: &mut Visitor<'_>) -> Result<(), Refusal> {
         Counted(self.0).enter(visitor)
@@ -89,7 +89,7 @@ pub struct CountedEach<V>(pub V);
 impl<'a, T: Tallied> Part for CountedEach<&'a Vec<T>> {
     ghost may_show = { λ s. each_shows T.may_show s.0.now.items };
 
-    ghost is_exact = { T.is_exact };
+    ghost is_strict = { T.is_strict };
 
     fn enter(self, visitor: &mut Visitor<'_>) -> Result<(), Refusal> {
         let mut tally = T::Tally::none();
@@ -103,7 +103,7 @@ impl<'a, T: Tallied> Part for CountedEach<&'a Vec<T>> {
 impl<'a, T: Tallied> Part for CountedEach<&'a [T]> {
     ghost may_show = { λ s. each_shows T.may_show s.0.now };
 
-    ghost is_exact = { T.is_exact };
+    ghost is_strict = { T.is_strict };
 
     fn enter(self, visitor: &mut Visitor<'_>) -> Result<(), Refusal> {
         let mut tally = T::Tally::none();
@@ -116,7 +116,7 @@ impl<'a, T: Tallied> Part for CountedEach<&'a [T]> {
 
 // What each item shows, one by one. It halves the slice, so its stack does not grow with the number of items.
 fn enter_each<T: Allocative>(items: &[T], visitor: &mut Visitor<'_>) -> Result<(), Refusal>
-    ensures { Entered T.is_exact (each_shows T.may_show items.now) visitor.old visitor.new result }
+    ensures { Entered T.is_strict (each_shows T.may_show items.now) visitor.old visitor.new result }
 {
     let count = items.len();
     if count == 0 {
@@ -139,7 +139,7 @@ pub struct CountedRoots<'a, T>(pub &'a [T]);
 impl<'a, T: Tallied> Allocative for CountedRoots<'a, T> {
     ghost may_show = { λ s. each_shows T.may_show s.0.now };
 
-    ghost is_exact = { T.is_exact };
+    ghost is_strict = { T.is_strict };
 
     fn visit(&self, visitor: &mut Visitor<'_>) -> Result<(), Refusal> {
         CountedEach(self.0).enter(visitor)

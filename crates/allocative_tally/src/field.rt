@@ -138,7 +138,7 @@ pub struct CountedField<'a, K, T>(pub K, pub &'a T);
 impl<'a, K: IntoKey, T: Tallied> Part for CountedField<'a, K, T> {
     ghost may_show = { λ f. shows.Field (K.key f.0) T.size (T.may_show f.1.now) };
 
-    ghost is_exact = { T.is_exact };
+    ghost is_strict = { T.is_strict };
 
     #[inline(always)]
     fn enter(self, visitor: &mut Visitor<'_>) -> Result<(), Refusal> {

@@ -42,7 +42,7 @@ impl<P: Tally, Q: Tally> Tally for PairsTally<P, Q> {
     }
 }
 
-/// Counts each pair that an iterator gives.
+/// Counts each pair that an iterator gives. It returns `Err` as `count` does.
 pub fn count_pairs<'a, K: Tallied + 'a, V: Tallied + 'a, I: Iterator<Item = (&'a K, &'a V)> + Drop>(
     pairs: I,
     tally: &mut PairsTally<K::Tally, V::Tally>,
@@ -152,7 +152,7 @@ pub struct CountedPairs<V>(pub V);
 impl<'a, K: Tallied + Ord, V: Tallied> Part for CountedPairs<&'a BTreeMap<K, V>> {
     ghost may_show = { λ m. each_shows (pair_shows K.size K.may_show V.size V.may_show) m.0.now.entries };
 
-    ghost is_exact = { K.is_exact && V.is_exact };
+    ghost is_strict = { K.is_strict && V.is_strict };
 
     fn enter(self, visitor: &mut Visitor<'_>) -> Result<(), Refusal> {
         let mut tally = PairsTally::none();
@@ -166,7 +166,7 @@ impl<'a, K: Tallied + Ord, V: Tallied> Part for CountedPairs<&'a BTreeMap<K, V>>
 impl<'a, K: Tallied + Eq + Hash, V: Tallied> Part for CountedPairs<&'a HashMap<K, V>> {
     ghost may_show = { λ m. in_any_order (pair_shows K.size K.may_show V.size V.may_show) m.0.now.entries };
 
-    ghost is_exact = { K.is_exact && V.is_exact };
+    ghost is_strict = { K.is_strict && V.is_strict };
 
     fn enter(self, visitor: &mut Visitor<'_>) -> Result<(), Refusal> {
         let mut tally = PairsTally::none();

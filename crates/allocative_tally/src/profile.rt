@@ -5,7 +5,7 @@ ghost use Rattle.std.specs.Prelude.{◌<◌, ◌^◌, IfOk, IfErr};
 ghost use Rattle.allocative_graph.specs.Graph.{total};
 ghost use Rattle.allocative_graph.specs.Shows.{each_shows};
 ghost use Rattle.allocative_graph.specs.Visits.{IsProfileOf};
-ghost use Rattle.allocative.specs.Exact.{MayRefuseProfile};
+ghost use Rattle.allocative.specs.Strict.{MayRefuseProfile};
 
 use crate::counted::{CountedRoots, CountedValue};
 use crate::tally::Tallied;
@@ -20,7 +20,7 @@ use std::alloc::Global;
 /// ```
 pub fn profile_counted<T: Tallied>(alloc: Global, root: &T) -> Result<FlameGraphOutput, Refusal>
     ensures profile { IfOk result (IsProfileOf (T.may_show root.now)) }
-    ensures refused { IfErr result (MayRefuseProfile T.is_exact (T.may_show root.now)) }
+    ensures refused { IfErr result (MayRefuseProfile T.is_strict (T.may_show root.now)) }
     ensures total { IfOk result (λ o. total o.graph < 2 ^ 63) }
 {
     profile_value(alloc, &CountedValue(root))
@@ -37,7 +37,7 @@ pub fn profile_counted_values<T: Tallied>(
     roots: &[T],
 ) -> Result<FlameGraphOutput, Refusal>
     ensures profile { IfOk result (IsProfileOf (each_shows T.may_show roots.now)) }
-    ensures refused { IfErr result (MayRefuseProfile T.is_exact (each_shows T.may_show roots.now)) }
+    ensures refused { IfErr result (MayRefuseProfile T.is_strict (each_shows T.may_show roots.now)) }
     ensures total { IfOk result (λ o. total o.graph < 2 ^ 63) }
 {
     profile_value(alloc, &CountedRoots(roots))

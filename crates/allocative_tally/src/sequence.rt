@@ -54,7 +54,7 @@ pub(crate) fn are_shown_each<T: Described>(size: usize) -> bool
     T::needs_drop() && size != 0
 }
 
-/// Counts the items of a slice, whose declared size is `size`.
+/// Counts the items of a slice, whose declared size is `size`. It returns `Err` as `Tallied::tally` does.
 #[inline(always)]
 pub fn count_slice<T: Tallied>(
     items: &[T],
@@ -100,7 +100,7 @@ pub(crate) fn count_room<T: Described>(
     Ok(Some(size))
 }
 
-/// Counts the buffer of a vector.
+/// Counts the buffer of a vector. It returns `Err` as `Tallied::tally` does.
 #[inline(always)]
 pub fn count_buffer<T: Tallied>(
     items: &Vec<T>,
@@ -135,7 +135,7 @@ impl<T: Tallied> Tallied for Vec<T> {
     }
 }
 
-/// Counts the buffer of a deque.
+/// Counts the buffer of a deque. It returns `Err` as `Tallied::tally` does.
 #[inline(always)]
 pub fn count_ring<T: Tallied>(
     ring: &VecDeque<T>,

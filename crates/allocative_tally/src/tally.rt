@@ -31,9 +31,8 @@ pub trait Tally: Drop {
 pub trait Tallied: Allocative + Described {
     type Tally: Tally;
 
-    /// Counts what the value shows.
-    ///
-    /// After `Err` the tally is of no use.
+    /// Counts what the value shows. It returns `Err` if a declared size is missing or a count exceeds a word; the tally
+    /// is of no use then.
     fn tally(&self, tally: &mut Self::Tally) -> Result<(), CountError>
         ensures { IfOk result (λ _. Tallies Self.size (Self.may_show self.now)
             (Self.Tally.shape tally.old) (Self.Tally.shape tally.new)) };
@@ -93,7 +92,7 @@ pub struct Shown<P>(pub P);
 impl<P: Entries> Part for Shown<P> {
     ghost may_show = { λ s. shape_shows (P.shape s.0) };
 
-    ghost is_exact = { true };
+    ghost is_strict = { true };
 
     fn enter(self, visitor: &mut Visitor<'_>) -> Result<(), Refusal> {
         self.0.enter(visitor)

@@ -13,7 +13,7 @@ use Rattle.allocative_service.specs.Accounts.{ChangesAccount, Enters, IsUnchange
 use Rattle.allocative_service.specs.Entries.{Bounded, Entries, IsNeeded, bounded, stored_key, used, with_entries}
 use Rattle.allocative_service.specs.Entries.{without}
 use Rattle.allocative_service.specs.History.{TakesProfile, most_of, profiles_of, two_of}
-use Rattle.allocative_service.specs.Holding.{Holding, new_holding, with_limit, with_peak_reset, with_soft_limit}
+use Rattle.allocative_service.specs.AccountData.{AccountData, new_account, with_limit, with_peak_reset, with_soft_limit}
 use Rattle.allocative_service.specs.Measured.{Declares}
 use Rattle.allocative_service.specs.Rejected.{IsLedgerFull, RejectsChange, RejectsCredit, RejectsIn, RejectsLimit}
 use Rattle.allocative_service.specs.Rejected.{RejectsMeasured, RejectsNew, RejectsOpening}
@@ -33,12 +33,12 @@ use Rattle.example_service.specs.declared.request.Request.TheVariants as asks
 
 -- ---- the ledger
 -- Why a document is not entered for the tenant: as a new one, or in place of that which the key has. It is of a type
--- with this declared size, which may be exact, and may show what p allows.
+-- with this declared size, which may be strict, and may show what p allows.
 abbrev pub RejectsDocument : List ℕ → ℕ → Ledger → Bool → Option ℕ → Showing → Rejection → Type 0
-RejectsDocument tenant key old is_exact size p r = MatchOption (entry_of tenant key old)
-    (RejectsIn (RejectsNew key (RejectsMeasured (measure_of old) is_exact size p (RejectsPut old 0)))
+RejectsDocument tenant key old is_strict size p r = MatchOption (entry_of tenant key old)
+    (RejectsIn (RejectsNew key (RejectsMeasured (measure_of old) is_strict size p (RejectsPut old 0)))
     (account_of tenant old) r)
-    (λ _. RejectsIn (RejectsChange key (λ had. RejectsMeasured (measure_of old) is_exact size p (RejectsPut old had)))
+    (λ _. RejectsIn (RejectsChange key (λ had. RejectsMeasured (measure_of old) is_strict size p (RejectsPut old had)))
     (account_of tenant old) r)
 
 -- The bytes that a document declares are entered for the tenant under the key, in place of those that it had. All bytes
@@ -81,7 +81,7 @@ EntersDraft d tenant key (drafts.Order places) old new = (order : Order) × IsOr
 -- The tenant has an account with this limit and no document. It had none before.
 abbrev pub OpensAccount : List ℕ → ℕ → Ledger → Ledger → Type 0
 OpensAccount tenant limit old new = (account_of tenant old ≡ None)
-    × ChangesAccount tenant (Some (new_holding limit)) old new
+    × ChangesAccount tenant (Some (new_account limit)) old new
 
 -- The tenant has no account any more. Where it had none, the ledger is unchanged.
 abbrev pub ClosesAccount : List ℕ → Ledger → Ledger → Type 0
@@ -155,8 +155,8 @@ module _ {E : Type 0} (result : Result (String Global) E) (old new : Ledger) whe
   -- A document is entered and the text begins with all bytes of the tenant, or that is rejected. If memory runs out
   -- before that, the ledger is unchanged and an error is returned.
   abbrev pub PutsDocument : List ℕ → ℕ → Bool → Option ℕ → Showing → Type 0
-  PutsDocument tenant key is_exact size p = (IsErr result × IsUnchanged old new)
-      ⊎ (IsRejected (RejectsDocument tenant key old is_exact size p)
+  PutsDocument tenant key is_strict size p = (IsErr result × IsUnchanged old new)
+      ⊎ (IsRejected (RejectsDocument tenant key old is_strict size p)
       ⊎ ((total : ℕ) × EntersDocument tenant key size p total old new
       × IfText result (BeginsWith (entered_line tenant total))))
 
@@ -240,7 +240,7 @@ pub data LosesPages (tenant : List ℕ) (old : Pages) : List ℕ → Pages → T
 module _ {A E : Type 0} (result : Result A E) (old new : Pages) where
   -- The pages of the tenant's documents with an entry of the account are removed. Where an error is returned, those of
   -- some may be left.
-  abbrev pub LosesPagesOf : List ℕ → Holding → Type 0
+  abbrev pub LosesPagesOf : List ℕ → AccountData → Type 0
   LosesPagesOf tenant account =
       (keys : List ℕ) × LosesPages tenant old keys new × OnOk result (keys ≡ keys_of account.entries)
 

@@ -9,7 +9,7 @@ use Rattle.allocative_picture.specs.declared.options.Options.{Options}
 use Rattle.allocative_service.specs.Accounts.{accounts_of, total_of}
 use Rattle.allocative_service.specs.Changes.{Changed, GrewMost, Reports, changes_of, growth}
 use Rattle.allocative_service.specs.Entries.{Bounded, bytes_of}
-use Rattle.allocative_service.specs.Holding.{Holding, sum_of}
+use Rattle.allocative_service.specs.AccountData.{AccountData, sum_of}
 use Rattle.allocative_service.specs.Told.{told_as}
 use Rattle.allocative_service.specs.declared.cache.Kept.{Kept}
 use Rattle.allocative_service.specs.declared.ledger.Ledger.{Ledger}
@@ -37,7 +37,7 @@ released_line tenant key (Some bytes) = tenant ++ (codes " gives " ++ (decimal b
 released_line tenant key None = tenant ++ (codes " has no document " ++ (decimal key ++ codes "\n"))
 
 -- The line of an account that was closed: the bytes of its documents, or that there is none.
-abbrev pub closed_line : List ℕ → Option Holding → List ℕ
+abbrev pub closed_line : List ℕ → Option AccountData → List ℕ
 closed_line tenant (Some h) = tenant ++ (codes " had " ++ (decimal (sum_of h.entries) ++ codes " bytes\n"))
 closed_line tenant None = codes "there is no account\n"
 
@@ -52,20 +52,20 @@ abbrev pub document_line : ℕ × ℕ → List ℕ
 document_line e = codes "  document " ++ (decimal e.0 ++ (codes ": " ++ (decimal e.1 ++ codes " bytes\n")))
 
 -- What a bill says of an account that is over its soft limit.
-abbrev pub over_mark : Holding → List ℕ
+abbrev pub over_mark : AccountData → List ℕ
 over_mark h = if nat_lt h.soft_limit (sum_of h.entries) then codes ", over\n" else codes "\n"
 
 -- The first line of a tenant's bill: all bytes, the limit and the most bytes that it had.
-abbrev pub account_line : List ℕ → Holding → List ℕ
+abbrev pub account_line : List ℕ → AccountData → List ℕ
 account_line tenant h = tenant ++ (codes ": " ++ (decimal (sum_of h.entries) ++ (codes " of " ++ (decimal h.limit
     ++ (codes " bytes, at most " ++ (decimal h.peak ++ over_mark h))))))
 
 -- The bill of a tenant: its first line, and below it the bytes of each document.
-abbrev pub account_lines : List ℕ → Holding → List ℕ
+abbrev pub account_lines : List ℕ → AccountData → List ℕ
 account_lines tenant h = account_line tenant h ++ flat_map document_line h.entries
 
 -- The bills of these tenants.
-abbrev pub bills_of : List (String Global × Holding) → List ℕ
+abbrev pub bills_of : List (String Global × AccountData) → List ℕ
 bills_of accounts = flat_map (λ a. account_lines (string_bytes a.0) a.1) accounts
 
 -- The bills of all tenants, and all of it together.

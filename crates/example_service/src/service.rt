@@ -230,7 +230,7 @@ impl Service {
     /// Enters a document into the ledger, and keeps it in place of the one that the key has.
     fn put_document<D: Document>(&mut self, tenant: &str, key: u64, document: D) -> Result<String>
         ensures ledger { PutsDocument result self.old.ledger self.new.ledger
-            tenant.now key D.is_exact D.size (D.may_show document) }
+            tenant.now key D.is_strict D.size (D.may_show document) }
         ensures pages { PutsPageOf result self.old.pages self.new.pages
             self.old.ledger self.new.ledger tenant.now key D.size (D.may_show document) }
         ensures history { self.new.history ≡ self.old.history }
@@ -256,7 +256,7 @@ impl Service {
         ensures entered { IfOk result (λ total.
             EntersDocument tenant.now key T.size (T.may_show document.now) total self.old.ledger self.new.ledger) }
         ensures rejected { IfErr result
-            (RejectsDocument tenant.now key self.old.ledger T.is_exact T.size (T.may_show document.now)) }
+            (RejectsDocument tenant.now key self.old.ledger T.is_strict T.size (T.may_show document.now)) }
         ensures unchanged { OnErr result (IsUnchanged self.old.ledger self.new.ledger) }
         ensures pages { self.new.pages ≡ self.old.pages }
         ensures history { self.new.history ≡ self.old.history }

@@ -49,7 +49,7 @@ impl Allocative for Request {
           (Field (codes "text") (Some 24) (⟦<String as Allocative>⟧.may_show s)))))
     ]) };
 
-    ghost is_exact = { true };
+    ghost is_strict = { true };
 
     fn visit(&self, visitor: &mut Visitor<'_>) -> Result<(), Refusal> {
         let key = "Request";

@@ -16,7 +16,7 @@ impl Allocative for Meter {
     ghost may_show = { λ m. Inside (codes "Meter") 8
         (Field (codes "reading") (Some 8) (⟦<u64 as Allocative>⟧.may_show m.reading)) };
 
-    ghost is_exact = { true };
+    ghost is_strict = { true };
 
     fn visit(&self, visitor: &mut Visitor<'_>) -> Result<(), Refusal> {
         let reading = Field("reading", &self.reading);
@@ -36,7 +36,7 @@ impl Allocative for Point {
         (Field (codes "x") (Some 4) (⟦<u32 as Allocative>⟧.may_show p.x))
         (Field (codes "y") (Some 4) (⟦<u32 as Allocative>⟧.may_show p.y))) };
 
-    ghost is_exact = { true };
+    ghost is_strict = { true };
 
     fn visit(&self, visitor: &mut Visitor<'_>) -> Result<(), Refusal> {
         let x = Field("x", &self.x);
@@ -59,7 +59,7 @@ impl<T: Allocative + Described> Allocative for Named<T> {
         (Field (codes "value") T.size (T.may_show n.value))
         (Field (codes "is_read") (Some 1) (⟦<bool as Allocative>⟧.may_show n.is_read)))) };
 
-    ghost is_exact = { T.is_exact && true };
+    ghost is_strict = { T.is_strict && true };
 
     fn visit(&self, visitor: &mut Visitor<'_>) -> Result<(), Refusal> {
         let name = Field("name", &self.name);
@@ -87,7 +87,7 @@ impl Allocative for Session {
         (Field (codes "place") (Some 8) (⟦<(u32, u32) as Allocative>⟧.may_show s.place))
         (Field (codes "is_open") (Some 1) (⟦<bool as Allocative>⟧.may_show s.is_open)))))) };
 
-    ghost is_exact = { true };
+    ghost is_strict = { true };
 
     fn visit(&self, visitor: &mut Visitor<'_>) -> Result<(), Refusal> {
         let user = Field("user", &self.user);

@@ -43,7 +43,7 @@ impl Described for Tree {
 impl Allocative for Tree {
     ghost may_show = { recursive tree_level };
 
-    ghost is_exact = { true };
+    ghost is_strict = { true };
 
     fn visit(&self, visitor: &mut Visitor<'_>) -> Result<(), Refusal> {
         match self {

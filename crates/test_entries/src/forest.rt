@@ -10,7 +10,7 @@ use allocative::{
 
 /// How an entry is made.
 #[derive(Clone, Copy)]
-pub(crate) enum Kind {
+pub(crate) enum EntryKind {
     Inline,
     Unique,
     Shared(Identity),
@@ -21,7 +21,7 @@ pub(crate) enum Kind {
 #[derive(Drop)]
 pub(crate) enum Forest {
     Empty,
-    Entry(Kind, Key, usize, Box<Forest>, Box<Forest>),
+    Entry(EntryKind, Key, usize, Box<Forest>, Box<Forest>),
 }
 
 /// A forest declares one byte, so that its own size can be told from what it holds.
@@ -54,7 +54,7 @@ impl Described for Forest {
 impl Allocative for Forest {
     ghost may_show = { forest_shows };
 
-    ghost is_exact = { true };
+    ghost is_strict = { true };
 
     fn visit(&self, visitor: &mut Visitor<'_>) -> Result<(), Refusal> {
         let Forest::Entry(kind, key, size, inside, after) = self else {
@@ -62,9 +62,9 @@ impl Allocative for Forest {
         };
         let (key, size, inside, after) = (key.copy(), *size, &**inside, &**after);
         match *kind {
-            Kind::Inline => (Inside(key, size, inside), after).enter(visitor),
-            Kind::Unique => (Unique(key, size, inside), after).enter(visitor),
-            Kind::Shared(identity) => {
+            EntryKind::Inline => (Inside(key, size, inside), after).enter(visitor),
+            EntryKind::Unique => (Unique(key, size, inside), after).enter(visitor),
+            EntryKind::Shared(identity) => {
                 let pointer = Shared {
                     key,
                     size,

@@ -1,5 +1,5 @@
 //! Reads the roots of a row, as `T 8 {unique ptr 8 {u8 3}, shared p 8 #1 {C 16}}`.
-use crate::forest::{Forest, Kind};
+use crate::forest::{EntryKind, Forest};
 use allocative::{Identity, Key};
 use std::alloc::{AllocError, Global};
 use std::io::{self, ErrorKind};
@@ -9,7 +9,7 @@ use std::io::{self, ErrorKind};
 #[derive(Drop)]
 struct Entry {
     depth: u8,
-    kind: Kind,
+    kind: EntryKind,
     key: Key,
     size: usize,
 }
@@ -31,7 +31,7 @@ fn identity_of(word: &str) -> Option<Identity> {
 }
 
 /// The entry of a key and a size.
-fn labelled(depth: u8, kind: Kind, label: &'static str) -> Option<Entry> {
+fn labelled(depth: u8, kind: EntryKind, label: &'static str) -> Option<Entry> {
     let (key, size) = label.rsplit_once(' ')?;
     Some(Entry {
         depth,
@@ -44,13 +44,13 @@ fn labelled(depth: u8, kind: Kind, label: &'static str) -> Option<Entry> {
 /// The entry of `key size`, `unique key size` or `shared key size identity`.
 fn entry_of(depth: u8, text: &'static str) -> Option<Entry> {
     if let Some(label) = text.strip_prefix("unique ") {
-        return labelled(depth, Kind::Unique, label);
+        return labelled(depth, EntryKind::Unique, label);
     }
     let Some(pointer) = text.strip_prefix("shared ") else {
-        return labelled(depth, Kind::Inline, text);
+        return labelled(depth, EntryKind::Inline, text);
     };
     let (label, identity) = pointer.rsplit_once(' ')?;
-    labelled(depth, Kind::Shared(identity_of(identity)?), label)
+    labelled(depth, EntryKind::Shared(identity_of(identity)?), label)
 }
 
 impl Entries {

@@ -1,5 +1,5 @@
 //! The ways in which the roots of a row are collected.
-use crate::forest::{Forest, Kind};
+use crate::forest::{EntryKind, Forest};
 use crate::shown::{Shown, graph_shown, output_shown};
 use allocative::{
     FlameGraph, FlameGraphBuilder, FlameGraphOutput, Key, Refusal, Registry, Visitor,
@@ -38,22 +38,22 @@ fn enter(visitor: &mut Visitor<'_>, forest: &Forest) -> Result<(), Refusal> {
 #[cycle(by_hand)]
 fn enter_entry(
     visitor: &mut Visitor<'_>,
-    kind: Kind,
+    kind: EntryKind,
     key: Key,
     size: usize,
     inside: &Forest,
 ) -> Result<(), Refusal> {
     match kind {
-        Kind::Inline if matches!(inside, Forest::Empty) => visitor.visit_simple(key, size),
-        Kind::Inline => {
+        EntryKind::Inline if matches!(inside, Forest::Empty) => visitor.visit_simple(key, size),
+        EntryKind::Inline => {
             let mut inner = visitor.enter(key, size)?;
             enter(&mut inner, inside)
         }
-        Kind::Unique => {
+        EntryKind::Unique => {
             let mut inner = visitor.enter_unique(key, size)?;
             enter(&mut inner, inside)
         }
-        Kind::Shared(identity) => match visitor.enter_shared(key, size, identity)? {
+        EntryKind::Shared(identity) => match visitor.enter_shared(key, size, identity)? {
             Some(mut content) => enter(&mut content, inside),
             None => Ok(()),
         },
@@ -95,7 +95,11 @@ fn finish(
 }
 
 /// What roots show that are entered by hand, or visited.
-fn entered(alloc: Global, roots: &[Forest], is_by_hand: bool) -> Result<FlameGraphOutput, Refusal> {
+fn output_of(
+    alloc: Global,
+    roots: &[Forest],
+    is_by_hand: bool,
+) -> Result<FlameGraphOutput, Refusal> {
     let mut builder = FlameGraphBuilder::new(alloc)?;
     let entered = enter_roots(&mut builder, roots, is_by_hand);
     finish(builder, entered)
@@ -120,9 +124,9 @@ fn registered(alloc: Global, roots: Vec<Forest>) -> Result<FlameGraphOutput, Ref
     profile_roots(&registry)
 }
 
-fn added(alloc: Global, left: &[Forest], right: &[Forest]) -> Result<FlameGraph, Refusal> {
-    let mut sum = entered(alloc, left, true)?.into_flamegraph();
-    sum.add(entered(alloc, right, true)?.into_flamegraph())?;
+fn sum_of_two(alloc: Global, left: &[Forest], right: &[Forest]) -> Result<FlameGraph, Refusal> {
+    let mut sum = output_of(alloc, left, true)?.into_flamegraph();
+    sum.add(output_of(alloc, right, true)?.into_flamegraph())?;
     Ok(sum)
 }
 
@@ -135,11 +139,11 @@ pub(crate) fn collect(
 ) -> Result<Shown, Refusal> {
     let middle = left.min(roots.len());
     match way {
-        Way::ByHand => output_shown(alloc, entered(alloc, &roots, true)?),
-        Way::Visited => output_shown(alloc, entered(alloc, &roots, false)?),
+        Way::ByHand => output_shown(alloc, output_of(alloc, &roots, true)?),
+        Way::Visited => output_shown(alloc, output_of(alloc, &roots, false)?),
         Way::Values => values(alloc, &roots),
         Way::Registered => output_shown(alloc, registered(alloc, roots)?),
-        Way::Added => graph_shown(added(alloc, &roots[..middle], &roots[middle..])?),
+        Way::Added => graph_shown(sum_of_two(alloc, &roots[..middle], &roots[middle..])?),
         Way::InTwo => graph_shown(profile_in_two(alloc, &roots[..middle], &roots[middle..])?),
     }
 }

@@ -13,7 +13,7 @@ pub struct Category {
 // allocative: begin
 ghost use Rattle.std.specs.Prelude.{codes, true, ◌&&◌};
 ghost use Rattle.allocative.specs.Shows as shows;
-ghost use Rattle.allocative.specs.Levels.{both, box_of, btree_map_of, child, field, hash_map_of, level_shows, option_in, pair_in, plain, recursive, vec_in};
+ghost use Rattle.allocative.specs.Levels.{both, box_of, btree_map_of, child, field, hash_map_of, level_shows, opened, option_in, pair_in, plain, recursive, vec_in};
 ghost use Rattle.test_generated_types.specs.declared.nested.Category.{out-Category};
 ghost use Rattle.test_generated_types.specs.declared.nested.Chain.{out-Chain};
 ghost use Rattle.test_generated_types.specs.declared.nested.Chapter.{out-Chapter};
@@ -62,7 +62,7 @@ impl Allocative for Category {
         (plain (shows.Field (codes "rank") ⟦<Option<u64> as Described>⟧.size (⟦<Option<u64> as Allocative>⟧.may_show (out-Category x).rank)))
         (field (codes "by_name") ⟦<HashMap<String, CategoryLayout> as Described>⟧.size (hash_map_of (pair_in ⟦<String as Described>⟧.size ⟦<String as Allocative>⟧.may_show ⟦<CategoryLayout as Described>⟧.size child) (out-Category x).by_name.entries)))))) };
 
-    ghost is_exact = { true };
+    ghost is_strict = { true };
 
     fn visit(&self, visitor: &mut Visitor<'_>) -> Result<(), Refusal> {
         let name = Field("name", &self.name);
@@ -120,7 +120,7 @@ impl Allocative for Chain {
         (plain (shows.Field (codes "text") ⟦<String as Described>⟧.size (⟦<String as Allocative>⟧.may_show (out-Chain x).text)))
         (field (codes "next") ⟦<Option<Box<ChainLayout>> as Described>⟧.size (option_in ⟦<Option<Box<ChainLayout>> as Described>⟧.size ⟦<Box<ChainLayout> as Described>⟧.size (λ y. box_of (child y.value)) (out-Chain x).next)))) };
 
-    ghost is_exact = { true };
+    ghost is_strict = { true };
 
     fn visit(&self, visitor: &mut Visitor<'_>) -> Result<(), Refusal> {
         let text = Field("text", &self.text);
@@ -171,14 +171,14 @@ impl Described for Tree {
 impl Allocative for Tree {
     ghost use Rattle.test_generated_types.specs.declared.nested.Tree.TheOpen.{Tree-F};
 
-    ghost may_show = { recursive (λ x. field (codes "Tree") ⟦<TreeLayout as Described>⟧.size (elim (out-Tree x) [
+    ghost may_show = { recursive (opened out-Tree (λ x. field (codes "Tree") ⟦<TreeLayout as Described>⟧.size (elim x [
       | Tree-F.Leaf a ↦ plain (shows.Field (codes "Leaf") ⟦<u64 as Described>⟧.size (⟦<u64 as Allocative>⟧.may_show a))
       | Tree-F.Fork a b ↦ field (codes "Fork") ⟦<TreeForkFields as Described>⟧.size (both
           (field (codes "0") ⟦<Box<TreeLayout> as Described>⟧.size (box_of (child a.value)))
           (field (codes "1") ⟦<Box<TreeLayout> as Described>⟧.size (box_of (child b.value))))
-    ])) };
+    ]))) };
 
-    ghost is_exact = { true };
+    ghost is_strict = { true };
 
     fn visit(&self, visitor: &mut Visitor<'_>) -> Result<(), Refusal> {
         match self {
@@ -273,7 +273,7 @@ impl Described for Json {
 impl Allocative for Json {
     ghost use Rattle.test_generated_types.specs.declared.nested.Json.TheOpen.{Json-F};
 
-    ghost may_show = { recursive (λ x. field (codes "Json") ⟦<JsonLayout as Described>⟧.size (elim (out-Json x) [
+    ghost may_show = { recursive (opened out-Json (λ x. field (codes "Json") ⟦<JsonLayout as Described>⟧.size (elim x [
       | Json-F.Null ↦ plain shows.Nothing
       | Json-F.Bool a ↦ plain (shows.Field (codes "Bool") ⟦<bool as Described>⟧.size (⟦<bool as Allocative>⟧.may_show a))
       | Json-F.Text a ↦ plain (shows.Field (codes "Text") ⟦<String as Described>⟧.size (⟦<String as Allocative>⟧.may_show a))
@@ -290,9 +290,9 @@ impl Allocative for Json {
       | Json-F.Maybe a b ↦ field (codes "Maybe") ⟦<JsonMaybeFields as Described>⟧.size (both
           (field (codes "first") ⟦<Option<Box<JsonLayout>> as Described>⟧.size (option_in ⟦<Option<Box<JsonLayout>> as Described>⟧.size ⟦<Box<JsonLayout> as Described>⟧.size (λ y. box_of (child y.value)) a))
           (plain (shows.Field (codes "number") ⟦<u32 as Described>⟧.size (⟦<u32 as Allocative>⟧.may_show b))))
-    ])) };
+    ]))) };
 
-    ghost is_exact = { true };
+    ghost is_strict = { true };
 
     fn visit(&self, visitor: &mut Visitor<'_>) -> Result<(), Refusal> {
         match self {
@@ -382,7 +382,7 @@ impl Allocative for Chapter {
         (field (codes "chapters") ⟦<Vec<ChapterLayout> as Described>⟧.size (vec_in ⟦<ChapterLayout as Described>⟧.size child (out-Note y).chapters))
         (plain (shows.Field (codes "is_long") ⟦<bool as Described>⟧.size (⟦<bool as Allocative>⟧.may_show (out-Note y).is_long))))) (out-Chapter x).notes)))) };
 
-    ghost is_exact = { true };
+    ghost is_strict = { true };
 
     #[cycle(chapters)]
     fn visit(&self, visitor: &mut Visitor<'_>) -> Result<(), Refusal> {
@@ -435,7 +435,7 @@ impl Allocative for Note {
         (shows.Field (codes "chapters") ⟦<Vec<ChapterLayout> as Described>⟧.size (level_shows ⟦<Chapter as Allocative>⟧.may_show (vec_in ⟦<ChapterLayout as Described>⟧.size child (out-Note x).chapters)))
         (shows.Field (codes "is_long") ⟦<bool as Described>⟧.size (⟦<bool as Allocative>⟧.may_show (out-Note x).is_long))) };
 
-    ghost is_exact = { true };
+    ghost is_strict = { true };
 
     #[cycle(chapters)]
     fn visit(&self, visitor: &mut Visitor<'_>) -> Result<(), Refusal> {
@@ -486,13 +486,13 @@ impl Described for Rope {
 impl Allocative for Rope {
     ghost use Rattle.test_generated_types.specs.declared.nested.Rope.TheOpen.{Rope-F};
 
-    ghost may_show = { recursive (λ x. field (codes "Rope") ⟦<RopeLayout as Described>⟧.size (elim (out-Rope x) [
+    ghost may_show = { recursive (opened out-Rope (λ x. field (codes "Rope") ⟦<RopeLayout as Described>⟧.size (elim x [
       | Rope-F.Of a b ↦ field (codes "Of") ⟦<RopeOfFields as Described>⟧.size (both
           (field (codes "0") ⟦<Vec<RopeLayout> as Described>⟧.size (vec_in ⟦<RopeLayout as Described>⟧.size child a))
           (plain (shows.Field (codes "1") ⟦<String as Described>⟧.size (⟦<String as Allocative>⟧.may_show b))))
-    ])) };
+    ]))) };
 
-    ghost is_exact = { true };
+    ghost is_strict = { true };
 
     fn visit(&self, visitor: &mut Visitor<'_>) -> Result<(), Refusal> {
         match self {
@@ -550,7 +550,7 @@ impl<T: Allocative + Described> Allocative for Page<T> {
         (shows.Field (codes "first") ⟦<Option<T> as Described>⟧.size (⟦<Option<T> as Allocative>⟧.may_show x.first))
         (shows.Field (codes "total") ⟦<u64 as Described>⟧.size (⟦<u64 as Allocative>⟧.may_show x.total)))) };
 
-    ghost is_exact = { ⟦<Vec<T> as Allocative>⟧.is_exact && (⟦<Option<T> as Allocative>⟧.is_exact && (⟦<u64 as Allocative>⟧.is_exact)) };
+    ghost is_strict = { ⟦<Vec<T> as Allocative>⟧.is_strict && (⟦<Option<T> as Allocative>⟧.is_strict && (⟦<u64 as Allocative>⟧.is_strict)) };
 
     fn visit(&self, visitor: &mut Visitor<'_>) -> Result<(), Refusal> {
         let items = Field("items", &self.items);

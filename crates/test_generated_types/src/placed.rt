@@ -56,7 +56,7 @@ impl Allocative for Letter {
         (shows.Field (codes "number") ⟦<u64 as Described>⟧.size (⟦<u64 as Allocative>⟧.may_show x.number))
         (shows.Field (codes "name") ⟦<String as Described>⟧.size (⟦<String as Allocative>⟧.may_show x.name))) };
 
-    ghost is_exact = { true };
+    ghost is_strict = { true };
 
     fn visit(&self, visitor: &mut Visitor<'_>) -> Result<(), Refusal> {
         let number = Field("number", &self.number);
@@ -116,7 +116,7 @@ impl Allocative for Parcel {
         (shows.Field (codes "is_open") ⟦<bool as Described>⟧.size (⟦<bool as Allocative>⟧.may_show x.is_open))))))
         (shows.Field (codes "limit") ⟦<Option<u64> as Described>⟧.size (⟦<Option<u64> as Allocative>⟧.may_show x.limit))) };
 
-    ghost is_exact = { true };
+    ghost is_strict = { true };
 
     fn visit(&self, visitor: &mut Visitor<'_>) -> Result<(), Refusal> {
         let number = Field("number", &self.number);
@@ -179,7 +179,7 @@ impl Allocative for Post {
           (shows.Field (codes "name") ⟦<String as Described>⟧.size (⟦<String as Allocative>⟧.may_show b)))
     ]) };
 
-    ghost is_exact = { true };
+    ghost is_strict = { true };
 
     fn visit(&self, visitor: &mut Visitor<'_>) -> Result<(), Refusal> {
         match self {
@@ -240,7 +240,7 @@ impl<T: Allocative + Described> Allocative for Pair<T> {
         (shows.Field (codes "first") ⟦<T as Described>⟧.size (⟦<T as Allocative>⟧.may_show x.first))
         (shows.Field (codes "second") ⟦<T as Described>⟧.size (⟦<T as Allocative>⟧.may_show x.second))) };
 
-    ghost is_exact = { ⟦<T as Allocative>⟧.is_exact && (⟦<T as Allocative>⟧.is_exact) };
+    ghost is_strict = { ⟦<T as Allocative>⟧.is_strict && (⟦<T as Allocative>⟧.is_strict) };
 
     fn visit(&self, visitor: &mut Visitor<'_>) -> Result<(), Refusal> {
         let first = Field("first", &self.first);

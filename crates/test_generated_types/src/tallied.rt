@@ -55,7 +55,7 @@ impl<T: Allocative + Described> Allocative for Shelf<T> {
         (shows.Field (codes "own") ⟦<T as Described>⟧.size (⟦<T as Allocative>⟧.may_show x.own))
         (shows.Field (codes "items") ⟦<Vec<T> as Described>⟧.size (⟦<Vec<T> as Allocative>⟧.may_show x.items))))) };
 
-    ghost is_exact = { ⟦<u64 as Allocative>⟧.is_exact && (⟦<Option<String> as Allocative>⟧.is_exact && (⟦<T as Allocative>⟧.is_exact && (⟦<Vec<T> as Allocative>⟧.is_exact))) };
+    ghost is_strict = { ⟦<u64 as Allocative>⟧.is_strict && (⟦<Option<String> as Allocative>⟧.is_strict && (⟦<T as Allocative>⟧.is_strict && (⟦<Vec<T> as Allocative>⟧.is_strict))) };
 
     fn visit(&self, visitor: &mut Visitor<'_>) -> Result<(), Refusal> {
         let number = Field("number", &self.number);
@@ -168,7 +168,7 @@ impl Allocative for Event {
           (shows.Field (codes "prices") ⟦<Vec<u64> as Described>⟧.size (⟦<Vec<u64> as Allocative>⟧.may_show b)))
     ]) };
 
-    ghost is_exact = { true };
+    ghost is_strict = { true };
 
     fn visit(&self, visitor: &mut Visitor<'_>) -> Result<(), Refusal> {
         match self {
@@ -293,7 +293,7 @@ impl Allocative for Cart {
           (shows.Field (codes "names") ⟦<Vec<String> as Described>⟧.size (⟦<Vec<String> as Allocative>⟧.may_show b)))
     ]) };
 
-    ghost is_exact = { true };
+    ghost is_strict = { true };
 
     fn visit(&self, visitor: &mut Visitor<'_>) -> Result<(), Refusal> {
         match self {

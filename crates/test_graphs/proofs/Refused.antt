@@ -9,7 +9,7 @@ use Rattle.allocative.specs.Visits.{AddsForest, refused, OpensEntry, ClosesEntry
 use Rattle.allocative.specs.declared.visitor.Visitor.{Visitor}
 use Rattle.allocative.specs.Closures.{CallsInside, not_called, called, refused_inside, CalledInside}
 use Rattle.allocative.specs.Visited.{Visited, AnyEffect, Entered, Refused, Means}
-use Rattle.allocative.proofs.Exact.{inexact}
+use Rattle.allocative.proofs.Strict.{not_strict}
 use Rattle.allocative.proofs.Meaning.{visited, entered_refused}
 use Rattle.allocative.proofs.Showing.{not_entered, adds_weaker, adds_hidden, adds_refused, adds_refused_err}
 use Rattle.allocative.proofs.Showing.{adds_both_err, adds_err}
@@ -26,7 +26,7 @@ refused_in_silence {q = q} {e = e} h = record {
   same_reference = h.same_reference;
   same_outer = h.same_outer;
   shown = adds_hidden {p = Nothing} (adds_refused _ e q _ h.after);
-  only_if_full = inexact;
+  only_if_full = not_strict;
   takes_effect = tt;
 }
 
@@ -37,7 +37,7 @@ refused_again {q = q} {r = r} {e = e} f h = record {
   same_reference = h.same_reference ∙ f.same_reference;
   same_outer = h.same_outer ∙ f.same_outer;
   shown = adds_refused_err r (adds_refused _ e q _ f.after) h.after;
-  only_if_full = inexact;
+  only_if_full = not_strict;
   takes_effect = tt;
 }
 
@@ -48,20 +48,20 @@ refused_after {q = q} {e = e} f h = record {
   same_reference = h.same_reference ∙ f.same_reference;
   same_outer = h.same_outer ∙ f.same_outer;
   shown = adds_both_err f.shown (adds_refused {q = Nothing} _ e q _ h.after);
-  only_if_full = inexact;
+  only_if_full = not_strict;
   takes_effect = tt;
 }
 
 -- An error of a part that comes first.
 pub refused_first : {p s : Showing} {e : Refusal} {a b : Visitor} → Entered false s a b (Err e) →
     Visited false p AnyEffect a b (Err e)
-refused_first h = record { same_reference = h.same_reference; same_outer = h.same_outer; shown = adds_err h.shown; only_if_full = inexact; takes_effect = tt }
+refused_first h = record { same_reference = h.same_reference; same_outer = h.same_outer; shown = adds_err h.shown; only_if_full = not_strict; takes_effect = tt }
 
 -- A part whose error is hidden.
 pub hides : {p s : Showing} {a b : Visitor} {r : Result (Unit {0}) Refusal} {u : Unit {0}} → Entered true s a b r →
     Means false s p → Visited false p AnyEffect a b (Ok u)
-hides {r = Ok v} h m = record { same_reference = h.same_reference; same_outer = h.same_outer; shown = adds_weaker m.means h.shown; only_if_full = inexact; takes_effect = tt }
-hides {r = Err e} h m = record { same_reference = h.same_reference; same_outer = h.same_outer; shown = adds_hidden h.shown; only_if_full = inexact; takes_effect = tt }
+hides {r = Ok v} h m = record { same_reference = h.same_reference; same_outer = h.same_outer; shown = adds_weaker m.means h.shown; only_if_full = not_strict; takes_effect = tt }
+hides {r = Err e} h m = record { same_reference = h.same_reference; same_outer = h.same_outer; shown = adds_hidden h.shown; only_if_full = not_strict; takes_effect = tt }
 
 -- An error that is made by hand, after which an entry is closed.
 refused_inside_entry : {p : Showing} {b : Kind} {e : Refusal} (q : Outer) (x : Refusal) (z : State) →
@@ -87,7 +87,7 @@ module _ {F : Type 0} (g : Once F (MutBor Visitor × Unit {0}) (Result (Unit {0}
   pub closure_refuses : {p : Showing} {k : Key} {n : ℕ} {a b : Visitor} {r : Result (Unit {0}) Refusal} →
       CalledInside g f k n a b r → ((x y : Visitor) → FnOnceReturnsAtMut g f x (Ok tt) y → ⊥) →
       Visited false p AnyEffect a b r
-  closure_refuses {p = p} h never = record { same_reference = h.same_reference; same_outer = h.same_outer; shown = closure_shows p h.calls never; only_if_full = inexact; takes_effect = tt }
+  closure_refuses {p = p} h never = record { same_reference = h.same_reference; same_outer = h.same_outer; shown = closure_shows p h.calls never; only_if_full = not_strict; takes_effect = tt }
 
 -- The rules for implementations that return an error of their own, or hide an error.
 pub ruleset refusals = (refused_by_hand, refused_in_silence, refused_again, refused_after, refused_first, hides)

@@ -3,10 +3,10 @@ use crate::declared::collections_and_short;
 use crate::made_graphs::{own, with_children, with_paths};
 use allocative::Refusal;
 use allocative_collectors::output::WarnedPath;
+use allocative_picture::frame::{Frame, Mark};
 use allocative_picture::options::Options;
 use allocative_picture::page::Subject;
 use allocative_picture::picture::{change_picture, draw, picture};
-use allocative_picture::row::{Mark, Row};
 use std::alloc::{AllocError, Global};
 use std::process::Abort;
 
@@ -147,9 +147,9 @@ fn totals_past_a_word_are_refused(rt: HostRuntime) -> Result<(), Refusal> {
     Ok(())
 }
 
-/// A row one level below the root.
-fn row<'a>(key: &'a str, before: usize) -> Row<'a> {
-    Row {
+/// A frame one level below the root.
+fn frame<'a>(key: &'a str, before: usize) -> Frame<'a> {
+    Frame {
         depth: 1,
         key,
         own: 1,
@@ -163,16 +163,16 @@ fn row<'a>(key: &'a str, before: usize) -> Row<'a> {
 fn hostile_keys_stay_text(rt: HostRuntime) -> Result<(), AllocError> {
     let alloc = rt.alloc();
     let long: String = (0..10_000).map(|_| 'x').collect(alloc)?;
-    let rows = [
-        row("<script>alert(1)</script>", 0),
-        row("\"'&", 1),
-        row("]]>", 2),
-        row("\0\u{1b}\u{7f}\u{ffff}", 3),
-        row("", 4),
-        row(long.as_str(), 5),
+    let frames = [
+        frame("<script>alert(1)</script>", 0),
+        frame("\"'&", 1),
+        frame("]]>", 2),
+        frame("\0\u{1b}\u{7f}\u{ffff}", 3),
+        frame("", 4),
+        frame(long.as_str(), 5),
     ];
     let subject = Subject::Profile { bytes: 6 };
-    let text = draw(alloc, subject, &rows, &Options::default())?;
+    let text = draw(alloc, subject, &frames, &Options::default())?;
     let parts = [
         "<title>&lt;script&gt;alert(1)&lt;/script&gt;\n1 B (1 bytes), 16.66% of all</title>",
         "<title>&quot;&#39;&amp;\n",

@@ -77,7 +77,7 @@ impl Allocative for Index {
         (in_any_order (pair_shows ⟦<u32 as Described>⟧.size ⟦<u32 as Allocative>⟧.may_show
         ⟦<u64 as Described>⟧.size ⟦<u64 as Allocative>⟧.may_show) x.1.entries)) };
 
-    ghost is_exact = { true };
+    ghost is_strict = { true };
 
     fn visit(&self, visitor: &mut Visitor<'_>) -> Result<(), Refusal> {
         let pairs = (CountedPairs(&self.0), CountedPairs(&self.1));

@@ -20,7 +20,7 @@ struct Members(Map<String, Value>);
 impl Allocative for Members {
     ghost may_show = { λ m. stored_map m.0.entries };
 
-    ghost is_exact = { true };
+    ghost is_strict = { true };
 
     fn visit(&self, visitor: &mut Visitor<'_>) -> Result<(), Refusal> {
         visit_json_map(visitor, &self.0)

@@ -112,15 +112,15 @@ class CommandTest(unittest.TestCase):
 
     def test_flags_of_the_pack(self) -> None:
         _, output, _ = self.run_it("use slab::Slab;\nuse serde_json::Value;\n#[derive(Drop)]\nstruct A {\n    a: Slab<String>,\n    b: Value,\n}\n")
-        self.assertIn("ghost is_exact = { true };", output)
+        self.assertIn("ghost is_strict = { true };", output)
         _, output, _ = self.run_it("use once_cell::race::OnceBox;\n#[derive(Drop)]\nstruct A {\n    a: OnceBox<u8>,\n}\n")
-        self.assertIn("ghost is_exact = { ⟦<OnceBox<u8> as Allocative>⟧.is_exact };", output)
+        self.assertIn("ghost is_strict = { ⟦<OnceBox<u8> as Allocative>⟧.is_strict };", output)
 
     def test_flags_through_a_cycle(self) -> None:
         two = "#[cycle(x)]\n#[derive(Drop)]\nstruct A {\n    b: Vec<B>,\n    o: OnceBox<u8>,\n}\n"
         two += "#[cycle(x)]\n#[derive(Drop)]\nstruct B {\n    a: Vec<A>,\n}\n"
         text = "use once_cell::race::OnceBox;\n" + two + "#[derive(Drop)]\nstruct C {\n    b: B,\n}\n"
-        self.assertIn("ghost is_exact = { ⟦<B as Allocative>⟧.is_exact };", self.run_it(text)[1])
+        self.assertIn("ghost is_strict = { ⟦<B as Allocative>⟧.is_strict };", self.run_it(text)[1])
 
     def test_variants_by_name(self) -> None:
         variants = "    A,\n    B(u8),\n    C(u8, T),\n    D { d: u16 },\n    E(),\n"
@@ -178,6 +178,11 @@ class CommandTest(unittest.TestCase):
     def test_recursive_types_and_cycles(self) -> None:
         two = "#[derive(Drop)]\nstruct A {\n    b: Vec<B>,\n}\n#[derive(Drop)]\nstruct B {\n    a: Vec<A>,\n}\n"
         self.assertIn("#[cycle(NAME)]", self.run_it(two)[2][0])
+        for count, status in ((10, 0), (11, 4)):
+            variants = "".join(f"    V{number}(u8, u8, u8, String),\n" for number in range(count - 1))
+            enum = f"#[derive(Drop)]\nenum A {{\n    First(Vec<A>, u8),\n{variants}}}\n"
+            self.assertEqual(self.run_it(enum)[0], status)
+        self.assertIn("11 variants and 43 names of types in its fields are too many", self.run_it(enum)[2][0])
         self.assertIn("holds the type itself in a way", self.run_it("use std::collections::*;\n#[derive(Drop)]\nstruct A {\n    a: VecDeque<A>,\n}\n")[2][0])
 
     def test_paths_of_the_module_itself(self) -> None:

@@ -28,7 +28,7 @@ pub struct Items<V>(pub V);
 impl<'a, T: Allocative + Described> Part for Items<&'a [T]> {
     ghost may_show = { λ s. shows.slice_shows T.name T.size T.needs_drop T.may_show s.0.now };
 
-    ghost is_exact = { T.is_exact };
+    ghost is_strict = { T.is_strict };
 
     fn enter(self, visitor: &mut Visitor<'_>) -> Result<(), Refusal> {
         visitor.visit_slice(self.0)
@@ -46,7 +46,7 @@ pub struct Each<V>(pub V);
 impl<'a, T: Allocative> Part for Each<&'a Vec<T>> {
     ghost may_show = { λ s. shows.each_shows T.may_show s.0.now.items };
 
-    ghost is_exact = { T.is_exact };
+    ghost is_strict = { T.is_strict };
 
     fn enter(self, visitor: &mut Visitor<'_>) -> Result<(), Refusal> {
         visitor.visit_each(self.0)
@@ -61,7 +61,7 @@ pub struct Cut<V>(pub V, pub V);
 impl<'a, T: Allocative + Described> Part for Cut<&'a [T]> {
     ghost may_show = { λ s. cut_shows T.name T.size T.needs_drop T.may_show (s.0.now ++ s.1.now) };
 
-    ghost is_exact = { T.is_exact };
+    ghost is_strict = { T.is_strict };
 
     fn enter(self, visitor: &mut Visitor<'_>) -> Result<(), Refusal> {
         (Items(self.0), Items(self.1)).enter(visitor)
@@ -80,7 +80,7 @@ pub struct FieldEach<K, V>(pub K, pub V);
 impl<'a, K: IntoKey, T: Allocative + Described> Part for FieldEach<K, &'a [T]> {
     ghost may_show = { λ s. shows.each_shows (field_of (K.key s.0) T.size T.may_show) s.1.now };
 
-    ghost is_exact = { T.is_exact };
+    ghost is_strict = { T.is_strict };
 
     fn enter(self, visitor: &mut Visitor<'_>) -> Result<(), Refusal> {
         let FieldEach(key, items) = self;
@@ -91,7 +91,7 @@ impl<'a, K: IntoKey, T: Allocative + Described> Part for FieldEach<K, &'a [T]> {
 impl<'a, K: IntoKey, T: Allocative + Described + Ord> Part for FieldEach<K, &'a BTreeSet<T>> {
     ghost may_show = { λ s. shows.each_shows (field_of (K.key s.0) T.size T.may_show) s.1.now.keys };
 
-    ghost is_exact = { T.is_exact };
+    ghost is_strict = { T.is_strict };
 
     fn enter(self, visitor: &mut Visitor<'_>) -> Result<(), Refusal> {
         let FieldEach(key, set) = self;
@@ -102,7 +102,7 @@ impl<'a, K: IntoKey, T: Allocative + Described + Ord> Part for FieldEach<K, &'a 
 impl<'a, K: IntoKey, T: Allocative + Described + Eq + Hash> Part for FieldEach<K, &'a HashSet<T>> {
     ghost may_show = { λ s. in_any_order (field_of (K.key s.0) T.size T.may_show) s.1.now.keys };
 
-    ghost is_exact = { T.is_exact };
+    ghost is_strict = { T.is_strict };
 
     fn enter(self, visitor: &mut Visitor<'_>) -> Result<(), Refusal> {
         let FieldEach(key, hashed) = self;
@@ -113,7 +113,7 @@ impl<'a, K: IntoKey, T: Allocative + Described + Eq + Hash> Part for FieldEach<K
 impl<'a, K: IntoKey, T: Allocative + Described + Eq + Hash> Part for FieldEach<K, &'a IndexSet<T>> {
     ghost may_show = { λ s. shows.each_shows (field_of (K.key s.0) T.size T.may_show) s.1.now.keys };
 
-    ghost is_exact = { T.is_exact };
+    ghost is_strict = { T.is_strict };
 
     fn enter(self, visitor: &mut Visitor<'_>) -> Result<(), Refusal> {
         let FieldEach(key, indexed) = self;
@@ -134,7 +134,7 @@ impl<'a, K: Allocative + Described + Ord, V: Allocative + Described> Part
     for Pairs<&'a BTreeMap<K, V>> {
     ghost may_show = { λ m. shows.each_shows (pair_shows K.size K.may_show V.size V.may_show) m.0.now.entries };
 
-    ghost is_exact = { K.is_exact && V.is_exact };
+    ghost is_strict = { K.is_strict && V.is_strict };
 
     fn enter(self, visitor: &mut Visitor<'_>) -> Result<(), Refusal> {
         let Pairs(map) = self;
@@ -146,7 +146,7 @@ impl<'a, K: Allocative + Described + Eq + Hash, V: Allocative + Described> Part
     for Pairs<&'a HashMap<K, V>> {
     ghost may_show = { λ m. in_any_order (pair_shows K.size K.may_show V.size V.may_show) m.0.now.entries };
 
-    ghost is_exact = { K.is_exact && V.is_exact };
+    ghost is_strict = { K.is_strict && V.is_strict };
 
     fn enter(self, visitor: &mut Visitor<'_>) -> Result<(), Refusal> {
         let Pairs(hashed) = self;
@@ -158,7 +158,7 @@ impl<'a, K: Allocative + Described + Eq + Hash, V: Allocative + Described> Part
     for Pairs<&'a IndexMap<K, V>> {
     ghost may_show = { λ m. shows.each_shows (pair_shows K.size K.may_show V.size V.may_show) m.0.now.entries };
 
-    ghost is_exact = { K.is_exact && V.is_exact };
+    ghost is_strict = { K.is_strict && V.is_strict };
 
     fn enter(self, visitor: &mut Visitor<'_>) -> Result<(), Refusal> {
         let Pairs(indexed) = self;
@@ -179,7 +179,7 @@ pub struct Unused {
 impl Part for Unused {
     ghost may_show = { λ u. bytes_shown (codes "unused_capacity") u.item_size u.count };
 
-    ghost is_exact = { true };
+    ghost is_strict = { true };
 
     #[inline(always)]
     fn enter(self, visitor: &mut Visitor<'_>) -> Result<(), Refusal> {
@@ -216,7 +216,7 @@ pub struct Buffer<P> {
 impl<P: Part> Part for Buffer<P> {
     ghost may_show = { λ b. buffer_shows b.item_size (P.may_show b.items) b.count b.capacity };
 
-    ghost is_exact = { P.is_exact };
+    ghost is_strict = { P.is_strict };
 
     fn enter(self, visitor: &mut Visitor<'_>) -> Result<(), Refusal> {
         let Some(size) = self.item_size else {
@@ -244,7 +244,7 @@ pub struct IndexData<P>(pub P, pub Unused);
 impl<P: Part> Part for IndexData<P> {
     ghost may_show = { λ d. index_data_shows d.1.item_size (P.may_show d.0) d.1.count };
 
-    ghost is_exact = { P.is_exact };
+    ghost is_strict = { P.is_strict };
 
     fn enter(self, visitor: &mut Visitor<'_>) -> Result<(), Refusal> {
         Unique("data", 8, (self.0, self.1)).enter(visitor)
@@ -263,7 +263,7 @@ pub struct Text<'a>(pub &'a String);
 impl<'a> Part for Text<'a> {
     ghost may_show = { λ t. text_shows (length (string_bytes t.0.now)) (string_capacity t.0.now) };
 
-    ghost is_exact = { true };
+    ghost is_strict = { true };
 
     fn enter(self, visitor: &mut Visitor<'_>) -> Result<(), Refusal> {
         let used = Inside("u8", self.0.len(), ());
@@ -282,7 +282,7 @@ pub struct Table(pub usize);
 impl Part for Table {
     ghost may_show = { λ t. table_shows t.0 };
 
-    ghost is_exact = { true };
+    ghost is_strict = { true };
 
     fn enter(self, visitor: &mut Visitor<'_>) -> Result<(), Refusal> {
         if self.0 == 0 {

@@ -20,7 +20,7 @@ pub struct Named<T>(pub Key, pub T);
 impl<T: Allocative + Described> Allocative for Named<T> {
     ghost may_show = { λ named. shows.Field named.0 T.size (T.may_show named.1) };
 
-    ghost is_exact = { T.is_exact };
+    ghost is_strict = { T.is_strict };
 
     fn visit(&self, visitor: &mut Visitor<'_>) -> Result<(), Refusal> {
         Field(self.0.copy(), &self.1).enter(visitor)

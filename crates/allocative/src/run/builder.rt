@@ -5,7 +5,7 @@ ghost use Rattle.allocative_graph.specs.Graph.{text, graph, total};
 ghost use Rattle.allocative_graph.specs.Collector.{Going, OfGraph, no_entries};
 ghost use Rattle.allocative_graph.specs.Visits.{VisitsRoot, Settles, Ends, IsProfile};
 ghost use Rattle.allocative.specs.Built.{as_graph};
-ghost use Rattle.allocative.specs.Exact.{RootFailsOnlyIfFull};
+ghost use Rattle.allocative.specs.Strict.{RootFailsOnlyIfFull};
 ghost use Rattle.allocative.specs.Rooted.{LendsBuilt, LendsRoot};
 ghost use Rattle.allocative.specs.Visited.{OpensRootAt};
 ghost use Rattle.std.specs.Borrow.{sem};
@@ -50,7 +50,7 @@ impl FlameGraphBuilder {
             (λ r. r ≡ Refusal.Memory) }
     {
         Ok(FlameGraphBuilder {
-            collector: Collector::graph(alloc)?,
+            collector: Collector::of_graph(alloc)?,
         })
     }
 
@@ -84,11 +84,11 @@ impl FlameGraphBuilder {
     /// `Open`; then nothing changes. Otherwise the error is the first cause of the visit, or `Open`
     /// if the visit forgot a visitor.
     ///
-    /// A builder that has not failed and has no open visitor refuses a root of an exact type only with `Memory`, or
+    /// A builder that has not failed and has no open visitor refuses a root of a strict type only with `Memory`, or
     /// with `TooLarge` if not all that the root may show can be added.
     pub fn visit_root(&mut self, root: &dyn Allocative) -> Result<(), Refusal>
         ensures visits_root { VisitsRoot (may_show root.now) self.old result self.new }
-        ensures only_if_full { RootFailsOnlyIfFull (Allocative-dyn root.now).is_exact
+        ensures only_if_full { RootFailsOnlyIfFull (Allocative-dyn root.now).is_strict
             (may_show root.now) self.old result self.new }
     {
         self.check()?;
@@ -96,10 +96,10 @@ impl FlameGraphBuilder {
     }
 
     /// Visits a root whose type is known, without a trait object. What it returns and changes, and what a root of an
-    /// exact type is refused for, is as in `visit_root`.
+    /// strict type is refused for, is as in `visit_root`.
     pub fn visit_value<T: Allocative>(&mut self, root: &T) -> Result<(), Refusal>
         ensures visits_root { VisitsRoot (T.may_show root.now) self.old result self.new }
-        ensures only_if_full { RootFailsOnlyIfFull T.is_exact (T.may_show root.now)
+        ensures only_if_full { RootFailsOnlyIfFull T.is_strict (T.may_show root.now)
             self.old result self.new }
     {
         self.check()?;

@@ -5,7 +5,7 @@ ghost use Rattle.std.specs.Prelude.{◌<◌, ◌^◌, IfOk, IfErr};
 ghost use Rattle.allocative_graph.specs.Graph.{total};
 ghost use Rattle.allocative_graph.specs.Shows.{each_shows};
 ghost use Rattle.allocative_graph.specs.Visits.{VisitsRoot, IsProfileOf};
-ghost use Rattle.allocative.specs.Exact.{MayRefuseProfile, RootFailsOnlyIfFull};
+ghost use Rattle.allocative.specs.Strict.{MayRefuseProfile, RootFailsOnlyIfFull};
 
 use crate::{Allocative, FlameGraphBuilder, FlameGraphOutput, Refusal};
 use std::alloc::Global;
@@ -13,12 +13,12 @@ use std::alloc::Global;
 impl FlameGraphBuilder {
     /// Visits roots of one type in order, up to the first refusal, each as `visit_value` does.
     ///
-    /// A builder that has not failed and has no open visitor refuses roots of an exact type only with `Memory`, or with
+    /// A builder that has not failed and has no open visitor refuses roots of a strict type only with `Memory`, or with
     /// `TooLarge` if not all that the roots may show together can be added.
     pub fn visit_values<T: Allocative>(&mut self, roots: &[T]) -> Result<(), Refusal>
         ensures visits_root { VisitsRoot (each_shows T.may_show roots.now)
             self.old result self.new }
-        ensures only_if_full { RootFailsOnlyIfFull T.is_exact (each_shows T.may_show roots.now)
+        ensures only_if_full { RootFailsOnlyIfFull T.is_strict (each_shows T.may_show roots.now)
             self.old result self.new }
     {
         self.check()?;
@@ -34,7 +34,7 @@ impl FlameGraphBuilder {
 /// A struct that owns the parts of a service is profiled so, from a method of its own. The promise is that of
 /// `profile_roots`, for what the value may show. It makes no trait object, so any function may hold the value and
 /// pass it on. The graph's total is at most `isize::MAX` bytes. It is refused for want of memory, or as the value's
-/// own visit is. A value of an exact type is refused only with `Memory`, or with `TooLarge` if a flame graph cannot
+/// own visit is. A value of a strict type is refused only with `Memory`, or with `TooLarge` if a flame graph cannot
 /// take all that the value may show.
 ///
 /// ```
@@ -43,7 +43,7 @@ impl FlameGraphBuilder {
 /// ```
 pub fn profile_value<T: Allocative>(alloc: Global, root: &T) -> Result<FlameGraphOutput, Refusal>
     ensures profile { IfOk result (IsProfileOf (T.may_show root.now)) }
-    ensures refused { IfErr result (MayRefuseProfile T.is_exact (T.may_show root.now)) }
+    ensures refused { IfErr result (MayRefuseProfile T.is_strict (T.may_show root.now)) }
     ensures total { IfOk result (λ o. total o.graph < 2 ^ 63) }
 {
     let mut builder = FlameGraphBuilder::new(alloc)?;
@@ -63,7 +63,7 @@ pub fn profile_values<T: Allocative>(
     roots: &[T],
 ) -> Result<FlameGraphOutput, Refusal>
     ensures profile { IfOk result (IsProfileOf (each_shows T.may_show roots.now)) }
-    ensures refused { IfErr result (MayRefuseProfile T.is_exact (each_shows T.may_show roots.now)) }
+    ensures refused { IfErr result (MayRefuseProfile T.is_strict (each_shows T.may_show roots.now)) }
     ensures total { IfOk result (λ o. total o.graph < 2 ^ 63) }
 {
     let mut builder = FlameGraphBuilder::new(alloc)?;

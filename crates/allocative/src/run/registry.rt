@@ -3,9 +3,9 @@
 
 ghost use Rattle.std.specs.Prelude.{◌≡◌, ◌++◌, ◌∷◌, [], MatchResult, IfOk, IfErr};
 ghost use Rattle.allocative_graph.specs.Shows.{each_shows};
-ghost use Rattle.allocative.specs.Roots.{roots_of, are_exact};
+ghost use Rattle.allocative.specs.Roots.{roots_of, are_strict};
 ghost use Rattle.allocative_graph.specs.Visits.{VisitsRoot, IsProfileOf};
-ghost use Rattle.allocative.specs.Exact.{MayRefuseProfile, RootFailsOnlyIfFull};
+ghost use Rattle.allocative.specs.Strict.{MayRefuseProfile, RootFailsOnlyIfFull};
 
 use crate::{Allocative, FlameGraphBuilder, FlameGraphOutput, Refusal};
 use std::alloc::Global;
@@ -68,12 +68,12 @@ impl Registry {
 impl FlameGraphBuilder {
     /// Visits the registry's roots in order, up to the first refusal, each as `visit_root` does.
     ///
-    /// If the types of all roots are exact, a builder that has not failed and has no open visitor refuses them only
+    /// If the types of all roots are strict, a builder that has not failed and has no open visitor refuses them only
     /// with `Memory`, or with `TooLarge` if not all that the roots may show together can be added.
     pub fn visit_global_roots(&mut self, registry: &Registry) -> Result<(), Refusal>
         ensures visits_root { VisitsRoot (each_shows may_show (roots_of registry.now))
             self.old result self.new }
-        ensures only_if_full { RootFailsOnlyIfFull (are_exact Allocative-box registry.now)
+        ensures only_if_full { RootFailsOnlyIfFull (are_strict Allocative-box registry.now)
             (each_shows may_show (roots_of registry.now)) self.old result self.new }
     {
         self.check()?;
@@ -91,11 +91,11 @@ impl FlameGraphBuilder {
 /// content shown for it; each path has its declared bytes less those declared one step below, never below zero, or
 /// all if it was ever unique. The warnings have a line for each path but the root that was never unique and has
 /// fewer bytes than stand one key below. It is refused for want of memory, or as a root's own visit is. If the types
-/// of all roots are exact, it is refused only with `Memory`, or with `TooLarge` if a flame graph cannot take all that
+/// of all roots are strict, it is refused only with `Memory`, or with `TooLarge` if a flame graph cannot take all that
 /// the roots may show together.
 pub fn profile_roots(registry: &Registry) -> Result<FlameGraphOutput, Refusal>
     ensures profile { IfOk result (IsProfileOf (each_shows may_show (roots_of registry.now))) }
-    ensures refused { IfErr result (MayRefuseProfile (are_exact Allocative-box registry.now)
+    ensures refused { IfErr result (MayRefuseProfile (are_strict Allocative-box registry.now)
         (each_shows may_show (roots_of registry.now))) }
 {
     let mut builder = FlameGraphBuilder::new(*registry.roots.allocator())?;

@@ -14,15 +14,15 @@ use crate::{Allocative, Described, Refusal, Visitor};
 /// not fit, with Open if a visitor was forgotten and nothing was refused, and else with the first cause of the
 /// visit. The entries of std's maps and sets are declared inline, so of them only what the keys and values hold counts.
 ///
-/// An object of an exact type is refused with TooLarge alone: if what it may show asks for a declared size that is
+/// An object of a strict type is refused with TooLarge alone: if what it may show asks for a declared size that is
 /// not there, or if some of what it may show does not fit.
 pub fn size_of_unique_allocated_data(root: &dyn Allocative) -> Result<usize, Refusal>
     ensures held { IfOk result (IsSizeOfHeld (may_show root.now)) }
     ensures refused { IfErr result
-        (MayRefuseHeld (Allocative-dyn root.now).is_exact (may_show root.now)) }
+        (MayRefuseHeld (Allocative-dyn root.now).is_strict (may_show root.now)) }
     ensures answer { AnswersVisit (may_show root.now) (effect root.now) AnswersSum result }
 {
-    let mut collector = Collector::held();
+    let mut collector = Collector::of_held();
     collector.visit_object(root)?;
     Ok(collector.sum())
 }
@@ -31,7 +31,7 @@ pub fn size_of_unique_allocated_data(root: &dyn Allocative) -> Result<usize, Ref
 /// of its own is TooLarge, after a visit that is not refused: if the root has no declared size, or if it does not fit
 /// together with what the root holds.
 ///
-/// An exact type is refused with TooLarge alone: if it has no declared size, if what the value may show asks for
+/// A strict type is refused with TooLarge alone: if it has no declared size, if what the value may show asks for
 /// a declared size that is not there, or if some of what it may show does not fit, by itself or together with the
 /// declared size of the root.
 ///
@@ -41,11 +41,11 @@ pub fn size_of_unique_allocated_data(root: &dyn Allocative) -> Result<usize, Ref
 /// ```
 pub fn size_of_unique<T: Allocative + Described>(root: &T) -> Result<usize, Refusal>
     ensures held { IfOk result (IsSizeOfUnique T.size (T.may_show root.now)) }
-    ensures refused { IfErr result (MayRefuseSize T.is_exact T.size (T.may_show root.now)) }
+    ensures refused { IfErr result (MayRefuseSize T.is_strict T.size (T.may_show root.now)) }
     ensures answer { AnswersVisit (T.may_show root.now) (T.effect root.now) (AnswersSize T.size)
         result }
 {
-    let mut collector = Collector::held();
+    let mut collector = Collector::of_held();
     collector.visit_value(root)?;
     let held = collector.sum();
     let Some(own) = T::size() else {
@@ -64,7 +64,7 @@ pub fn size_of_unique<T: Allocative + Described>(root: &T) -> Result<usize, Refu
 ///
 /// It takes no memory, and has no refusal of its own. It is refused with TooLarge if the sum or a declared size does
 /// not fit, with Open if a visitor was forgotten and nothing was refused, and else with the first cause of the visit.
-/// An exact type is refused with TooLarge alone: if what the value may show asks for a declared size that is not there,
+/// A strict type is refused with TooLarge alone: if what the value may show asks for a declared size that is not there,
 /// or if some of what it may show does not fit.
 ///
 /// ```
@@ -73,10 +73,10 @@ pub fn size_of_unique<T: Allocative + Described>(root: &T) -> Result<usize, Refu
 /// ```
 pub fn size_of_owned<T: Allocative>(root: &T) -> Result<usize, Refusal>
     ensures owned { IfOk result (IsSizeOfOwned (T.may_show root.now)) }
-    ensures refused { IfErr result (MayRefuseOwned T.is_exact (T.may_show root.now)) }
+    ensures refused { IfErr result (MayRefuseOwned T.is_strict (T.may_show root.now)) }
     ensures answer { AnswersOwned (T.may_show root.now) (T.effect root.now) result }
 {
-    let mut collector = Collector::owned();
+    let mut collector = Collector::of_owned();
     collector.visit_value(root)?;
     Ok(collector.sum())
 }
@@ -100,7 +100,7 @@ pub fn size_of_entries<F: FnOnce(&mut Visitor<'_>) -> Result<(), Refusal>>(
     requires keeps { KeepsVisitor F.FnOnce enter }
     ensures { CalledAtRoot F.FnOnce enter result }
 {
-    let mut collector = Collector::held();
+    let mut collector = Collector::of_held();
     let mut visitor = collector.root_visitor()?;
     visitor.call(enter);
     visitor.exit();

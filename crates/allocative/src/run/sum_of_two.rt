@@ -15,7 +15,7 @@ use std::alloc::Global;
 /// If no identity is reached by both, and each path that both have is unique in both or, unique in neither, has at
 /// least the bytes below it in both or at most those in both, the sum is the graph of one collection of all items. A
 /// refusal of the left collection comes before one of the right, and both before one of the adding, which is for want
-/// of memory alone. Items of an exact type are refused only with `Memory`, or with `TooLarge` if a flame graph cannot
+/// of memory alone. Items of a strict type are refused only with `Memory`, or with `TooLarge` if a flame graph cannot
 /// take all that the left items may show, or the left ones were collected and it cannot take all that the right items
 /// may show. Each item is visited by a root visitor and its own `visit`, and no trait object is made. Warnings are not
 /// given.
@@ -32,7 +32,7 @@ pub fn profile_in_two<T: Allocative + Described>(
     ensures sum { IfOk result
         (IsSumOfTwo (each_shows T.may_show left.now) (each_shows T.may_show right.now)) }
     ensures refused { IfErr result
-        (RefusesInTwo T.is_exact (each_shows T.may_show left.now) (each_shows T.may_show right.now)) }
+        (RefusesInTwo T.is_strict (each_shows T.may_show left.now) (each_shows T.may_show right.now)) }
 {
     let mut sum = profile_values(alloc, left)?.into_flamegraph();
     let more = profile_values(alloc, right)?.into_flamegraph();

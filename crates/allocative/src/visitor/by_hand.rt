@@ -29,7 +29,7 @@ ghost use Rattle.std.specs.Borrow.{sem};
 ghost use Rattle.allocative_graph.specs.Visits.{RefusesEntry};
 ghost use Rattle.allocative.specs.Lending.{LendsEntered, LendsPointed, Borrows, OpensEntryAt, OpensSharedAt};
 ghost use Rattle.allocative.specs.Nested.{LendsCollector};
-ghost use Rattle.allocative.specs.Shared.{AnswersShared, told};
+ghost use Rattle.allocative.specs.Shared.{AnswersShared, answer_without_visitor};
 ghost use Rattle.allocative.specs.Visited.{collector_of as state_of};
 
 use crate::visitor::collector::Collector;
@@ -85,7 +85,8 @@ pub fn enter_content(
     ensures* lent { sem 𝓛 (LendsPointed key size id collector.entry result) }
     ensures same_reference { IfOk result (Borrows collector.entry) }
     ensures entered { IfOk result (OpensSharedAt key size id collector.old) }
-    ensures refused { IfErr result (λ o. AnswersShared key size id collector.old (told o)) }
+    ensures refused { IfErr result
+        (λ o. AnswersShared key size id collector.old (answer_without_visitor o)) }
 {
     match collector.open_shared(key, size, id) {
         Ok(true) => Ok(collector.content()),

@@ -132,7 +132,7 @@ impl Kind {
 
 impl Collector {
     /// The collector of a flame graph. The only error is that memory runs out.
-    pub(crate) fn graph(alloc: Global) -> Result<Collector, AllocError>
+    pub(crate) fn of_graph(alloc: Global) -> Result<Collector, AllocError>
         ensures { IfOk result (λ c. c ≡ Going (OfGraph no_entries)) }
     {
         let graph = GraphCollector::new(alloc)?;
@@ -143,7 +143,7 @@ impl Collector {
     }
 
     /// The collector of held bytes. It allocates nothing.
-    pub(crate) fn held() -> Collector
+    pub(crate) fn of_held() -> Collector
         ensures { result ≡ Going (OfHeld nothing_held) }
     {
         Collector {
@@ -153,7 +153,7 @@ impl Collector {
     }
 
     /// The collector of owned bytes. It allocates nothing.
-    pub(crate) fn owned() -> Collector
+    pub(crate) fn of_owned() -> Collector
         ensures { result ≡ Going (OfOwned nothing_owned) }
     {
         Collector {
@@ -336,7 +336,7 @@ impl Collector {
     ghost use Rattle.allocative_graph.specs.Collector.{no_outer};
     ghost use Rattle.allocative_graph.specs.Visits.{RefusesEntry, VisitsRoot};
     ghost use Rattle.allocative.specs.Lending.{LendsEntered, OpensEntryAt, LendsBegun, LendsBegunGraph};
-    ghost use Rattle.allocative.specs.Exact.{RootFailsOnlyIfFull};
+    ghost use Rattle.allocative.specs.Strict.{RootFailsOnlyIfFull};
     ghost use Rattle.allocative.specs.Visited.{OpensRootAt, VisitsRootWithEffect};
 
     /// Enters inline with a declared size: one more entry of that size under the key, and a visitor at it. It
@@ -401,10 +401,10 @@ impl Collector {
     }
 
     /// Visits an object by a root visitor. What the visit returns is not looked at: the collector keeps the first
-    /// cause. A collector that is closed refuses an object of an exact type only if it must.
+    /// cause. A collector that is closed refuses an object of a strict type only if it must.
     pub(crate) fn visit_object(&mut self, root: &dyn Allocative) -> Result<(), Refusal>
         ensures visits_root { VisitsRoot (may_show root.now) self.old result self.new }
-        ensures only_if_full { RootFailsOnlyIfFull (Allocative-dyn root.now).is_exact
+        ensures only_if_full { RootFailsOnlyIfFull (Allocative-dyn root.now).is_strict
             (may_show root.now) self.old result self.new }
         ensures visited { VisitsRootWithEffect (may_show root.now) (effect root.now)
             self.old self.new result }
@@ -418,7 +418,7 @@ impl Collector {
     /// Visits a value of a known type by a root visitor, with no trait object.
     pub(crate) fn visit_value<T: Allocative>(&mut self, root: &T) -> Result<(), Refusal>
         ensures visits_root { VisitsRoot (T.may_show root.now) self.old result self.new }
-        ensures only_if_full { RootFailsOnlyIfFull T.is_exact (T.may_show root.now)
+        ensures only_if_full { RootFailsOnlyIfFull T.is_strict (T.may_show root.now)
             self.old result self.new }
         ensures visited { VisitsRootWithEffect (T.may_show root.now) (T.effect root.now)
             self.old self.new result }

@@ -16,7 +16,7 @@ impl Visitor<'_> {
     #[inline(always)]
     pub fn visit_simple_sized<T: Described>(&mut self) -> Result<(), Refusal>
         ensures entered { Entered true (Field T.name T.size Nothing) self.old self.new result }
-        ensures exact { MakesPlan (one T.name T.size) self.old self.new result }
+        ensures plan { MakesPlan (one T.name T.size) self.old self.new result }
     {
         self.visit_sized(Key::for_type_name::<T>(), T::size())
     }
@@ -30,7 +30,7 @@ impl Visitor<'_> {
         size: Option<usize>,
         inside: P,
     ) -> Result<(), Refusal>
-        ensures entered { Entered P.is_exact (Field key size (P.may_show inside))
+        ensures entered { Entered P.is_strict (Field key size (P.may_show inside))
             self.old self.new result }
         ensures first { MakesFirst key size self.old self.new result }
     {
@@ -49,7 +49,7 @@ impl Visitor<'_> {
         name: Key,
         field: &T,
     ) -> Result<(), Refusal>
-        ensures entered { Entered T.is_exact (Field name T.size (T.may_show field.now))
+        ensures entered { Entered T.is_strict (Field name T.size (T.may_show field.now))
             self.old self.new result }
         ensures first { MakesFirst name T.size self.old self.new result }
     {
@@ -94,7 +94,7 @@ impl Visitor<'_> {
     pub fn visit_str(&mut self, text: &str) -> Result<(), Refusal>
         ensures entered { Entered true (Inside (codes "str") (length text.now) Nothing)
             self.old self.new result }
-        ensures exact { MakesPlan (one (codes "str") (Some (length text.now)))
+        ensures plan { MakesPlan (one (codes "str") (Some (length text.now)))
             self.old self.new result }
     {
         self.visit_simple(Key::new("str"), text.len())
@@ -102,7 +102,7 @@ impl Visitor<'_> {
 
     // One unique entry of a pointer, with what the object shows inside it.
     fn visit_object_pointer(&mut self, object: &dyn Allocative) -> Result<(), Refusal>
-        ensures { Entered (Allocative-dyn object.now).is_exact
+        ensures { Entered (Allocative-dyn object.now).is_strict
             (Unique (codes "ptr") 8 (may_show object.now)) self.old self.new result }
     {
         let outer = self.collector.open_entry(Key::new("ptr"), Some(8), true)?;
@@ -115,9 +115,9 @@ impl Visitor<'_> {
     /// that what the object shows.
     ///
     /// A collector that has failed returns its first cause. The errors of each entry are those of `enter`; the
-    /// object's own errors come after them. It is exact if the type of the object is.
+    /// object's own errors come after them. It is strict if the type of the object is.
     pub fn visit_boxed_object(&mut self, object: &dyn Allocative) -> Result<(), Refusal>
-        ensures entered { Entered (Allocative-dyn object.now).is_exact
+        ensures entered { Entered (Allocative-dyn object.now).is_strict
             (Inside (codes "Box") 8 (Unique (codes "ptr") 8 (may_show object.now))) self.old self.new result }
         ensures first { MakesFirst (codes "Box") (Some 8) self.old self.new result }
     {

@@ -40,11 +40,11 @@ pub(crate) trait EnterItem<A>: Drop {
     ghost may_show: { Self → Seen → Forest → Type 0 };
 
     /// Whether entering refuses only if it must, as `Part` says.
-    ghost is_exact: { Bool };
+    ghost is_strict: { Bool };
 
     /// Enters the item at the visitor.
     fn enter_item(&self, item: A, visitor: &mut Visitor<'_>) -> Result<(), Refusal>
-        ensures { Entered is_exact (may_show self.now (seen item)) visitor.old visitor.new result };
+        ensures { Entered is_strict (may_show self.now (seen item)) visitor.old visitor.new result };
 }
 
 /// What the item shows, with no entry of its own.
@@ -58,7 +58,7 @@ impl<'a, T: Allocative> EnterItem<&'a T> for Itself {
 
     ghost may_show = { λ _. T.may_show };
 
-    ghost is_exact = { T.is_exact };
+    ghost is_strict = { T.is_strict };
 
     #[inline(always)]
     fn enter_item(&self, item: &'a T, visitor: &mut Visitor<'_>) -> Result<(), Refusal> {
@@ -77,7 +77,7 @@ impl<'a, T: Allocative + Described> EnterItem<&'a T> for FieldUnder {
 
     ghost may_show = { λ f. field_of f.0 T.size T.may_show };
 
-    ghost is_exact = { T.is_exact };
+    ghost is_strict = { T.is_strict };
 
     #[inline(always)]
     fn enter_item(&self, item: &'a T, visitor: &mut Visitor<'_>) -> Result<(), Refusal> {
@@ -97,7 +97,7 @@ impl<'a, K: Allocative + Described, V: Allocative + Described> EnterItem<(&'a K,
 
     ghost may_show = { λ _. pair_shows K.size K.may_show V.size V.may_show };
 
-    ghost is_exact = { K.is_exact && V.is_exact };
+    ghost is_strict = { K.is_strict && V.is_strict };
 
     #[inline(always)]
     fn enter_item(&self, item: (&'a K, &'a V), visitor: &mut Visitor<'_>) -> Result<(), Refusal> {
@@ -118,10 +118,10 @@ impl Visitor<'_> {
         requires ends { IsFinite (I.remaining items) }
         ensures entered { EntersRun I.next_gives items E.seen
             (each_shows (E.may_show how)) self.old self.new result }
-        ensures only_if_full { RefusesAlong E.is_exact I.next_gives items E.seen
+        ensures only_if_full { RefusesAlong E.is_strict I.next_gives items E.seen
             (each_shows (E.may_show how)) self.old self.new result }
         ensures kept { Keeps self.old self.new result }
-        ensures exact { MakesPlanOrGives I.next_gives items Done self.old self.new result }
+        ensures plan { MakesPlanOrGives I.next_gives items Done self.old self.new result }
     {
         self.collector.go_on()?;
         for item in items {
@@ -135,7 +135,7 @@ impl Visitor<'_> {
     ///
     /// A collector that has failed returns its first cause. The entry is `TooLarge` if the item has no size,
     /// if the count does not fit, or if the bytes do not; its other errors are those of `enter`. If no more
-    /// items of size 0 are given than fit a word, items of an exact type are refused only if they must be. The
+    /// items of size 0 are given than fit a word, items of a strict type are refused only if they must be. The
     /// iterator is one that can be asked for its next item and that ends.
     pub fn visit_iter<'a, T: Allocative + Described + 'a, I: Iterator<Item = &'a T> + Drop>(
         &mut self,
@@ -145,10 +145,10 @@ impl Visitor<'_> {
         requires ends { IsFinite (I.remaining items) }
         ensures entered { EntersRun I.next_gives items deref
             (slice_shows T.name T.size T.needs_drop T.may_show) self.old self.new result }
-        ensures only_if_full { RefusesCounted T.is_exact T.size I.next_gives items deref
+        ensures only_if_full { RefusesCounted T.is_strict T.size I.next_gives items deref
             (slice_shows T.name T.size T.needs_drop T.may_show) self.old self.new result }
         ensures kept { Keeps self.old self.new result }
-        ensures exact { MakesPlanRun I.next_gives items T.name T.size
+        ensures plan { MakesPlanRun I.next_gives items T.name T.size
             (are_shown_each T.needs_drop T.size) self.old self.new result }
     {
         if are_shown_each::<T>() {
@@ -172,7 +172,7 @@ impl Visitor<'_> {
     >(&mut self, entries: I) -> Result<(), Refusal>
         requires can { I.can_next entries }
         requires ends { IsFinite (I.remaining entries) }
-        ensures { EntersData (K.is_exact && V.is_exact) I.next_gives entries deref_pair
+        ensures { EntersData (K.is_strict && V.is_strict) I.next_gives entries deref_pair
             (pair_shows K.size K.may_show V.size V.may_show) self.old self.new result }
     {
         let outer = self.collector.open_entry(Key::new("data"), Some(8), false)?;
@@ -190,7 +190,7 @@ impl Visitor<'_> {
     >(&mut self, entries: I) -> Result<(), Refusal>
         requires can { I.can_next entries }
         requires ends { IsFinite (I.remaining entries) }
-        ensures { EntersData K.is_exact I.next_gives entries deref
+        ensures { EntersData K.is_strict I.next_gives entries deref
             (field_of (codes "key") K.size K.may_show) self.old self.new result }
     {
         let outer = self.collector.open_entry(Key::new("data"), Some(8), false)?;

@@ -31,7 +31,7 @@ impl Visitor<'_> {
     #[inline(always)]
     pub(crate) fn visit_sized(&mut self, name: Key, size: Option<usize>) -> Result<(), Refusal>
         ensures entered { Entered true (Field name size Nothing) self.old self.new result }
-        ensures exact { MakesPlan (one name size) self.old self.new result }
+        ensures plan { MakesPlan (one name size) self.old self.new result }
     {
         self.collector.enter_simple(name, size)
     }
@@ -44,7 +44,7 @@ impl Visitor<'_> {
     ) -> Result<(), Refusal>
         ensures entered { Entered true (Field name (size_product T.size count) Nothing)
             self.old self.new result }
-        ensures exact { MakesPlan (one name (size_product T.size count)) self.old self.new result }
+        ensures plan { MakesPlan (one name (size_product T.size count)) self.old self.new result }
     {
         self.visit_sized(name, bytes_of::<T>(count))
     }
@@ -54,7 +54,7 @@ impl Visitor<'_> {
     pub(crate) fn visit_unused<T: Described>(&mut self, count: usize) -> Result<(), Refusal>
         ensures entered { Entered true (bytes_shown (codes "unused_capacity") T.size count)
             self.old self.new result }
-        ensures exact { MakesPlan
+        ensures plan { MakesPlan
             (one (codes "unused_capacity") (size_product T.size (Some count))) self.old self.new result }
     {
         self.visit_counted::<T>(Key::new("unused_capacity"), Some(count))
@@ -63,10 +63,10 @@ impl Visitor<'_> {
     /// What each item shows, in order.
     #[inline(always)]
     pub(crate) fn visit_each<T: Allocative>(&mut self, items: &[T]) -> Result<(), Refusal>
-        ensures entered { Entered T.is_exact (each_shows T.may_show items.now)
+        ensures entered { Entered T.is_strict (each_shows T.may_show items.now)
             self.old self.new result }
         ensures kept { Keeps self.old self.new result }
-        ensures exact { length items.now ≡ 0 → MakesPlan Done self.old self.new result }
+        ensures plan { length items.now ≡ 0 → MakesPlan Done self.old self.new result }
     {
         self.visit_run(Itself, items.iter())
     }
@@ -77,10 +77,10 @@ impl Visitor<'_> {
     /// A collector that has failed returns its first cause. The entry is `TooLarge` if the item has no size
     /// or the bytes do not fit; its other errors are those of `enter`.
     pub fn visit_slice<T: Allocative + Described>(&mut self, items: &[T]) -> Result<(), Refusal>
-        ensures entered { Entered T.is_exact
+        ensures entered { Entered T.is_strict
             (slice_shows T.name T.size T.needs_drop T.may_show items.now) self.old self.new result }
         ensures kept { Keeps self.old self.new result }
-        ensures exact { VisitsNone T.needs_drop T.size items.now
+        ensures plan { VisitsNone T.needs_drop T.size items.now
             → MakesPlan (slice_plan T.name T.size T.needs_drop items.now) self.old self.new result }
     {
         if are_shown_each::<T>() {
@@ -94,9 +94,9 @@ impl Visitor<'_> {
         &mut self,
         items: &[T],
     ) -> Result<(), Refusal>
-        ensures entered { Entered T.is_exact (data_shows T.size T.may_show items.now)
+        ensures entered { Entered T.is_strict (data_shows T.size T.may_show items.now)
             self.old self.new result }
-        ensures exact { length items.now ≡ 0 → MakesPlan Done self.old self.new result }
+        ensures plan { length items.now ≡ 0 → MakesPlan Done self.old self.new result }
     {
         self.visit_run(FieldUnder(Key::new("data")), items.iter())
     }
@@ -107,11 +107,11 @@ impl Visitor<'_> {
     /// A collector that has failed returns its first cause. The entry is `TooLarge` if the item has no size,
     /// even with no items, or if the bytes do not fit; its other errors are those of `enter`.
     pub fn visit_slice_of<T: Allocative + Described>(&mut self, items: &[T]) -> Result<(), Refusal>
-        ensures entered { Entered T.is_exact (slice_of T.name T.size T.may_show items.now)
+        ensures entered { Entered T.is_strict (slice_of T.name T.size T.may_show items.now)
             self.old self.new result }
         ensures first { MakesFirst T.name (size_product T.size (Some (length items.now)))
             self.old self.new result }
-        ensures exact { length items.now ≡ 0
+        ensures plan { length items.now ≡ 0
             → MakesPlan (one T.name (size_product T.size (Some 0))) self.old self.new result }
     {
         let bytes = bytes_of::<T>(Some(items.len()));
@@ -130,10 +130,10 @@ impl Visitor<'_> {
         capacity: usize,
     ) -> Result<(), Refusal>
         requires { length items.now ≤ capacity }
-        ensures entered { Entered T.is_exact
+        ensures entered { Entered T.is_strict
             (Both (slice_shows T.name T.size T.needs_drop T.may_show items.now)
             (bytes_shown (codes "unused_capacity") T.size (capacity - length items.now))) self.old self.new result }
-        ensures exact { VisitsNone T.needs_drop T.size items.now
+        ensures plan { VisitsNone T.needs_drop T.size items.now
             → MakesPlan (room_plan T.name T.size T.needs_drop items.now capacity) self.old self.new result }
     {
         self.visit_slice(items)?;
@@ -152,11 +152,11 @@ impl Visitor<'_> {
         capacity: usize,
     ) -> Result<(), Refusal>
         requires { length items.now ≤ capacity }
-        ensures entered { Entered T.is_exact
+        ensures entered { Entered T.is_strict
             (vec_body T.name T.size T.needs_drop T.may_show items.now capacity) self.old self.new result }
         ensures first { MakesFirst (codes "capacity") (size_product T.size (Some capacity))
             self.old self.new result }
-        ensures exact { VisitsNone T.needs_drop T.size items.now
+        ensures plan { VisitsNone T.needs_drop T.size items.now
             → MakesPlan (vec_plan T.name T.size T.needs_drop items.now capacity) self.old self.new result }
     {
         let bytes = bytes_of::<T>(Some(capacity));

@@ -11,7 +11,7 @@ use Rattle.std.specs.Ordering.{eq_by_cmp}
 use Rattle.std.specs.FinMap.{get}
 use Rattle.allocative_graph.specs.declared.flamegraph.Child.{Child}
 use Rattle.allocative_graph.specs.Path.{Key, Path, key_cmp}
-use Rattle.allocative_graph.specs.Reads.{keys_of, rows_of, AreChildren}
+use Rattle.allocative_graph.specs.Rows.{keys_of, rows_of, AreChildren}
 use Rattle.allocative_graph.specs.Graph.{Graph, IsTree, total, IsPartOfSum}
 use Rattle.allocative_graph.specs.Representation.PathRows.{IsSumByPath, graph_of_path}
 use Rattle.allocative_graph.specs.Representation.Node.{weight}

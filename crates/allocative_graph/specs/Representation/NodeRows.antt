@@ -14,7 +14,7 @@ use Rattle.std.specs.FinMap.{entries, entries_sorted, entries-from_sorted, len, 
 use Rattle.std.specs.FinMap.Entries.{is_sorted, below_all}
 use Rattle.allocative_graph.specs.declared.flamegraph.Child.{Child}
 use Rattle.allocative_graph.specs.declared.flamegraph.FlameGraph.TheDeep.{deep-Child}
-use Rattle.allocative_graph.specs.Reads.{under_rows, rows_of, rows_of_child, keys_of, node}
+use Rattle.allocative_graph.specs.Rows.{under_rows, rows_of, rows_of_child, keys_of, node}
 use Rattle.allocative_graph.specs.Path.{Key, Path, key_cmp, path_cmp}
 use denote.Param.Weighed.{most}
 

@@ -3,7 +3,7 @@ ghost use Rattle.std.specs.Prelude.{◌≡◌, ◌+◌, ◌^◌, ◌<◌, ◌≤
 ghost use Rattle.std.specs.List.{insert};
 ghost use Rattle.allocative_graph.specs.Path.{texts};
 ghost use Rattle.allocative_graph.specs.Graph.{total, sum_of};
-ghost use Rattle.allocative_graph.specs.Reads.{AreChildren};
+ghost use Rattle.allocative_graph.specs.Rows.{AreChildren};
 ghost use Rattle.allocative_graph.specs.Representation.Node.{weight};
 ghost use Rattle.allocative_graph.specs.Representation.Children.{Merged, child_of_path};
 ghost use Rattle.allocative_graph.specs.Representation.PathRows.{graph_of_path};

@@ -4,7 +4,8 @@ ghost use Rattle.allocative_json.specs.Fields.{AreFields, StopsFields, EndsWithF
 
 use crate::fault::Fault;
 use crate::fields::fields_json;
-use crate::run::{read_input, tell, write_text};
+use crate::run::{read_bytes, tell};
+use allocative_io::write_text;
 use std::alloc::Global;
 use std::io::{Read, Write};
 
@@ -15,7 +16,7 @@ fn make_fields<R: Read>(alloc: Global, input: &mut R) -> Result<String, Fault>
         (λ made. IfSome (R.remaining input.old) (λ known. AreFields known (string_bytes made))) }
     ensures err { IfErr result (StopsFields (R.remaining input.old)) }
 {
-    let bytes = read_input(alloc, input)?;
+    let bytes = read_bytes(alloc, input)?;
     fields_json(alloc, bytes.as_slice())
 }
 

@@ -1,7 +1,7 @@
 //! The differences between two profiles, path by path.
 ghost use Rattle.std.specs.Prelude.{◌≡◌, ◌+◌, ◌-◌, ◌↔◌, All, AllPairs, IfOk, IsErrOf, IsPermutation, OnOk};
 ghost use Rattle.allocative.specs.Graph.{ExceedWord};
-ghost use Rattle.allocative_service.specs.Changes.{change_data, data_of, is_kind, growth, rank, shrinkage, changes_of, GrewAsMuch, GrewMost, HasEach, IsByGrowth, IsWord};
+ghost use Rattle.allocative_service.specs.Changes.{change_data, data_of, kind_of, growth, rank, shrinkage, changes_of, GrewAsMuch, GrewMost, HasEach, IsByGrowth, IsWord};
 
 use crate::history::walk::changes_of;
 use allocative::{FlameGraph, Refusal};
@@ -20,28 +20,30 @@ pub struct Change {
 
 /// How a path changed.
 #[derive(Clone, Copy, Debug, PartialEq, Eq)]
-pub enum Kind {
-    /// It had bytes, and has more after.
-    Grew,
-    /// It has bytes, and had more before.
-    Shrank,
+pub enum ChangeKind {
     /// It had no bytes before.
     Came,
-    /// It has no bytes after.
+    /// It had bytes, and has none after.
     Went,
+    /// It had bytes, and has more after.
+    Grew,
+    /// It has bytes, and had more before, or as many, which no change of a history has.
+    Shrank,
 }
 
 impl Change {
-    /// Whether the change is of this kind.
-    pub fn is(&self, kind: Kind) -> bool
-        ensures { result ≡ is_kind kind (change_data self.now) }
+    /// The kind of the change.
+    pub fn kind(&self) -> ChangeKind
+        ensures { result ≡ kind_of (change_data self.now) }
     {
-        let Change { earlier, later, .. } = self;
-        match kind {
-            Kind::Grew => 0 < *earlier && earlier < later,
-            Kind::Shrank => 0 < *later && later < earlier,
-            Kind::Came => *earlier == 0,
-            Kind::Went => *later == 0,
+        if self.earlier == 0 {
+            ChangeKind::Came
+        } else if self.later == 0 {
+            ChangeKind::Went
+        } else if self.earlier < self.later {
+            ChangeKind::Grew
+        } else {
+            ChangeKind::Shrank
         }
     }
 

@@ -1,6 +1,6 @@
 //! The admitted bytes of one tenant, within a limit.
 ghost use Rattle.std.specs.Prelude.{◌≡◌, ℕ, ◌+◌, ◌<◌, ◌≤◌, ◌↔◌, Some, None, IsSome, IsTrue, IfOk, IfErr, IfNone, OnOk, OnErr, unwrap_or};
-ghost use Rattle.allocative_service.specs.Holding.{IsSummed, bytes_at, new_holding, sum_of, with_limit, with_peak_reset, with_soft_limit, without, Puts};
+ghost use Rattle.allocative_service.specs.AccountData.{IsSummed, bytes_at, new_account, sum_of, with_limit, with_peak_reset, with_soft_limit, without, Puts};
 ghost use Rattle.allocative_service.specs.Rejected.{RejectsBytes, RejectsNew, RejectsChange, RejectsLimit};
 
 use crate::ledger::budget::Budget;
@@ -20,9 +20,9 @@ pub struct Account {
 }
 
 impl Model for Account {
-    ghost use Rattle.allocative_service.specs.Holding.{Holding, IsSummed};
+    ghost use Rattle.allocative_service.specs.AccountData.{AccountData, IsSummed};
 
-    ghost Value = { Holding };
+    ghost Value = { AccountData };
 
     ghost view = { λ a. record {
       limit = a.budget.limit;
@@ -42,7 +42,7 @@ impl Model for Account {
 impl Account {
     /// An account with no entry and no soft limit. It allocates nothing.
     pub fn new(alloc: Global, budget: Budget) -> Account
-        ensures { result ≡ new_holding budget.limit }
+        ensures { result ≡ new_account budget.limit }
     {
         Account {
             budget,

@@ -46,7 +46,7 @@ impl Budget {
         ensures admitted { IfOk result
             (λ bytes. Declares measure T.size (T.may_show value.now) bytes × (bytes ≤ self.now.limit)) }
         ensures rejected { IfErr result
-            (RejectsValue measure T.is_exact T.size (T.may_show value.now) self.now.limit) }
+            (RejectsValue measure T.is_strict T.size (T.may_show value.now) self.now.limit) }
     {
         let bytes = measure.size_of(alloc, value)?;
         self.check(bytes)

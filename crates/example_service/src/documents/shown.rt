@@ -44,7 +44,7 @@ impl Allocative for Note {
         (shows.Field (codes "key") ⟦<u64 as Described>⟧.size (⟦<u64 as Allocative>⟧.may_show x.key))
         (shows.Field (codes "text") ⟦<String as Described>⟧.size (⟦<String as Allocative>⟧.may_show x.text)))) };
 
-    ghost is_exact = { true };
+    ghost is_strict = { true };
 
     fn visit(&self, visitor: &mut Visitor<'_>) -> Result<(), Refusal> {
         let tenant = Field("tenant", &self.tenant);
@@ -135,7 +135,7 @@ impl Allocative for Order {
         (shows.Field (codes "catalogue") ⟦<IdRc<Vec<String>> as Described>⟧.size (⟦<IdRc<Vec<String>> as Allocative>⟧.may_show x.catalogue))
         (shows.Field (codes "items") ⟦<Vec<usize> as Described>⟧.size (⟦<Vec<usize> as Allocative>⟧.may_show x.items))))) };
 
-    ghost is_exact = { true };
+    ghost is_strict = { true };
 
     fn visit(&self, visitor: &mut Visitor<'_>) -> Result<(), Refusal> {
         let tenant = Field("tenant", &self.tenant);
@@ -180,7 +180,7 @@ impl Allocative for Held {
         (shows.Field (codes "notes") ⟦<Vec<Note> as Described>⟧.size (⟦<Vec<Note> as Allocative>⟧.may_show x.notes))
         (shows.Field (codes "orders") ⟦<Vec<Order> as Described>⟧.size (⟦<Vec<Order> as Allocative>⟧.may_show x.orders)))) };
 
-    ghost is_exact = { true };
+    ghost is_strict = { true };
 
     fn visit(&self, visitor: &mut Visitor<'_>) -> Result<(), Refusal> {
         let catalogue = Field("catalogue", &self.catalogue);

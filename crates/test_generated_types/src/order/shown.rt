@@ -41,7 +41,7 @@ impl Allocative for Order {
         (shows.Field (codes "name") ⟦<String as Described>⟧.size (⟦<String as Allocative>⟧.may_show x.name))
         (shows.Field (codes "marks") ⟦<Vec<u32> as Described>⟧.size (⟦<Vec<u32> as Allocative>⟧.may_show x.marks)))) };
 
-    ghost is_exact = { true };
+    ghost is_strict = { true };
 
     fn visit(&self, visitor: &mut Visitor<'_>) -> Result<(), Refusal> {
         let number = Field("number", &self.number);

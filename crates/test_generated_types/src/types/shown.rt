@@ -41,7 +41,7 @@ impl Allocative for OfOne {
     ghost may_show = { λ x. shows.Field (codes "OfOne") ⟦<OfOneLayout as Described>⟧.size
         (shows.Field (codes "number") ⟦<u64 as Described>⟧.size (⟦<u64 as Allocative>⟧.may_show x.number)) };
 
-    ghost is_exact = { true };
+    ghost is_strict = { true };
 
     fn visit(&self, visitor: &mut Visitor<'_>) -> Result<(), Refusal> {
         let number = Field("number", &self.number);
@@ -124,7 +124,7 @@ impl<T: Allocative + Described> Allocative for OfTwentyFive<T> {
         (shows.Field (codes "colour") ⟦<u16 as Described>⟧.size (⟦<u16 as Allocative>⟧.may_show x.colour))
         (shows.Field (codes "last") ⟦<T as Described>⟧.size (⟦<T as Allocative>⟧.may_show x.last)))))))))) };
 
-    ghost is_exact = { (⟦<T as Allocative>⟧.is_exact && (⟦<Vec<T> as Allocative>⟧.is_exact && (⟦<String as Allocative>⟧.is_exact && (⟦<T as Allocative>⟧.is_exact && (⟦<bool as Allocative>⟧.is_exact))))) && ((⟦<Option<u64> as Allocative>⟧.is_exact && (⟦<T as Allocative>⟧.is_exact && (⟦<u16 as Allocative>⟧.is_exact && (⟦<Vec<T> as Allocative>⟧.is_exact && (⟦<T as Allocative>⟧.is_exact))))) && ((⟦<String as Allocative>⟧.is_exact && (⟦<Vec<u32> as Allocative>⟧.is_exact && (⟦<T as Allocative>⟧.is_exact && (⟦<Option<u64> as Allocative>⟧.is_exact && (⟦<(u32, u32) as Allocative>⟧.is_exact))))) && ((⟦<Vec<T> as Allocative>⟧.is_exact && (⟦<u64 as Allocative>⟧.is_exact && (⟦<u32 as Allocative>⟧.is_exact && (⟦<T as Allocative>⟧.is_exact && (⟦<Vec<u32> as Allocative>⟧.is_exact))))) && ((⟦<bool as Allocative>⟧.is_exact && (⟦<T as Allocative>⟧.is_exact && (⟦<Vec<T> as Allocative>⟧.is_exact && (⟦<u16 as Allocative>⟧.is_exact && (⟦<T as Allocative>⟧.is_exact))))))))) };
+    ghost is_strict = { (⟦<T as Allocative>⟧.is_strict && (⟦<Vec<T> as Allocative>⟧.is_strict && (⟦<String as Allocative>⟧.is_strict && (⟦<T as Allocative>⟧.is_strict && (⟦<bool as Allocative>⟧.is_strict))))) && ((⟦<Option<u64> as Allocative>⟧.is_strict && (⟦<T as Allocative>⟧.is_strict && (⟦<u16 as Allocative>⟧.is_strict && (⟦<Vec<T> as Allocative>⟧.is_strict && (⟦<T as Allocative>⟧.is_strict))))) && ((⟦<String as Allocative>⟧.is_strict && (⟦<Vec<u32> as Allocative>⟧.is_strict && (⟦<T as Allocative>⟧.is_strict && (⟦<Option<u64> as Allocative>⟧.is_strict && (⟦<(u32, u32) as Allocative>⟧.is_strict))))) && ((⟦<Vec<T> as Allocative>⟧.is_strict && (⟦<u64 as Allocative>⟧.is_strict && (⟦<u32 as Allocative>⟧.is_strict && (⟦<T as Allocative>⟧.is_strict && (⟦<Vec<u32> as Allocative>⟧.is_strict))))) && ((⟦<bool as Allocative>⟧.is_strict && (⟦<T as Allocative>⟧.is_strict && (⟦<Vec<T> as Allocative>⟧.is_strict && (⟦<u16 as Allocative>⟧.is_strict && (⟦<T as Allocative>⟧.is_strict))))))))) };
 
     fn visit(&self, visitor: &mut Visitor<'_>) -> Result<(), Refusal> {
         let a = Field("first", &self.first);
@@ -198,7 +198,7 @@ impl Allocative for Nowhere {
     ghost may_show = { λ x. shows.Field (codes "Nowhere") ⟦<NowhereLayout as Described>⟧.size
         shows.Nothing };
 
-    ghost is_exact = { true };
+    ghost is_strict = { true };
 
     fn visit(&self, visitor: &mut Visitor<'_>) -> Result<(), Refusal> {
         Whole(self, ()).enter(visitor)
@@ -238,7 +238,7 @@ impl Allocative for Point {
         (shows.Field (codes "0") ⟦<u32 as Described>⟧.size (⟦<u32 as Allocative>⟧.may_show x.0))
         (shows.Field (codes "1") ⟦<u32 as Described>⟧.size (⟦<u32 as Allocative>⟧.may_show x.1))) };
 
-    ghost is_exact = { true };
+    ghost is_strict = { true };
 
     fn visit(&self, visitor: &mut Visitor<'_>) -> Result<(), Refusal> {
         let a = Field("0", &self.0);
@@ -285,7 +285,7 @@ impl Allocative for Sextet {
         (shows.Field (codes "4") ⟦<u8 as Described>⟧.size (⟦<u8 as Allocative>⟧.may_show x.4))))))
         (shows.Field (codes "5") ⟦<u16 as Described>⟧.size (⟦<u16 as Allocative>⟧.may_show x.5))) };
 
-    ghost is_exact = { true };
+    ghost is_strict = { true };
 
     fn visit(&self, visitor: &mut Visitor<'_>) -> Result<(), Refusal> {
         let a = Field("0", &self.0);
@@ -333,7 +333,7 @@ impl Allocative for Mark {
         (shows.Inside (codes "mean") 8 shows.Nothing)
         (shows.Field (codes "later") ⟦<bool as Described>⟧.size (⟦<bool as Allocative>⟧.may_show x.later))))) };
 
-    ghost is_exact = { true };
+    ghost is_strict = { true };
 
     fn visit(&self, visitor: &mut Visitor<'_>) -> Result<(), Refusal> {
         let point = Field("point", &self.point);
@@ -429,7 +429,7 @@ impl Allocative for Request {
       | Stop ↦ shows.Nothing
     ]) };
 
-    ghost is_exact = { true };
+    ghost is_strict = { true };
 
     fn visit(&self, visitor: &mut Visitor<'_>) -> Result<(), Refusal> {
         match self {
@@ -520,7 +520,7 @@ where
         (shows.Field (codes "last") ⟦<V as Described>⟧.size (⟦<V as Allocative>⟧.may_show x.last))
         (shows.Field (codes "spare") ⟦<Option<V> as Described>⟧.size (⟦<Option<V> as Allocative>⟧.may_show x.spare)))) };
 
-    ghost is_exact = { ⟦<HashMap<K, V> as Allocative>⟧.is_exact && (⟦<V as Allocative>⟧.is_exact && (⟦<Option<V> as Allocative>⟧.is_exact)) };
+    ghost is_strict = { ⟦<HashMap<K, V> as Allocative>⟧.is_strict && (⟦<V as Allocative>⟧.is_strict && (⟦<Option<V> as Allocative>⟧.is_strict)) };
 
     fn visit(&self, visitor: &mut Visitor<'_>) -> Result<(), Refusal> {
         let values = Field("values", &self.values);
@@ -570,7 +570,7 @@ impl<T: Allocative + Described> Allocative for Named<T> {
           (shows.Field (codes "1") ⟦<T as Described>⟧.size (⟦<T as Allocative>⟧.may_show b)))
     ]) };
 
-    ghost is_exact = { T.is_exact };
+    ghost is_strict = { T.is_strict };
 
     fn visit(&self, visitor: &mut Visitor<'_>) -> Result<(), Refusal> {
         match self {
@@ -594,7 +594,7 @@ impl<'a, const N: usize> Allocative for Found<'a, N> {
         (shows.Field (codes "places") ⟦<[u32; N] as Described>⟧.size (⟦<[u32; N] as Allocative>⟧.may_show x.places))
         (shows.Field (codes "counts") ⟦<BTreeMap<u64, Vec<Request>> as Described>⟧.size (⟦<BTreeMap<u64, Vec<Request>> as Allocative>⟧.may_show x.counts))) };
 
-    ghost is_exact = { true };
+    ghost is_strict = { true };
 
     fn visit(&self, visitor: &mut Visitor<'_>) -> Result<(), Refusal> {
         let places = Field("places", &self.places);
@@ -638,7 +638,7 @@ impl Allocative for Share {
       | Part a ↦ shows.Field (codes "Part") ⟦<f64 as Described>⟧.size (⟦<f64 as Allocative>⟧.may_show a)
     ]) };
 
-    ghost is_exact = { true };
+    ghost is_strict = { true };
 
     fn visit(&self, visitor: &mut Visitor<'_>) -> Result<(), Refusal> {
         match self {
@@ -690,7 +690,7 @@ impl<K: Allocative + Described, V: Allocative + Described> Allocative for Framed
           (shows.Field (codes "width") ⟦<u16 as Described>⟧.size (⟦<u16 as Allocative>⟧.may_show c))))
     ]) };
 
-    ghost is_exact = { K.is_exact && (V.is_exact) };
+    ghost is_strict = { K.is_strict && (V.is_strict) };
 
     fn visit(&self, visitor: &mut Visitor<'_>) -> Result<(), Refusal> {
         match self {

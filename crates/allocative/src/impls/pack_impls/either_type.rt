@@ -11,7 +11,7 @@ impl<L: Allocative + Described, R: Allocative + Described> Allocative for Either
     ghost may_show = { λ e. shows.Field (codes "Either") ⟦<Either<L, R> as Described>⟧.size
         (either_inside L.size L.may_show R.size R.may_show e) };
 
-    ghost is_exact = { L.is_exact && R.is_exact };
+    ghost is_strict = { L.is_strict && R.is_strict };
 
     fn visit(&self, visitor: &mut Visitor<'_>) -> Result<(), Refusal> {
         match self {

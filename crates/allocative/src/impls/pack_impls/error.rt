@@ -8,7 +8,7 @@ use crate::{Allocative, Part, Refusal, Visitor};
 impl Allocative for anyhow::Error {
     ghost may_show = { λ e. Nothing };
 
-    ghost is_exact = { true };
+    ghost is_strict = { true };
 
     fn visit(&self, visitor: &mut Visitor<'_>) -> Result<(), Refusal> {
         ().enter(visitor)

@@ -15,7 +15,7 @@ impl<K: Allocative + Described + Eq + Hash, V: Allocative + Described> Allocativ
     ghost may_show = { λ m. shows.Inside (codes "IndexMap") 72
         (index_map_inside K.size K.may_show V.size V.may_show ⟦<(K, V) as Described>⟧.size m.entries (spare m)) };
 
-    ghost is_exact = { K.is_exact && V.is_exact };
+    ghost is_strict = { K.is_strict && V.is_strict };
 
     fn visit(&self, visitor: &mut Visitor<'_>) -> Result<(), Refusal> {
         let unused = Unused {

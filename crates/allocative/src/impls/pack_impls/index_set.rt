@@ -13,7 +13,7 @@ use std::hash::Hash;
 impl<T: Allocative + Described + Eq + Hash> Allocative for IndexSet<T> {
     ghost may_show = { λ s. shows.Inside (codes "IndexSet") 72 (index_set_inside T.size T.may_show s.keys (spare s)) };
 
-    ghost is_exact = { T.is_exact };
+    ghost is_strict = { T.is_strict };
 
     fn visit(&self, visitor: &mut Visitor<'_>) -> Result<(), Refusal> {
         let unused = Unused {

@@ -17,7 +17,7 @@ use serde_json::{Map, Number, Value};
 impl Allocative for Number {
     ghost may_show = { λ n. number_shows };
 
-    ghost is_exact = { true };
+    ghost is_strict = { true };
 
     fn visit(&self, visitor: &mut Visitor<'_>) -> Result<(), Refusal> {
         Inside("Number", 16, ()).enter(visitor)
@@ -35,7 +35,7 @@ impl<'a, V: Allocative> EnterItem<(&'a String, &'a V)> for MemberFields {
 
     ghost may_show = { λ _. pair_shows (Some 24) stored_string (Some 32) V.may_show };
 
-    ghost is_exact = { V.is_exact };
+    ghost is_strict = { V.is_strict };
 
     #[inline(always)]
     fn enter_item(
@@ -56,7 +56,7 @@ struct Members<M>(M);
 impl<'a, V: Allocative> Part for Members<&'a Map<String, V>> {
     ghost may_show = { λ m. stored_members V.may_show m.0.now.entries };
 
-    ghost is_exact = { V.is_exact };
+    ghost is_strict = { V.is_strict };
 
     fn enter(self, visitor: &mut Visitor<'_>) -> Result<(), Refusal> {
         visitor.visit_run(MemberFields, self.0.iter())
@@ -66,7 +66,7 @@ impl<'a, V: Allocative> Part for Members<&'a Map<String, V>> {
 impl Allocative for Value {
     ghost may_show = { stored_value };
 
-    ghost is_exact = { true };
+    ghost is_strict = { true };
 
     fn visit(&self, visitor: &mut Visitor<'_>) -> Result<(), Refusal> {
         let name = "Value";

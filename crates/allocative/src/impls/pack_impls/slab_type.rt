@@ -17,7 +17,7 @@ pub struct Values<'a, T>(pub &'a Slab<T>);
 impl<'a, T: Allocative + Described> Part for Values<'a, T> {
     ghost may_show = { λ s. shows.slice_shows T.name T.size T.needs_drop T.may_show (values s.0.now) };
 
-    ghost is_exact = { T.is_exact };
+    ghost is_strict = { T.is_strict };
 
     fn enter(self, visitor: &mut Visitor<'_>) -> Result<(), Refusal> {
         if are_shown_each::<T>() {
@@ -31,7 +31,7 @@ impl<'a, T: Allocative + Described> Part for Values<'a, T> {
 impl<T: Allocative + Described> Allocative for Slab<T> {
     ghost may_show = { λ s. shows.Inside (codes "Slab") 40 (slab_inside T.name T.size T.needs_drop T.may_show s) };
 
-    ghost is_exact = { T.is_exact };
+    ghost is_strict = { T.is_strict };
 
     fn visit(&self, visitor: &mut Visitor<'_>) -> Result<(), Refusal> {
         let buffer = Buffer {

@@ -11,7 +11,7 @@ impl<T: Allocative + Described, const N: usize> Allocative for SmallVec<T, N> {
     ghost may_show = { λ v. shows.Field (codes "SmallVec") ⟦<SmallVec<T, N> as Described>⟧.size
         (small_vec_inside N T.size T.may_show v) };
 
-    ghost is_exact = { T.is_exact };
+    ghost is_strict = { T.is_strict };
 
     fn visit(&self, visitor: &mut Visitor<'_>) -> Result<(), Refusal> {
         let items = FieldEach("data", self.as_slice());

@@ -10,7 +10,7 @@ impl<T: Allocative + Described> Allocative for Option<T> {
     ghost may_show = { λ o. shows.Field (codes "Option") ⟦<Option<T> as Described>⟧.size
         (option_inside T.size T.may_show o) };
 
-    ghost is_exact = { T.is_exact };
+    ghost is_strict = { T.is_strict };
 
     fn visit(&self, visitor: &mut Visitor<'_>) -> Result<(), Refusal> {
         match self {
@@ -24,7 +24,7 @@ impl<T: Allocative + Described, E: Allocative + Described> Allocative for Result
     ghost may_show = { λ r. shows.Field (codes "Result") ⟦<Result<T, E> as Described>⟧.size
         (result_inside T.size E.size T.may_show E.may_show r) };
 
-    ghost is_exact = { T.is_exact && E.is_exact };
+    ghost is_strict = { T.is_strict && E.is_strict };
 
     fn visit(&self, visitor: &mut Visitor<'_>) -> Result<(), Refusal> {
         match self {

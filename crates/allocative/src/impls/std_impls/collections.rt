@@ -19,7 +19,7 @@ impl<T: Allocative + Described> Allocative for Vec<T> {
         (buffer_shows T.size (shows.slice_shows T.name T.size T.needs_drop T.may_show v.items) (length v.items)
         (vec_capacity v)) };
 
-    ghost is_exact = { T.is_exact };
+    ghost is_strict = { T.is_strict };
 
     fn visit(&self, visitor: &mut Visitor<'_>) -> Result<(), Refusal> {
         let buffer = Buffer {
@@ -37,7 +37,7 @@ impl<T: Allocative + Described> Allocative for VecDeque<T> {
         (buffer_shows T.size (cut_shows T.name T.size T.needs_drop T.may_show d.items) (length d.items)
         (deque_capacity d)) };
 
-    ghost is_exact = { T.is_exact };
+    ghost is_strict = { T.is_strict };
 
     fn visit(&self, visitor: &mut Visitor<'_>) -> Result<(), Refusal> {
         let (front, back) = self.as_slices();
@@ -55,7 +55,7 @@ impl<K: Allocative + Described + Ord, V: Allocative + Described> Allocative for 
     ghost may_show = { λ m. shows.Field (codes "BTreeMap") (Some 24)
         (shows.Inside (codes "data") 8 (shows.each_shows (pair_shows K.size K.may_show V.size V.may_show) m.entries)) };
 
-    ghost is_exact = { K.is_exact && V.is_exact };
+    ghost is_strict = { K.is_strict && V.is_strict };
 
     fn visit(&self, visitor: &mut Visitor<'_>) -> Result<(), Refusal> {
         Whole(self, Inside("data", 8, Pairs(self))).enter(visitor)
@@ -66,7 +66,7 @@ impl<K: Allocative + Described + Ord> Allocative for BTreeSet<K> {
     ghost may_show = { λ s. shows.Field (codes "BTreeSet") (Some 24)
         (shows.Inside (codes "data") 8 (shows.each_shows (field_of (codes "key") K.size K.may_show) s.keys)) };
 
-    ghost is_exact = { K.is_exact };
+    ghost is_strict = { K.is_strict };
 
     fn visit(&self, visitor: &mut Visitor<'_>) -> Result<(), Refusal> {
         Whole(self, Inside("data", 8, FieldEach("key", self))).enter(visitor)
@@ -78,7 +78,7 @@ impl<K: Allocative + Described + Eq + Hash, V: Allocative + Described> Allocativ
     ghost may_show = { λ m. shows.Field (codes "HashMap") (Some 48)
         (shows.Inside (codes "data") 8 (in_any_order (pair_shows K.size K.may_show V.size V.may_show) m.entries)) };
 
-    ghost is_exact = { K.is_exact && V.is_exact };
+    ghost is_strict = { K.is_strict && V.is_strict };
 
     fn visit(&self, visitor: &mut Visitor<'_>) -> Result<(), Refusal> {
         let pairs = Inside("data", 8, Pairs(self));
@@ -90,7 +90,7 @@ impl<K: Allocative + Described + Eq + Hash> Allocative for HashSet<K> {
     ghost may_show = { λ s. shows.Field (codes "HashSet") (Some 48)
         (shows.Inside (codes "data") 8 (in_any_order (field_of (codes "key") K.size K.may_show) s.keys)) };
 
-    ghost is_exact = { K.is_exact };
+    ghost is_strict = { K.is_strict };
 
     fn visit(&self, visitor: &mut Visitor<'_>) -> Result<(), Refusal> {
         let keys = Inside("data", 8, FieldEach("key", self));

@@ -12,7 +12,7 @@ impl<T: Allocative + Described> Allocative for ManuallyDrop<T> {
     ghost may_show = { λ slot. shows.Field (codes "ManuallyDrop") T.size
         (shows.Field (codes "inner") T.size (T.may_show (manually_drop_value slot))) };
 
-    ghost is_exact = { T.is_exact };
+    ghost is_strict = { T.is_strict };
 
     fn visit(&self, visitor: &mut Visitor<'_>) -> Result<(), Refusal> {
         Whole(self, Field("inner", &**self)).enter(visitor)
@@ -22,7 +22,7 @@ impl<T: Allocative + Described> Allocative for ManuallyDrop<T> {
 impl<T> Allocative for PhantomData<T> {
     ghost may_show = { λ _. shows.Nothing };
 
-    ghost is_exact = { true };
+    ghost is_strict = { true };
 
     fn visit(&self, visitor: &mut Visitor<'_>) -> Result<(), Refusal> {
         ().enter(visitor)

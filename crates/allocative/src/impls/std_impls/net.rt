@@ -9,7 +9,7 @@ use std::net::{IpAddr, Ipv4Addr, Ipv6Addr};
 impl Allocative for IpAddr {
     ghost may_show = { λ _. Leaf (codes "IpAddr") 17 };
 
-    ghost is_exact = { true };
+    ghost is_strict = { true };
 
     fn visit(&self, visitor: &mut Visitor<'_>) -> Result<(), Refusal> {
         visitor.visit_simple_sized::<IpAddr>()
@@ -19,7 +19,7 @@ impl Allocative for IpAddr {
 impl Allocative for Ipv4Addr {
     ghost may_show = { λ _. Leaf (codes "Ipv4Addr") 4 };
 
-    ghost is_exact = { true };
+    ghost is_strict = { true };
 
     fn visit(&self, visitor: &mut Visitor<'_>) -> Result<(), Refusal> {
         visitor.visit_simple_sized::<Ipv4Addr>()
@@ -29,7 +29,7 @@ impl Allocative for Ipv4Addr {
 impl Allocative for Ipv6Addr {
     ghost may_show = { λ _. Leaf (codes "Ipv6Addr") 16 };
 
-    ghost is_exact = { true };
+    ghost is_strict = { true };
 
     fn visit(&self, visitor: &mut Visitor<'_>) -> Result<(), Refusal> {
         visitor.visit_simple_sized::<Ipv6Addr>()

@@ -9,7 +9,7 @@ impl<T: Allocative> Allocative for Box<T> {
     ghost may_show = { λ b. shows.Field (codes "Box") (Some 8)
         (shows.Unique (codes "ptr") 8 (T.may_show b.value)) };
 
-    ghost is_exact = { T.is_exact };
+    ghost is_strict = { T.is_strict };
 
     fn visit(&self, visitor: &mut Visitor<'_>) -> Result<(), Refusal> {
         Whole(self, Unique("ptr", 8, &**self)).enter(visitor)
@@ -20,7 +20,7 @@ impl<T: Allocative> Allocative for Box<T> {
 impl<T> Allocative for &'static T {
     ghost may_show = { λ _. shows.Nothing };
 
-    ghost is_exact = { true };
+    ghost is_strict = { true };
 
     fn visit(&self, visitor: &mut Visitor<'_>) -> Result<(), Refusal> {
         ().enter(visitor)

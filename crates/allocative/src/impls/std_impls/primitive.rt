@@ -12,7 +12,7 @@ use std::num::{
 impl Allocative for u8 {
     ghost may_show = { λ _. Leaf (codes "u8") 1 };
 
-    ghost is_exact = { true };
+    ghost is_strict = { true };
 
     fn visit(&self, visitor: &mut Visitor<'_>) -> Result<(), Refusal> {
         visitor.visit_simple_sized::<u8>()
@@ -22,7 +22,7 @@ impl Allocative for u8 {
 impl Allocative for u16 {
     ghost may_show = { λ _. Leaf (codes "u16") 2 };
 
-    ghost is_exact = { true };
+    ghost is_strict = { true };
 
     fn visit(&self, visitor: &mut Visitor<'_>) -> Result<(), Refusal> {
         visitor.visit_simple_sized::<u16>()
@@ -32,7 +32,7 @@ impl Allocative for u16 {
 impl Allocative for u32 {
     ghost may_show = { λ _. Leaf (codes "u32") 4 };
 
-    ghost is_exact = { true };
+    ghost is_strict = { true };
 
     fn visit(&self, visitor: &mut Visitor<'_>) -> Result<(), Refusal> {
         visitor.visit_simple_sized::<u32>()
@@ -42,7 +42,7 @@ impl Allocative for u32 {
 impl Allocative for u64 {
     ghost may_show = { λ _. Leaf (codes "u64") 8 };
 
-    ghost is_exact = { true };
+    ghost is_strict = { true };
 
     fn visit(&self, visitor: &mut Visitor<'_>) -> Result<(), Refusal> {
         visitor.visit_simple_sized::<u64>()
@@ -52,7 +52,7 @@ impl Allocative for u64 {
 impl Allocative for u128 {
     ghost may_show = { λ _. Leaf (codes "u128") 16 };
 
-    ghost is_exact = { true };
+    ghost is_strict = { true };
 
     fn visit(&self, visitor: &mut Visitor<'_>) -> Result<(), Refusal> {
         visitor.visit_simple_sized::<u128>()
@@ -62,7 +62,7 @@ impl Allocative for u128 {
 impl Allocative for usize {
     ghost may_show = { λ _. Leaf (codes "usize") 8 };
 
-    ghost is_exact = { true };
+    ghost is_strict = { true };
 
     fn visit(&self, visitor: &mut Visitor<'_>) -> Result<(), Refusal> {
         visitor.visit_simple_sized::<usize>()
@@ -72,7 +72,7 @@ impl Allocative for usize {
 impl Allocative for i8 {
     ghost may_show = { λ _. Leaf (codes "i8") 1 };
 
-    ghost is_exact = { true };
+    ghost is_strict = { true };
 
     fn visit(&self, visitor: &mut Visitor<'_>) -> Result<(), Refusal> {
         visitor.visit_simple_sized::<i8>()
@@ -82,7 +82,7 @@ impl Allocative for i8 {
 impl Allocative for i16 {
     ghost may_show = { λ _. Leaf (codes "i16") 2 };
 
-    ghost is_exact = { true };
+    ghost is_strict = { true };
 
     fn visit(&self, visitor: &mut Visitor<'_>) -> Result<(), Refusal> {
         visitor.visit_simple_sized::<i16>()
@@ -92,7 +92,7 @@ impl Allocative for i16 {
 impl Allocative for i32 {
     ghost may_show = { λ _. Leaf (codes "i32") 4 };
 
-    ghost is_exact = { true };
+    ghost is_strict = { true };
 
     fn visit(&self, visitor: &mut Visitor<'_>) -> Result<(), Refusal> {
         visitor.visit_simple_sized::<i32>()
@@ -102,7 +102,7 @@ impl Allocative for i32 {
 impl Allocative for i64 {
     ghost may_show = { λ _. Leaf (codes "i64") 8 };
 
-    ghost is_exact = { true };
+    ghost is_strict = { true };
 
     fn visit(&self, visitor: &mut Visitor<'_>) -> Result<(), Refusal> {
         visitor.visit_simple_sized::<i64>()
@@ -112,7 +112,7 @@ impl Allocative for i64 {
 impl Allocative for i128 {
     ghost may_show = { λ _. Leaf (codes "i128") 16 };
 
-    ghost is_exact = { true };
+    ghost is_strict = { true };
 
     fn visit(&self, visitor: &mut Visitor<'_>) -> Result<(), Refusal> {
         visitor.visit_simple_sized::<i128>()
@@ -122,7 +122,7 @@ impl Allocative for i128 {
 impl Allocative for isize {
     ghost may_show = { λ _. Leaf (codes "isize") 8 };
 
-    ghost is_exact = { true };
+    ghost is_strict = { true };
 
     fn visit(&self, visitor: &mut Visitor<'_>) -> Result<(), Refusal> {
         visitor.visit_simple_sized::<isize>()
@@ -132,7 +132,7 @@ impl Allocative for isize {
 impl Allocative for f32 {
     ghost may_show = { λ _. Leaf (codes "f32") 4 };
 
-    ghost is_exact = { true };
+    ghost is_strict = { true };
 
     fn visit(&self, visitor: &mut Visitor<'_>) -> Result<(), Refusal> {
         visitor.visit_simple_sized::<f32>()
@@ -142,7 +142,7 @@ impl Allocative for f32 {
 impl Allocative for f64 {
     ghost may_show = { λ _. Leaf (codes "f64") 8 };
 
-    ghost is_exact = { true };
+    ghost is_strict = { true };
 
     fn visit(&self, visitor: &mut Visitor<'_>) -> Result<(), Refusal> {
         visitor.visit_simple_sized::<f64>()
@@ -152,7 +152,7 @@ impl Allocative for f64 {
 impl Allocative for char {
     ghost may_show = { λ _. Leaf (codes "char") 4 };
 
-    ghost is_exact = { true };
+    ghost is_strict = { true };
 
     fn visit(&self, visitor: &mut Visitor<'_>) -> Result<(), Refusal> {
         visitor.visit_simple_sized::<char>()
@@ -162,7 +162,7 @@ impl Allocative for char {
 impl Allocative for bool {
     ghost may_show = { λ _. Leaf (codes "bool") 1 };
 
-    ghost is_exact = { true };
+    ghost is_strict = { true };
 
     fn visit(&self, visitor: &mut Visitor<'_>) -> Result<(), Refusal> {
         visitor.visit_simple_sized::<bool>()
@@ -172,7 +172,7 @@ impl Allocative for bool {
 impl Allocative for () {
     ghost may_show = { λ _. Leaf (codes "()") 0 };
 
-    ghost is_exact = { true };
+    ghost is_strict = { true };
 
     fn visit(&self, visitor: &mut Visitor<'_>) -> Result<(), Refusal> {
         visitor.visit_simple_sized::<()>()
@@ -182,7 +182,7 @@ impl Allocative for () {
 impl Allocative for NonZeroU64 {
     ghost may_show = { λ _. Leaf (codes "NonZeroU64") 8 };
 
-    ghost is_exact = { true };
+    ghost is_strict = { true };
 
     fn visit(&self, visitor: &mut Visitor<'_>) -> Result<(), Refusal> {
         visitor.visit_simple_sized::<NonZeroU64>()
@@ -192,7 +192,7 @@ impl Allocative for NonZeroU64 {
 impl Allocative for NonZeroU32 {
     ghost may_show = { λ _. Leaf (codes "NonZeroU32") 4 };
 
-    ghost is_exact = { true };
+    ghost is_strict = { true };
 
     fn visit(&self, visitor: &mut Visitor<'_>) -> Result<(), Refusal> {
         visitor.visit_simple_sized::<NonZeroU32>()
@@ -202,7 +202,7 @@ impl Allocative for NonZeroU32 {
 impl Allocative for NonZeroU16 {
     ghost may_show = { λ _. Leaf (codes "NonZeroU16") 2 };
 
-    ghost is_exact = { true };
+    ghost is_strict = { true };
 
     fn visit(&self, visitor: &mut Visitor<'_>) -> Result<(), Refusal> {
         visitor.visit_simple_sized::<NonZeroU16>()
@@ -212,7 +212,7 @@ impl Allocative for NonZeroU16 {
 impl Allocative for NonZeroU8 {
     ghost may_show = { λ _. Leaf (codes "NonZeroU8") 1 };
 
-    ghost is_exact = { true };
+    ghost is_strict = { true };
 
     fn visit(&self, visitor: &mut Visitor<'_>) -> Result<(), Refusal> {
         visitor.visit_simple_sized::<NonZeroU8>()
@@ -222,7 +222,7 @@ impl Allocative for NonZeroU8 {
 impl Allocative for NonZeroI64 {
     ghost may_show = { λ _. Leaf (codes "NonZeroI64") 8 };
 
-    ghost is_exact = { true };
+    ghost is_strict = { true };
 
     fn visit(&self, visitor: &mut Visitor<'_>) -> Result<(), Refusal> {
         visitor.visit_simple_sized::<NonZeroI64>()
@@ -232,7 +232,7 @@ impl Allocative for NonZeroI64 {
 impl Allocative for NonZeroI32 {
     ghost may_show = { λ _. Leaf (codes "NonZeroI32") 4 };
 
-    ghost is_exact = { true };
+    ghost is_strict = { true };
 
     fn visit(&self, visitor: &mut Visitor<'_>) -> Result<(), Refusal> {
         visitor.visit_simple_sized::<NonZeroI32>()
@@ -242,7 +242,7 @@ impl Allocative for NonZeroI32 {
 impl Allocative for NonZeroI16 {
     ghost may_show = { λ _. Leaf (codes "NonZeroI16") 2 };
 
-    ghost is_exact = { true };
+    ghost is_strict = { true };
 
     fn visit(&self, visitor: &mut Visitor<'_>) -> Result<(), Refusal> {
         visitor.visit_simple_sized::<NonZeroI16>()
@@ -252,7 +252,7 @@ impl Allocative for NonZeroI16 {
 impl Allocative for NonZeroI8 {
     ghost may_show = { λ _. Leaf (codes "NonZeroI8") 1 };
 
-    ghost is_exact = { true };
+    ghost is_strict = { true };
 
     fn visit(&self, visitor: &mut Visitor<'_>) -> Result<(), Refusal> {
         visitor.visit_simple_sized::<NonZeroI8>()
@@ -262,7 +262,7 @@ impl Allocative for NonZeroI8 {
 impl Allocative for NonZeroUsize {
     ghost may_show = { λ _. Leaf (codes "NonZeroUsize") 8 };
 
-    ghost is_exact = { true };
+    ghost is_strict = { true };
 
     fn visit(&self, visitor: &mut Visitor<'_>) -> Result<(), Refusal> {
         visitor.visit_simple_sized::<NonZeroUsize>()
@@ -272,7 +272,7 @@ impl Allocative for NonZeroUsize {
 impl Allocative for NonZeroIsize {
     ghost may_show = { λ _. Leaf (codes "NonZeroIsize") 8 };
 
-    ghost is_exact = { true };
+    ghost is_strict = { true };
 
     fn visit(&self, visitor: &mut Visitor<'_>) -> Result<(), Refusal> {
         visitor.visit_simple_sized::<NonZeroIsize>()

@@ -13,7 +13,7 @@ impl<T: Allocative + Described> Allocative for IdRc<T> {
     ghost may_show = { λ s. shows.Field (codes "Rc") (Some 8)
         (shared_inside (codes "RcInner") s.id T.size T.align (T.may_show s.value)) };
 
-    ghost is_exact = { T.is_exact };
+    ghost is_strict = { T.is_strict };
 
     fn visit(&self, visitor: &mut Visitor<'_>) -> Result<(), Refusal> {
         let pointer = Shared {
@@ -30,7 +30,7 @@ impl<T: Allocative + Described> Allocative for IdArc<T> {
     ghost may_show = { λ s. shows.Field (codes "Arc") (Some 8)
         (shared_inside (codes "ArcInner") s.id T.size T.align (T.may_show s.value)) };
 
-    ghost is_exact = { T.is_exact };
+    ghost is_strict = { T.is_strict };
 
     fn visit(&self, visitor: &mut Visitor<'_>) -> Result<(), Refusal> {
         let pointer = Shared {

@@ -12,7 +12,7 @@ use std::sync::atomic::{
 impl Allocative for AtomicU8 {
     ghost may_show = { λ _. Leaf (codes "AtomicU8") 1 };
 
-    ghost is_exact = { true };
+    ghost is_strict = { true };
 
     fn visit(&self, visitor: &mut Visitor<'_>) -> Result<(), Refusal> {
         visitor.visit_simple_sized::<AtomicU8>()
@@ -22,7 +22,7 @@ impl Allocative for AtomicU8 {
 impl Allocative for AtomicU16 {
     ghost may_show = { λ _. Leaf (codes "AtomicU16") 2 };
 
-    ghost is_exact = { true };
+    ghost is_strict = { true };
 
     fn visit(&self, visitor: &mut Visitor<'_>) -> Result<(), Refusal> {
         visitor.visit_simple_sized::<AtomicU16>()
@@ -32,7 +32,7 @@ impl Allocative for AtomicU16 {
 impl Allocative for AtomicU32 {
     ghost may_show = { λ _. Leaf (codes "AtomicU32") 4 };
 
-    ghost is_exact = { true };
+    ghost is_strict = { true };
 
     fn visit(&self, visitor: &mut Visitor<'_>) -> Result<(), Refusal> {
         visitor.visit_simple_sized::<AtomicU32>()
@@ -42,7 +42,7 @@ impl Allocative for AtomicU32 {
 impl Allocative for AtomicU64 {
     ghost may_show = { λ _. Leaf (codes "AtomicU64") 8 };
 
-    ghost is_exact = { true };
+    ghost is_strict = { true };
 
     fn visit(&self, visitor: &mut Visitor<'_>) -> Result<(), Refusal> {
         visitor.visit_simple_sized::<AtomicU64>()
@@ -52,7 +52,7 @@ impl Allocative for AtomicU64 {
 impl Allocative for AtomicUsize {
     ghost may_show = { λ _. Leaf (codes "AtomicUsize") 8 };
 
-    ghost is_exact = { true };
+    ghost is_strict = { true };
 
     fn visit(&self, visitor: &mut Visitor<'_>) -> Result<(), Refusal> {
         visitor.visit_simple_sized::<AtomicUsize>()
@@ -62,7 +62,7 @@ impl Allocative for AtomicUsize {
 impl Allocative for AtomicI8 {
     ghost may_show = { λ _. Leaf (codes "AtomicI8") 1 };
 
-    ghost is_exact = { true };
+    ghost is_strict = { true };
 
     fn visit(&self, visitor: &mut Visitor<'_>) -> Result<(), Refusal> {
         visitor.visit_simple_sized::<AtomicI8>()
@@ -72,7 +72,7 @@ impl Allocative for AtomicI8 {
 impl Allocative for AtomicI16 {
     ghost may_show = { λ _. Leaf (codes "AtomicI16") 2 };
 
-    ghost is_exact = { true };
+    ghost is_strict = { true };
 
     fn visit(&self, visitor: &mut Visitor<'_>) -> Result<(), Refusal> {
         visitor.visit_simple_sized::<AtomicI16>()
@@ -82,7 +82,7 @@ impl Allocative for AtomicI16 {
 impl Allocative for AtomicI32 {
     ghost may_show = { λ _. Leaf (codes "AtomicI32") 4 };
 
-    ghost is_exact = { true };
+    ghost is_strict = { true };
 
     fn visit(&self, visitor: &mut Visitor<'_>) -> Result<(), Refusal> {
         visitor.visit_simple_sized::<AtomicI32>()
@@ -92,7 +92,7 @@ impl Allocative for AtomicI32 {
 impl Allocative for AtomicI64 {
     ghost may_show = { λ _. Leaf (codes "AtomicI64") 8 };
 
-    ghost is_exact = { true };
+    ghost is_strict = { true };
 
     fn visit(&self, visitor: &mut Visitor<'_>) -> Result<(), Refusal> {
         visitor.visit_simple_sized::<AtomicI64>()
@@ -102,7 +102,7 @@ impl Allocative for AtomicI64 {
 impl Allocative for AtomicBool {
     ghost may_show = { λ _. Leaf (codes "AtomicBool") 1 };
 
-    ghost is_exact = { true };
+    ghost is_strict = { true };
 
     fn visit(&self, visitor: &mut Visitor<'_>) -> Result<(), Refusal> {
         visitor.visit_simple_sized::<AtomicBool>()
@@ -112,7 +112,7 @@ impl Allocative for AtomicBool {
 impl Allocative for AtomicIsize {
     ghost may_show = { λ _. Leaf (codes "AtomicIsize") 8 };
 
-    ghost is_exact = { true };
+    ghost is_strict = { true };
 
     fn visit(&self, visitor: &mut Visitor<'_>) -> Result<(), Refusal> {
         visitor.visit_simple_sized::<AtomicIsize>()

@@ -10,7 +10,7 @@ impl Allocative for String {
     ghost may_show = { λ s. shows.Field (codes "String") (Some 24)
         (text_shows (length (string_bytes s)) (string_capacity s)) };
 
-    ghost is_exact = { true };
+    ghost is_strict = { true };
 
     fn visit(&self, visitor: &mut Visitor<'_>) -> Result<(), Refusal> {
         Whole(self, Text(self)).enter(visitor)

@@ -9,7 +9,7 @@ use std::time::{Duration, Instant, SystemTime};
 impl Allocative for Instant {
     ghost may_show = { λ _. Leaf (codes "Instant") 16 };
 
-    ghost is_exact = { true };
+    ghost is_strict = { true };
 
     fn visit(&self, visitor: &mut Visitor<'_>) -> Result<(), Refusal> {
         visitor.visit_simple_sized::<Instant>()
@@ -19,7 +19,7 @@ impl Allocative for Instant {
 impl Allocative for SystemTime {
     ghost may_show = { λ _. Leaf (codes "SystemTime") 16 };
 
-    ghost is_exact = { true };
+    ghost is_strict = { true };
 
     fn visit(&self, visitor: &mut Visitor<'_>) -> Result<(), Refusal> {
         visitor.visit_simple_sized::<SystemTime>()
@@ -29,7 +29,7 @@ impl Allocative for SystemTime {
 impl Allocative for Duration {
     ghost may_show = { λ _. Leaf (codes "Duration") 16 };
 
-    ghost is_exact = { true };
+    ghost is_strict = { true };
 
     fn visit(&self, visitor: &mut Visitor<'_>) -> Result<(), Refusal> {
         visitor.visit_simple_sized::<Duration>()

@@ -10,7 +10,7 @@ impl<A: Allocative + Described> Allocative for (A,) {
     ghost may_show = { λ p. shows.Field (codes "tuple1") ⟦<(A,) as Described>⟧.size
         (shows.Field (codes "0") A.size (A.may_show p.0)) };
 
-    ghost is_exact = { A.is_exact };
+    ghost is_strict = { A.is_strict };
 
     fn visit(&self, visitor: &mut Visitor<'_>) -> Result<(), Refusal> {
         Whole(self, Field("0", &self.0)).enter(visitor)
@@ -22,7 +22,7 @@ impl<A: Allocative + Described, B: Allocative + Described> Allocative for (A, B)
         (shows.Both (shows.Field (codes "0") A.size (A.may_show p.0))
         (shows.Field (codes "1") B.size (B.may_show p.1))) };
 
-    ghost is_exact = { A.is_exact && B.is_exact };
+    ghost is_strict = { A.is_strict && B.is_strict };
 
     fn visit(&self, visitor: &mut Visitor<'_>) -> Result<(), Refusal> {
         Whole(self, (Field("0", &self.0), Field("1", &self.1))).enter(visitor)
@@ -36,7 +36,7 @@ impl<A: Allocative + Described, B: Allocative + Described, C: Allocative + Descr
         (shows.Both (shows.Field (codes "1") B.size (B.may_show p.1))
         (shows.Field (codes "2") C.size (C.may_show p.2)))) };
 
-    ghost is_exact = { A.is_exact && (B.is_exact && C.is_exact) };
+    ghost is_strict = { A.is_strict && (B.is_strict && C.is_strict) };
 
     fn visit(&self, visitor: &mut Visitor<'_>) -> Result<(), Refusal> {
         let first = Field("0", &self.0);
@@ -58,7 +58,7 @@ impl<
         (shows.Both (shows.Field (codes "2") C.size (C.may_show p.2))
         (shows.Field (codes "3") D.size (D.may_show p.3))))) };
 
-    ghost is_exact = { A.is_exact && (B.is_exact && (C.is_exact && D.is_exact)) };
+    ghost is_strict = { A.is_strict && (B.is_strict && (C.is_strict && D.is_strict)) };
 
     fn visit(&self, visitor: &mut Visitor<'_>) -> Result<(), Refusal> {
         let first = Field("0", &self.0);
@@ -83,7 +83,7 @@ impl<
         (shows.Both (shows.Field (codes "3") D.size (D.may_show p.3))
         (shows.Field (codes "4") E.size (E.may_show p.4)))))) };
 
-    ghost is_exact = { A.is_exact && (B.is_exact && (C.is_exact && (D.is_exact && E.is_exact))) };
+    ghost is_strict = { A.is_strict && (B.is_strict && (C.is_strict && (D.is_strict && E.is_strict))) };
 
     fn visit(&self, visitor: &mut Visitor<'_>) -> Result<(), Refusal> {
         let first = Field("0", &self.0);
@@ -98,7 +98,7 @@ impl<
 impl<T: Allocative + Described, const N: usize> Allocative for [T; N] {
     ghost may_show = { slice_of T.name T.size T.may_show };
 
-    ghost is_exact = { T.is_exact };
+    ghost is_strict = { T.is_strict };
 
     fn visit(&self, visitor: &mut Visitor<'_>) -> Result<(), Refusal> {
         visitor.visit_slice_of(self)

@@ -18,7 +18,7 @@ FlameGraph::merge-put_child-requires t c =
     let one = one_of_length _ c.pop.new.self.items c.in-Some.child c.in-Some.ensures.items
     (omega (arith, c.len.ensures, c.other.inside.children.ok.0, c.if-len-lt2.true)) in
     let child = child_of_one c.self.view_is c.self.invariant c.other.view_is c.other.invariant (sym one) c.requires in
-    (omega (arith, c.decreases, child.0), (c.self.invariant.children, (c.self.invariant.exact, (child.1, child.2))))
+    (omega (arith, c.decreases, child.0), (c.self.invariant.children, (c.self.invariant.weighed, (child.1, child.2))))
 
 pub FlameGraph::merge-returns-then-len-lt2 : goal.FlameGraph::merge-returns-then-len-lt2
 FlameGraph::merge-returns-then-len-lt2 t c =
@@ -32,13 +32,13 @@ FlameGraph::merge-invariant_of-self-then-len-lt2 t c =
     let one = one_of_length _ c.pop.new.self.items c.in-Some.child c.in-Some.ensures.items
     (omega (arith, c.len.ensures, c.other.inside.children.ok.0, c.if-len-lt2.true)) in
     merged_node c.self.view_is c.self.invariant c.other.view_is c.other.invariant refl (sym one) c.requires
-    c.put_child.ensures.merged c.put_child.ensures.exact
+    c.put_child.ensures.merged c.put_child.ensures.weighed
 
 pub FlameGraph::merge-interleave-requires : goal.FlameGraph::merge-interleave-requires
 FlameGraph::merge-interleave-requires t c =
     let fits = total_of_both c.self.view_is c.self.invariant c.other.view_is c.other.invariant in
     let rows = len_of_node c.other.view_is c.other.invariant in
-    (omega (arith, c.decreases, rows), (c.self.invariant.children, (c.self.invariant.exact, (c.other.invariant.children, omega (arith, fits, c.self.invariant.exact, c.requires)))))
+    (omega (arith, c.decreases, rows), (c.self.invariant.children, (c.self.invariant.weighed, (c.other.invariant.children, omega (arith, fits, c.self.invariant.weighed, c.requires)))))
 
 pub FlameGraph::merge-returns : goal.FlameGraph::merge-returns
 FlameGraph::merge-returns t c =
@@ -88,27 +88,27 @@ put_child-merge-result-requires t c =
     let x : Child = c.index_mut-here.result.now in
     let weights = weights_found c.args.child x x.graph c.deref.ensures.value c.in-Ok.ensures.found
     c.index_mut-here.ensures.value in
-    (omega (arith, c.decreases), omega (arith, weights.1, c.requires.exact, c.requires.fits))
+    (omega (arith, c.decreases), omega (arith, weights.1, c.requires.weighed, c.requires.fits))
 
 pub put_child-overflow_sub-size : goal.put_child-overflow_sub-size
 put_child-overflow_sub-size t c =
     let x : Child = c.index_mut-here.result.now in
     let weights = weights_found c.args.child x x.graph c.deref.ensures.value c.in-Ok.ensures.found
     c.index_mut-here.ensures.value in
-    omega (arith, weights.1, c.requires.exact, c.total_size-before.ensures.total)
+    omega (arith, weights.1, c.requires.weighed, c.total_size-before.ensures.total)
 
 pub put_child-returns-in-Ok-clause-merged : goal.put_child-returns-in-Ok-clause-merged
 put_child-returns-in-Ok-clause-merged t c =
     put_at_found c.args.child c.index_mut-here.result.now _ c.deref.ensures.value c.in-Ok.ensures.found
     c.index_mut-here.ensures.value c.requires.children c.merge-result.ensures
 
-pub put_child-returns-in-Ok-clause-exact : goal.put_child-returns-in-Ok-clause-exact
-put_child-returns-in-Ok-clause-exact t c =
+pub put_child-returns-in-Ok-clause-weighed : goal.put_child-returns-in-Ok-clause-weighed
+put_child-returns-in-Ok-clause-weighed t c =
     let x : Child = c.index_mut-here.result.now in
     let g = c.merge-result.new.self in
     let weights = weights_found c.args.child x g c.deref.ensures.value c.in-Ok.ensures.found
     c.index_mut-here.ensures.value in
-    omega (arith, weights.0, weights.1, c.requires.exact, c.total_size-before.ensures.total, c.total_size.ensures.total)
+    omega (arith, weights.0, weights.1, c.requires.weighed, c.total_size-before.ensures.total, c.total_size.ensures.total)
 
 pub put_child-returns-in_ok-put_at-in-Err-clause-merged : goal.put_child-returns-in_ok-put_at-in-Err-clause-merged
 put_child-returns-in_ok-put_at-in-Err-clause-merged t c =

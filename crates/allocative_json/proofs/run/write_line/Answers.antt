@@ -1,5 +1,5 @@
 -- The start, the message and the line feed are written one after another.
-use Rattle.allocative_json.proofs.Writes.{begins_first, begins_second}
+use Rattle.allocative_io.proofs.Writes.{begins_first, begins_second}
 use Rattle.allocative_json.specs.Fault.{message_of}
 use Rattle.allocative_json.proofs.run.write_line.Goals as goal
 

@@ -6,5 +6,5 @@ use Rattle.allocative_picture.proofs.boxes.push_element.Goals as goal
 pub returns : goal.returns
 unfolding element
 returns c =
-    rw (← c.edge.ensures, ← c.in_ok-key.ensures, c.in_ok-write.ensures.bytes, c.in_ok-push_frame.ensures)
+    rw (← c.edge.ensures, ← c.in_ok-key.ensures, c.in_ok-write.ensures.bytes, c.in_ok-push_viewport.ensures)
     (append_assoc (string_bytes c.args.text.now) _ _)

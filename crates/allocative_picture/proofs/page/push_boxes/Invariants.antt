@@ -1,9 +1,9 @@
 use Rattle.std.proofs.Common.{◌≡◌, ◌++◌, map, take, flat_map, string_bytes}
-use Rattle.allocative_picture.proofs.Common.{row_data}
+use Rattle.allocative_picture.proofs.Common.{frame_data}
 use Rattle.allocative_picture.specs.Boxes.{element}
 use Rattle.allocative_picture.proofs.page.push_boxes.Given as goal
 
--- The boxes of the rows so far have been appended.
-abbrev pub invariant-loop-row : goal.invariant-loop-row
-invariant-loop-row l = string_bytes l.text ≡ string_bytes l.initial.text
-    ++ flat_map (element l.all) (map row_data (take l.row-index l.rows))
+-- The boxes of the frames so far have been appended.
+abbrev pub invariant-loop-frame : goal.invariant-loop-frame
+invariant-loop-frame l = string_bytes l.text ≡ string_bytes l.initial.text
+    ++ flat_map (element l.all) (map frame_data (take l.frame-index l.frames))

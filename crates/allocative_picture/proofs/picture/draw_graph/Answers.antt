@@ -1,22 +1,22 @@
 use Rattle.std.proofs.Common.{◌≡◌, ◌++◌, map, ap, ◌∙◌, filter, arith}
-use Rattle.allocative_picture.proofs.Common.{figures_behind, is_drawn, len, rows_from, row_data}
+use Rattle.allocative_picture.proofs.Common.{figures_behind, is_drawn, len, frames_from, frame_data}
 use Rattle.allocative_graph.proofs.NodeText.{texts}
 use Rattle.allocative_picture.specs.Page.{all_of}
 use Rattle.allocative_picture.specs.Marks.{mark_by}
-use Rattle.allocative_picture.proofs.Placing.{rows_from-figures}
-use Rattle.allocative_picture.proofs.Walking.{length-rows_of}
+use Rattle.allocative_picture.proofs.Placing.{frames_from-figures}
+use Rattle.allocative_picture.proofs.Walking.{length-frames_of}
 use Rattle.allocative_picture.proofs.picture.draw_graph.Goals as goal
 
--- The rows that are drawn are the wide ones among the graph's.
+-- The frames that are drawn are the wide ones among the graph's.
 pub returns : goal.returns
 returns c =
     let M = mark_by c.args.marks c.args.other.now in
     let g = c.args.graph.now in
     let least = c.args.options.now.narrowest in
-    let paths : c.push_rows.new.paths ≡ len g = omega (arith, c.in_ok-push_rows.ensures.paths) in
-    let rows = ap (map row_data) c.as_slice.ensures.value ∙ c.in_ok-push_rows.ensures.rows
-    ∙ (λ i. map row_data (c.new-wide.ensures.items i)
+    let paths : c.push_frames.new.paths ≡ len g = omega (arith, c.in_ok-push_frames.ensures.paths) in
+    let frames = ap (map frame_data) c.as_slice.ensures.value ∙ c.in_ok-push_frames.ensures.frames
+    ∙ (λ i. map frame_data (c.new-wide.ensures.items i)
     ++ filter (is_drawn least (c.all.ensures i))
-    (rows_from M 0 (figures_behind (texts (c.new-path.ensures.items i)) g)))
-    ∙ ap (filter (is_drawn least (all_of c.args.subject))) (rows_from-figures M g) in
-    rw (← rows, length-rows_of M g, ← paths) c.draw_wide.ensures
+    (frames_from M 0 (figures_behind (texts (c.new-path.ensures.items i)) g)))
+    ∙ ap (filter (is_drawn least (all_of c.args.subject))) (frames_from-figures M g) in
+    rw (← frames, length-frames_of M g, ← paths) c.draw_wide.ensures

@@ -1,6 +1,6 @@
 use Rattle.std.proofs.Common.{◌≡◌, ℕ, ◌+◌, ◌++◌, ◌∷◌, [], List, Bor, map, take, sym, ap, ◌∙◌, arith, take_all}
 use Rattle.std.proofs.lemmas.List.{take_more, map_push}
-use Rattle.allocative_collectors.specs.Warned as held
+use Rattle.allocative_collectors.specs.Warned.{warning_of}
 use Rattle.allocative_collectors.specs.declared.output.WarnedPath.{WarnedPath}
 use Rattle.allocative_graph.specs.Graph.{Graph, Warned, size_at, total, sum_of}
 use Rattle.allocative_graph.specs.Representation.PathRows.{graph_of_path}
@@ -25,12 +25,12 @@ loop-one-preserved c =
     let path = texts one.path.items in
     let more : take (i + 1) ws ≡ take i ws ++ one ∷ [] =
     take_more ws i one c.loop-one-test.true ∙ ap (λ (w : WarnedPath). take i ws ++ w ∷ []) (sym c.one-item.is) in
-    let warnings = ap (map held.warning_of) more ∙ map_push held.warning_of (take i ws) one in
+    let warnings = ap (map warning_of) more ∙ map_push warning_of (take i ws) one in
     let added : c.add_at.new.graph ≡ sum_of c.loop-one.graph (graph_of_path path 1) =
     c.in_ok-add_at.ensures.sum ∙ ap (λ (ks : List (Bor (List ℕ))). sum_of c.loop-one.graph (graph_of_path (texts ks) 1))
     c.as_slice.ensures.value in
     record {
-      sizes = λ p. warning_more (map held.warning_of (take i ws)) (held.warning_of one) c.loop-one.graph
+      sizes = λ p. warning_more (map warning_of (take i ws)) (warning_of one) c.loop-one.graph
           c.add_at.new.graph p (c.loop-one.invariant.sizes p) added
           ∙ ap (λ (vs : List Warned). warnings_at vs p) (sym warnings);
       bytes = omega (arith, ap total added, total-sum_of c.loop-one.graph (graph_of_path path 1), total-path path 1, c.loop-one.invariant.bytes);
@@ -38,6 +38,6 @@ loop-one-preserved c =
 
 pub returns : goal.returns
 returns c = λ p.
-    mark_counted (map held.warning_of c.args.warned.now) p (size_at c.loop-one.graph p)
-    (c.loop-one.invariant.sizes p ∙ ap (λ (ws : List WarnedPath). warnings_at (map held.warning_of ws) p)
+    mark_counted (map warning_of c.args.warned.now) p (size_at c.loop-one.graph p)
+    (c.loop-one.invariant.sizes p ∙ ap (λ (ws : List WarnedPath). warnings_at (map warning_of ws) p)
     (take_all c.loop-one.one-index c.args.warned.now (omega arith)))

@@ -12,12 +12,12 @@ use Rattle.allocative.proofs.Lent.{MutRef, mut_vals, mut_Tells, plain, named_lft
 use Rattle.allocative.proofs.Lent.{Lasts, lasts, triple_of, framed, Stays, stay_dropped, Goes-dropped, Goes-spent_ref}
 use Rattle.allocative.proofs.Lent.{ends_at, true, false, Ok, IfOk, IfErr, OnOk, OnErr, Option, None, Some, Result, Err}
 use Rattle.allocative.proofs.Lent.{IfSome, name_if_ok, State, OpensShared, LendsCollector, EndsWith, EndsWithout}
-use Rattle.allocative.proofs.Lent.{with_state, AnswersShared, told, turned, Refusal, Key, Identity, enters_first}
+use Rattle.allocative.proofs.Lent.{with_state, AnswersShared, answer_without_visitor, transpose, Refusal, Key, Identity, enters_first}
 use Rattle.allocative.proofs.Lent.{Visitor, GName, follows_so, LendsPointed, OpensSharedAt, WpFn, Is, walk_of}
 use mathlib.Core.Option as maybe
 use Rattle.allocative.specs.Nested.{EntersShared, LendsShared, name_in}
 use Rattle.allocative_graph.specs.Collector.{no_outer}
-use Rattle.allocative.specs.Shared.{answered}
+use Rattle.allocative.specs.Shared.{answer_of}
 use Rattle.allocative_graph.specs.contracts.shared.Identity as identity
 use Rattle.allocative_graph.proofs.shared.Identity.TheLaws.{the_row_laws as identity_laws}
 use Rattle.allocative.specs.contracts.visitor.Visitor.enter_shared as f
@@ -44,21 +44,21 @@ abbrev SharedAnswer : Lfts 2 → RattleType
 SharedAnswer κs = result_row (option_row (Nested κs)) refusal_row
 
 -- The reference in a returned visitor has the same name before and after the result is converted.
-same_name : (r : Try) → name_if_ok (λ v. v.collector.ghost_name) r ≡ name_in (turned r)
+same_name : (r : Try) → name_if_ok (λ v. v.collector.ghost_name) r ≡ name_in (transpose r)
 same_name (Ok v) = refl
 same_name (Err None) = refl
 same_name (Err (Some e)) = refl
 
 -- If a visitor is returned, the lender ends with what that visitor leaves of the collector.
-ends_with : (s : Visitor) (r : Try) (w z : State) → OnOk r (z ≡ w) → EndsWith s (turned r) w (with_state s z)
+ends_with : (s : Visitor) (r : Try) (w z : State) → OnOk r (z ≡ w) → EndsWith s (transpose r) w (with_state s z)
 ends_with s (Ok v) w z h = ap (with_state s) h
 ends_with s (Err None) w z h = tt
 ends_with s (Err (Some e)) w z h = tt
 
 -- If no visitor is returned, the lender ends with what entering the shared value says.
 ends_without : (k : Key) (n : ℕ) (i : Identity) (s : Visitor) (c : State) → c ≡ s.collector.now →
-    (r : Try) (z : State) → OnErr r (IfErr r (λ o. OpensShared k n i c (told o) z)) →
-    EndsWithout k n i s (turned r) (with_state s z)
+    (r : Try) (z : State) → OnErr r (IfErr r (λ o. OpensShared k n i c (answer_without_visitor o) z)) →
+    EndsWithout k n i s (transpose r) (with_state s z)
 ends_without k n i s c e (Ok v) z h = tt
 ends_without k n i s c e (Err None) z h = let P : State → Type 0 = λ x. OpensShared k n i x (Ok false) z in
     (subst P e h, refl)
@@ -66,7 +66,7 @@ ends_without k n i s c e (Err (Some x)) z h = let P : State → Type 0 = λ y. O
     (subst P e h, refl)
 
 -- If P implies Q, and P is true of a returned visitor, then Q is true of it in the converted result.
-shown_by : (P Q : Visitor → Type 0) (r : Try) (g : Given) → g ≡ turned r → ((v : Visitor) → P v → Q v) → IfOk r P →
+shown_by : (P Q : Visitor → Type 0) (r : Try) (g : Given) → g ≡ transpose r → ((v : Visitor) → P v → Q v) → IfOk r P →
     IfOk g (λ o. IfSome o Q)
 shown_by P Q (Ok v) g e w h = rw e (w v h)
 shown_by P Q (Err None) g e w h = rw e tt
@@ -79,7 +79,7 @@ shown_answer k n i (enters_first r h e) = (r, h)
 
 -- What the converted result says of the content is an answer that `AnswersShared` allows.
 answer_at : (k : Key) (n : ℕ) (i : Identity) (r : Try) (c : State) → IfOk r (OpensSharedAt k n i c) →
-    IfErr r (λ o. AnswersShared k n i c (told o)) → AnswersShared k n i c (answered (turned r))
+    IfErr r (λ o. AnswersShared k n i c (answer_without_visitor o)) → AnswersShared k n i c (answer_of (transpose r))
 answer_at k n i (Ok v) c h j = shown_answer k n i h.1
 answer_at k n i (Err None) c h j = j
 answer_at k n i (Err (Some e)) c h j = j
@@ -146,16 +146,16 @@ enter_shared_spec 𝓤 𝓛 𝓜 𝓡 wired =
     some (λ (vs : Lasts h.ended (κ, tt) z.0.3). ‵ (lasts h.ended (κ, tt) z.0.3 vs) ⊛ ‵ (LendsPointed k n j r res) ⊛
     raw (fact 𝓤 (IfOk res (λ w. w.collector.ghost_name ≡ r.ghost_name))) ⊛ raw
     (fact 𝓤 (IfOk res (OpensSharedAt k n j r.now))) ⊛
-    raw (fact 𝓤 (IfErr res (λ w. AnswersShared k n j r.now (told w)))))))) (id⊢ 𝓤 _) $
+    raw (fact 𝓤 (IfErr res (λ w. AnswersShared k n j r.now (answer_without_visitor w)))))))) (id⊢ 𝓤 _) $
     await ! tt $ pick ! (λ res. split ! $ split ! $ move ! (2 ∷ []) $ pick ! (λ vs. split ! $ drop ! $ split ! $
     move ! (1 ∷ []) $ split ! $ heard ! _ (λ _. split ! $ heard ! _ (λ content. heard ! _ (λ refused.
     -- [what the part ends as; the token; the answer; the other tokens; what self ends as]
     let Ends = λ (m : maybe.Option GName). ‵ (follows_so (visitor_row (record { mir = named 1; lft = [] }))
-    collector_row s.ghost_name m (EndsWith s.now (turned res)) (EndsWithout k n j s.now (turned res))) in
+    collector_row s.ghost_name m (EndsWith s.now (transpose res)) (EndsWithout k n j s.now (transpose res))) in
     move ! (4 ∷ 0 ∷ []) $ use2 𝓛 (Ends (name_if_ok (λ w. w.collector.ghost_name) res))
     (nest 𝓛 (visitor_row (record { mir = named 1; lft = [] })) collector_row (with_state s.now) s.ghost_name r.ghost_name
-    (λ w x'. OnOk res (x' ≡ w)) (λ x'. OnErr res (IfErr res (λ w. OpensShared k n j r.now (told w) x')))
-    (EndsWith s.now (turned res)) (EndsWithout k n j s.now (turned res)) (ends_with s.now res)
+    (λ w x'. OnOk res (x' ≡ w)) (λ x'. OnErr res (IfErr res (λ w. OpensShared k n j r.now (answer_without_visitor w) x')))
+    (EndsWith s.now (transpose res)) (EndsWithout k n j s.now (transpose res)) (ends_with s.now res)
     (ends_without k n j s.now r.now same res)
     (name_if_ok (λ w. w.collector.ghost_name) res)) $
     rewrite ! 0 Ends (same_name res) refl $
@@ -172,7 +172,7 @@ enter_shared_spec 𝓤 𝓛 𝓜 𝓡 wired =
     calls_at ! fm T (t-met.met 𝓤 𝓛 𝓜 𝓡 (code.calls-allocative::visitor::turned_round 𝓡.env wired)) b
     (and_then ! (get ! refl) (no_more !)) (λ o.
     use1 𝓛 (later (some (λ (out : Given). ((‵ (flft κ q) ⊛ ‵ ftrue) ⊛ ‵ ((SharedAnswer κs).own_val out (o ∷ []))) ⊛
-    some (λ (us : Lasts t.ended (κ, tt) b.0.3). ‵ (lasts t.ended (κ, tt) b.0.3 us) ⊛ raw (fact 𝓤 (out ≡ turned res))))))
+    some (λ (us : Lasts t.ended (κ, tt) b.0.3). ‵ (lasts t.ended (κ, tt) b.0.3 us) ⊛ raw (fact 𝓤 (out ≡ transpose res))))))
     (id⊢ 𝓤 _) $
     await ! tt $ pick !
     (λ out. split ! $ split ! $ move ! (2 ∷ []) $ pick ! (λ us. split ! $ drop ! $ heard ! _ (λ is_turned.
@@ -196,6 +196,6 @@ enter_shared_spec 𝓤 𝓛 𝓜 𝓡 wired =
       entered = shown_by (OpensSharedAt k n j s.now.collector.now)
           (λ v. OpensShared k n j s.now.collector.now (Ok true) v.collector.now) res out is_turned (λ v h. h.1) entered;
       answer = rw is_turned (answer_at k n j res s.now.collector.now entered
-          (subst (λ (x : State). IfErr res (λ o. AnswersShared k n j x (told o))) same refused));
+          (subst (λ (x : State). IfErr res (λ o. AnswersShared k n j x (answer_without_visitor o))) same refused));
     } in
     says ! shown $ done !))))))))))))))))))))

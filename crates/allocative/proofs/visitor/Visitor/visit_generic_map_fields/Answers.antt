@@ -11,5 +11,5 @@ returns-in_err-outer g c =
 pub returns : goal.returns
 returns g c =
     let run = c.visit_run-answer.ensures in
-    data_entered (rw c.new.ensures at c.in_ok-outer.ensures.opens) run.entered run.only_if_full run.exact
+    data_entered (rw c.new.ensures at c.in_ok-outer.ensures.opens) run.entered run.only_if_full run.plan
     c.close_entry.ensures

@@ -14,16 +14,16 @@ returns-clause-entered g c =
     plain_run {e = true} deref g.T.Described.name g.T.Described.size c.count_of-count.result g.T.Described.needs_drop
     g.T.Allocative.may_show (search rules) c.count_of-count.ensures (search rules)
 
-pub returns-then-are_shown_each-clause-exact : goal.returns-then-are_shown_each-clause-exact
-returns-then-are_shown_each-clause-exact g c =
+pub returns-then-are_shown_each-clause-plan : goal.returns-then-are_shown_each-clause-plan
+returns-then-are_shown_each-clause-plan g c =
     let e : are_shown_each g.T.Described.needs_drop g.T.Described.size ≡ true = search rules in
-    rw (e, MakesPlanRun) c.visit_run.ensures.exact
+    rw (e, MakesPlanRun) c.visit_run.ensures.plan
 
-pub returns-clause-exact : goal.returns-clause-exact
-returns-clause-exact g c =
+pub returns-clause-plan : goal.returns-clause-plan
+returns-clause-plan g c =
     let e : are_shown_each g.T.Described.needs_drop g.T.Described.size ≡ false = search rules in
     rw (e, MakesPlanRun)
-    (c.count_of-count.result, c.count_of-count.ensures, rw c.for_type_name.ensures at c.visit_counted.ensures.exact)
+    (c.count_of-count.result, c.count_of-count.ensures, rw c.for_type_name.ensures at c.visit_counted.ensures.plan)
 
 pub returns-clause-only_if_full : goal.returns-clause-only_if_full
 returns-clause-only_if_full g c =

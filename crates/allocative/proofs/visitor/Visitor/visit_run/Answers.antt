@@ -24,8 +24,8 @@ returns-in_err-enter_item-clause-only_if_full g c =
     (along_refused _ l.item-iterator l.yielded is l.yielded_by c.in-Some.ensures.steps l.invariant.0
     c.in_err-enter_item.ensures)
 
-pub returns-in_err-enter_item-clause-exact : goal.returns-in_err-enter_item-clause-exact
-returns-in_err-enter_item-clause-exact g c =
+pub returns-in_err-enter_item-clause-plan : goal.returns-in_err-enter_item-clause-plan
+returns-in_err-enter_item-clause-plan g c =
     rw (← c.into_iter-item-iterator.ensures.into_iter_gives)
     (run_gives _ c.loop-item.item-iterator c.loop-item.yielded c.loop-item.yielded_by c.in-Some.ensures.steps)
 
@@ -38,5 +38,5 @@ returns g c =
       only_if_full = along_run l.yielded (c.next.new.self, (l.item-iterator, l.yielded_by, c.in-None.ensures.steps))
           l.invariant.0;
       kept = kept_after c.in_ok-go_on.ensures;
-      exact = l.invariant.1;
+      plan = l.invariant.1;
     })

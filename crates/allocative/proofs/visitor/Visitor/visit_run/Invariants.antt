@@ -6,6 +6,6 @@ use Rattle.allocative.proofs.visitor.Visitor.visit_run.Given as goal
 
 abbrev pub invariant-loop-item : goal.invariant-loop-item
 invariant-loop-item g l =
-    Entered g.E.EnterItem.is_exact (each_shows (g.E.EnterItem.may_show l.how) (map g.E.EnterItem.seen l.yielded))
+    Entered g.E.EnterItem.is_strict (each_shows (g.E.EnterItem.may_show l.how) (map g.E.EnterItem.seen l.yielded))
     l.fn.self l.self (Ok tt)
     × MakesPlanOrGives g.I.Iterator.next_gives l.initial.item-iterator Done l.fn.self l.self (Ok tt)

@@ -1,12 +1,12 @@
 -- The tree has only the root, with no entry.
 use Rattle.std.proofs.Common.{ℕ, ◌-◌, ◌^◌, List, [], ◌∷◌, refl, sym, subst, arith}
 use Rattle.allocative_collectors.proofs.Common.{Listed, root_sum, IsPlaced}
-use Rattle.allocative_graph.proofs.Below.{entered-empty}
+use Rattle.allocative_graph.proofs.Below.{bytes_entered-empty}
 use Rattle.allocative_collectors.proofs.graph_collector.GraphCollector.new.Goals as goal
 
 -- With the root alone, the current place is the root, and there is room for 2^63 - 1 bytes.
 root_alone : IsPlaced (root_sum ∷ []) 0 [] (2 ^ 63 - 1)
-root_alone = record { here = omega arith; back = λ j h. absurd (omega arith); entered_is = omega (arith, entered-empty); total_is = refl; rooted = omega arith; root_path = refl }
+root_alone = record { here = omega arith; back = λ j h. absurd (omega arith); entered_is = omega (arith, bytes_entered-empty); total_is = refl; rooted = omega arith; root_path = refl }
 
 pub invariant_of-result : goal.invariant_of-result
 invariant_of-result c = subst (λ (t : Listed). IsPlaced t 0 c.new-2.result.items (2 ^ 63 - 1))

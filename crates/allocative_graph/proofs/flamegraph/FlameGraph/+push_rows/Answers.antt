@@ -2,10 +2,10 @@ use Rattle.std.proofs.Common.{◌≡◌, ℕ, ◌++◌, [], ◌∷◌, List, Bor
 use Rattle.std.proofs.Common.{take_all}
 use Rattle.allocative_graph.proofs.Common.{Path, Graph, total, total_at, Figures, figures_behind, rows_of, map_push}
 use Rattle.std.proofs.lemmas.List.Elements.{same_from_all_zip}
-use Rattle.allocative_graph.specs.declared.flamegraph.reads.Row.{Row}
-use Rattle.allocative_graph.specs.Reads.{row_figures}
+use Rattle.allocative_graph.specs.declared.flamegraph.rows.Row.{Row}
+use Rattle.allocative_graph.specs.Rows.{row_figures}
 use Rattle.allocative_graph.proofs.NodeText.{texts, popped}
-use Rattle.allocative_graph.proofs.ReadRows.{rows_pushed, figured, node_read}
+use Rattle.allocative_graph.proofs.Rows.{rows_pushed, figured, node_read}
 use Rattle.allocative_graph.proofs.flamegraph.FlameGraph.+push_rows.Goals as goal
 
 pub loop-child-preserved : goal.loop-child-preserved

@@ -1,7 +1,7 @@
 use Rattle.std.proofs.Common.{◌≡◌, ◌++◌, map, take}
 use Rattle.allocative_graph.proofs.Common.{total_at, rows_of}
-use Rattle.allocative_graph.specs.Reads.{row_figures}
-use Rattle.allocative_graph.proofs.ReadRows.{figured}
+use Rattle.allocative_graph.specs.Rows.{row_figures}
+use Rattle.allocative_graph.proofs.Rows.{figured}
 use Rattle.allocative_graph.proofs.flamegraph.FlameGraph.+push_rows.Given as goal
 
 abbrev pub invariant-loop-child : goal.invariant-loop-child

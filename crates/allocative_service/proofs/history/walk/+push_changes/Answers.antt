@@ -3,7 +3,7 @@ use Rattle.std.proofs.Common.{append_assoc, ◌∙◌, take_all, option_copied}
 use Rattle.std.specs.FinMap.{len, entries}
 use Rattle.std.proofs.lemmas.List.{map-append}
 use Rattle.allocative.specs.Graph.{Graph, size_at}
-use Rattle.allocative_graph.specs.Reads.{rows_of}
+use Rattle.allocative_graph.specs.Rows.{rows_of}
 use Rattle.allocative_graph.specs.declared.flamegraph.Child.{Child}
 use Rattle.allocative_graph.proofs.NodeText.{texts, popped}
 use Rattle.allocative_service.proofs.Common.{Changed, change_data}

@@ -1,6 +1,6 @@
 use Rattle.std.proofs.Common.{◌≡◌, ◌++◌, map, take, option_copied}
 use Rattle.std.specs.FinMap.{len}
-use Rattle.allocative.specs.Reads.{rows_of}
+use Rattle.allocative.specs.Rows.{rows_of}
 use Rattle.allocative_service.proofs.Common.{change_data}
 use Rattle.allocative_service.specs.Walk.{size_in, changes_behind}
 use Rattle.allocative_service.proofs.history.walk.+push_changes.Given as goal

@@ -1,5 +1,5 @@
 use Rattle.std.proofs.Common.{◌≤◌, arith, refl}
-use Rattle.allocative_service.specs.Holding.{sum_of}
+use Rattle.allocative_service.specs.AccountData.{sum_of}
 use Rattle.allocative_service.proofs.Accounts.{account_within}
 use Rattle.allocative_service.proofs.ledger.Ledger.check.Goals as goal
 

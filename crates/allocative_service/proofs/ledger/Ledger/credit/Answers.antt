@@ -1,6 +1,5 @@
 use Rattle.std.proofs.Common.{arith}
 use Rattle.std.proofs.lemmas.Result.{IfErr-weaker}
-use Rattle.allocative_service.specs.Rejected.{RejectsIn}
 use Rattle.allocative_service.proofs.Credits.{credited}
 use Rattle.allocative_service.proofs.ledger.Ledger.credit.Goals as goal
 

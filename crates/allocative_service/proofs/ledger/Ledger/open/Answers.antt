@@ -1,8 +1,8 @@
-use Rattle.std.proofs.Common.{◌≡◌, ◌∙◌, None, ap, refl, rules, sym}
+use Rattle.std.proofs.Common.{◌≡◌, ◌∙◌, None, ap, refl, sym}
 use Rattle.std.specs.BTreeMap.{get_by_text}
-use Rattle.allocative_service.proofs.Common.{Holding}
+use Rattle.allocative_service.proofs.Common.{AccountData}
 use Rattle.allocative_service.proofs.Accounts.{all_bytes-open, either_way, in_ledger, none_where, opens}
-use Rattle.allocative_service.specs.Holding.{sum_of}
+use Rattle.allocative_service.specs.AccountData.{sum_of}
 use Rattle.allocative_service.proofs.ledger.Ledger.open.Goals as goal
 
 -- The sum is that of the accounts after the insertion, or the ledger is as it was.
@@ -12,7 +12,7 @@ invariant_of-self c =
     let none : get_by_text old.accounts c.args.tenant.now ≡ None =
     none_where _ (sym c.contains_key.ensures ∙ c.if-contains_key.false) in
     let empty : sum_of c.new-account.result.entries ≡ 0 =
-    ap (λ (h : Holding). sum_of h.entries) c.new-account.ensures in
+    ap (λ (h : AccountData). sum_of h.entries) c.new-account.ensures in
     let same = all_bytes-open c.args.tenant.now c.in-Ok.name c.new-account.result old.accounts c.in-Ok.ensures.ok none
     empty c.insert.ensures.was_ordered in
     record {

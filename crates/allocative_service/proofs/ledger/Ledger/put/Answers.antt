@@ -1,10 +1,10 @@
 use Rattle.std.proofs.Common.{◌≡◌, arith, ap, refl, subst, sym, unwrap_or}
 use Rattle.std.specs.Option.{option_and_then}
 use Rattle.std.proofs.lemmas.Result.{on_err_weaker}
-use Rattle.allocative_service.proofs.Common.{Holding}
+use Rattle.allocative_service.proofs.Common.{AccountData}
 use Rattle.allocative_service.proofs.Accounts.{OnErr-always, had_in_account, in_ledger, written}
 use Rattle.allocative_service.specs.Accounts.{account_of}
-use Rattle.allocative_service.specs.Holding.{bytes_at, sum_of, Puts}
+use Rattle.allocative_service.specs.AccountData.{bytes_at, sum_of, Puts}
 use Rattle.allocative_service.proofs.ledger.Ledger.put.Goals as goal
 
 pub check-requires : goal.check-requires
@@ -14,7 +14,7 @@ pub invariant_of-self-in-Break-branch-2 : goal.invariant_of-self-in-Break-branch
 invariant_of-self-in-Break-branch-2 c =
     let w = written c.args.tenant.now _ _ c.args.self.now.accounts (c.get_mut.follows.lender c.put.new.self)
     c.in-Some.ensures.value (c.get_mut.follows.holds c.put.new.self) in
-    record { summed = omega (arith, w.all, ap (λ (h : Holding). sum_of h.entries) c.in_err-total.ensures.unchanged, c.args.self.now.summed); within = c.args.self.now.within; fits = c.args.self.now.fits }
+    record { summed = omega (arith, w.all, ap (λ (h : AccountData). sum_of h.entries) c.in_err-total.ensures.unchanged, c.args.self.now.summed); within = c.args.self.now.within; fits = c.args.self.now.fits }
 
 pub returns-in_err-total-clause-unchanged : goal.returns-in_err-total-clause-unchanged
 returns-in_err-total-clause-unchanged c =

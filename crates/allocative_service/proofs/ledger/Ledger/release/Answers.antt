@@ -1,6 +1,6 @@
 use Rattle.std.proofs.Common.{arith, ap, refl, sym, ◌≡◌, ◌+◌, subst}
-use Rattle.allocative_service.proofs.Common.{Holding}
-use Rattle.allocative_service.specs.Holding.{sum_of}
+use Rattle.allocative_service.proofs.Common.{AccountData}
+use Rattle.allocative_service.specs.AccountData.{sum_of}
 use Rattle.allocative_service.proofs.Accounts.{IfNone-always, IfNone-weaker, in_ledger, written}
 use Rattle.allocative_service.proofs.ledger.Ledger.release.Goals as goal
 
@@ -9,7 +9,7 @@ pub invariant_of-self-in-Break-branch-2 : goal.invariant_of-self-in-Break-branch
 invariant_of-self-in-Break-branch-2 c =
     let w = written c.args.tenant.now _ _ c.args.self.now.accounts (c.get_mut.follows.lender c.release.new.self)
     c.in_ok-account.ensures.value (c.get_mut.follows.holds c.release.new.self) in
-    record { summed = omega (arith, w.all, ap (λ (h : Holding). sum_of h.entries) c.in_err-bytes.ensures.unchanged, c.args.self.now.summed); within = c.args.self.now.within; fits = c.args.self.now.fits }
+    record { summed = omega (arith, w.all, ap (λ (h : AccountData). sum_of h.entries) c.in_err-bytes.ensures.unchanged, c.args.self.now.summed); within = c.args.self.now.within; fits = c.args.self.now.fits }
 
 -- If there is no entry, no account changes.
 pub returns-in_err-bytes-clause-unchanged : goal.returns-in_err-bytes-clause-unchanged
@@ -36,7 +36,7 @@ returns-clause-released c =
       before = before;
       account = sym c.in_ok-account.ensures.value;
       had_bytes = sym c.in_ok-bytes.ensures.value;
-      sum_is = subst (λ (h : Holding). sum_of h.entries + c.in_ok-bytes.bytes ≡ sum_of before.entries)
+      sum_is = subst (λ (h : AccountData). sum_of h.entries + c.in_ok-bytes.bytes ≡ sum_of before.entries)
           c.release.ensures.without c.in_ok-bytes.ensures.sum;
       change = rw (← c.release.ensures.without) (in_ledger _ _ _ _ w.one (refl, refl));
       all_is = omega (arith, w.all, c.in_ok-bytes.ensures.sum);

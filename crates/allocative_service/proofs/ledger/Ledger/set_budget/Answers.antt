@@ -1,6 +1,5 @@
 use Rattle.std.proofs.Common.{arith, ap, refl, sym}
-use Rattle.allocative_service.proofs.Common.{Holding}
-use Rattle.allocative_service.specs.Holding.{sum_of}
+use Rattle.allocative_service.specs.AccountData.{sum_of}
 use Rattle.std.proofs.lemmas.Result.{on_ok_weaker, on_err_weaker}
 use Rattle.allocative_service.proofs.Accounts.{in_ledger, written}
 use Rattle.allocative_service.proofs.ledger.Ledger.set_budget.Goals as goal

@@ -2,7 +2,7 @@
 use Rattle.test_generated_types.specs.declared.nested.Rope.{out-Rope}
 use Rattle.test_generated_types.specs.declared.nested.Rope.TheOpen.{Rope-F}
 use Rattle.std.proofs.Common.{refl, ◌≡◌}
-use Rattle.allocative.proofs.Levels.{means_recursive}
+use Rattle.allocative.proofs.Levels.{means_opened}
 use Rattle.allocative.proofs.Meaning.{means_field, means_same, visited_as}
 use Rattle.test_generated_types.proofs.nested.RopeAllocative.+visit.Goals as goal
 
@@ -12,5 +12,6 @@ variant (Rope-F.Of a b) = (a, b, refl)
 pub returns : goal.returns
 returns t c =
     visited_as c.enter.ensures
-    (means_recursive (rw (variant (out-Rope c.args.self.now)).2
+    (rw (variant (out-Rope c.args.self.now)).2
+    (means_opened _ _ (variant (out-Rope c.args.self.now)).2
     (means_field refl c.size-2.ensures (means_field refl c.size.ensures means_same))))

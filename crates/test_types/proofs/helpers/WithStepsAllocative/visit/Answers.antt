@@ -2,7 +2,7 @@
 use Rattle.std.proofs.Common.{rules, codes}
 use Rattle.allocative.specs.Shows.{Inside, Both, Nothing}
 use Rattle.allocative.proofs.Closures.{with_shows}
-use Rattle.allocative.proofs.Exact.{inexact}
+use Rattle.allocative.proofs.Strict.{not_strict}
 use Rattle.allocative.proofs.Showing.{showing}
 use Rattle.test_types.proofs.helpers.WithStepsAllocative.visit.Goals as goal
 
@@ -14,6 +14,6 @@ returns c =
       same_outer = called.same_outer;
       shown = with_shows _ _ (Both (Inside (codes "x") 1 Nothing) (Inside (codes "y") 2 Nothing))
           (rw c.new.ensures at called.calls) (λ x y r h. search (rules, showing));
-      only_if_full = inexact;
+      only_if_full = not_strict;
       takes_effect = tt;
     }

@@ -1,7 +1,7 @@
 -- The three cases of a buffer, and an item without a size.
 use Rattle.std.proofs.Common.{arith, rules, ◌≡◌, ◌+◌, ◌<◌}
-use Rattle.allocative.proofs.Meaning.{entered_if, entered_none, undeclared_refused, exact_same, exact_both}
-use Rattle.allocative.proofs.Meaning.{exact_always}
+use Rattle.allocative.proofs.Meaning.{entered_if, entered_none, undeclared_refused, strict_same, strict_both}
+use Rattle.allocative.proofs.Meaning.{strict_always}
 use Rattle.allocative.proofs.Bodies.{means_without_size, means_without_room, means_with_room, no_buffer}
 use Rattle.allocative.proofs.part.containers.BufferPart.enter.Goals as goal
 
@@ -21,5 +21,5 @@ pub returns : goal.returns
 returns g c =
     let some : 0 < c.in-Some.size = omega arith in
     let room : 0 < c.args.self.count + c.args.self.capacity = omega arith in
-    entered_if c.enter.ensures (exact_both exact_same exact_always)
+    entered_if c.enter.ensures (strict_both strict_same strict_always)
     (means_with_room c.in-Some.is some room (search rules))

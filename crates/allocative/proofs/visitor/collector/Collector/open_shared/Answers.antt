@@ -1,6 +1,6 @@
 -- The collector is that of a flame graph, which met the identity now or before.
 use Rattle.std.proofs.Common.{◌≡◌, sym, rules}
-use Rattle.allocative.proofs.Common.{OfGraph, Going, state_of}
+use Rattle.allocative.proofs.Common.{OfGraph, Going}
 use Rattle.allocative.proofs.Opening.{shared_met}
 use Rattle.allocative.proofs.visitor.collector.Collector.open_shared.Goals as goal
 

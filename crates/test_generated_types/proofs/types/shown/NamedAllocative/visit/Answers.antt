@@ -1,17 +1,17 @@
 -- Written by bin/implement.
 use Rattle.std.proofs.Common.{refl, rules}
 use Rattle.allocative.proofs.Meaning.{means_field, means_same, visited_if}
-use Rattle.allocative.proofs.Parts.{exact}
+use Rattle.allocative.proofs.Parts.{strict}
 use Rattle.test_generated_types.proofs.types.shown.NamedAllocative.visit.Goals as goal
 
 pub returns-in-Nobody : goal.returns-in-Nobody
 returns-in-Nobody g c =
-    visited_if c.enter.ensures (search (rules, exact))
+    visited_if c.enter.ensures (search (rules, strict))
     (rw c.in-Nobody.is
     (means_field refl refl means_same))
 
 pub returns-in-Somebody : goal.returns-in-Somebody
 returns-in-Somebody g c =
-    visited_if c.enter-in-Somebody.ensures (search (rules, exact))
+    visited_if c.enter-in-Somebody.ensures (search (rules, strict))
     (rw c.in-Somebody.is
     (means_field refl refl (means_field refl c.size.ensures means_same)))

@@ -4,7 +4,7 @@ use denote.Ref.{Bor}
 use Rattle.allocative.proofs.Common.{values, deref}
 use Rattle.std.proofs.lemmas.Iterator.{YieldsList-from_map_by}
 use Rattle.std.proofs.lemmas.Iterator.Consumers.{YieldsList-from_first}
-use Rattle.allocative.proofs.Meaning.{entered_if, exact_always, means_same}
+use Rattle.allocative.proofs.Meaning.{entered_if, strict_always, means_same}
 use Rattle.allocative.proofs.Bodies.{entered_plain, entered_one_by_one}
 use Rattle.allocative.proofs.Runs.{entered_list, values_from, values_count}
 use Rattle.allocative.proofs.impls.pack_impls.slab_type.ValuesPart.enter.Goals as goal
@@ -25,4 +25,4 @@ returns g c =
     let n : c.len.result ≡ length (values slab) = c.len.ensures ∙ sym (values_count slab.slots) in
     let entered = rw (c.for_type_name.ensures, n) at c.visit_counted.ensures.entered in
     entered_plain g.T.Described.name g.T.Described.size g.T.Described.needs_drop g.T.Allocative.may_show (values slab)
-    (search rules) (entered_if entered exact_always means_same)
+    (search rules) (entered_if entered strict_always means_same)

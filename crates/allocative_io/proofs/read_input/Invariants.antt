@@ -1,5 +1,5 @@
 use Rattle.std.specs.Io.KnownBytes.{Consumes}
-use Rattle.allocative_picture_filter.proofs.run.read_text.Given as goal
+use Rattle.allocative_io.proofs.read_input.Given as goal
 
 -- The bytes so far are what the reader gave.
 abbrev pub invariant-loop : goal.invariant-loop

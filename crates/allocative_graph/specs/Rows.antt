@@ -4,7 +4,7 @@ use Rattle.std.specs.List.{flat_map, All, AllByRecursion}
 use Rattle.std.specs.List.Sorted.{IsStrictlySortedBy}
 use Rattle.std.specs.FinMap.{entries, len, from_sorted}
 use Rattle.allocative_graph.specs.declared.flamegraph.Child.{Child}
-use Rattle.allocative_graph.specs.declared.flamegraph.reads.Row.{Row}
+use Rattle.allocative_graph.specs.declared.flamegraph.rows.Row.{Row}
 use Rattle.allocative_graph.specs.Path.{Key, Path, key_cmp}
 use Rattle.allocative_graph.specs.Graph.{Graph, IsTree, total_at}
 

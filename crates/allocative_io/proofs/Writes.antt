@@ -4,7 +4,7 @@ use Rattle.std.proofs.Common.{append_assoc, append-nil, take-append-drop}
 use Rattle.std.proofs.lemmas.List.{take_rest}
 use Rattle.std.specs.Io.KnownBytes.{Appends, Keeps}
 use Rattle.std.proofs.KnownBytes.{Appends-nil, Appends-trans, Appends-kept}
-use Rattle.allocative_json.specs.Run.{IsWrittenUpTo, AppendsBeginning}
+use Rattle.allocative_io.specs.Streams.{IsWrittenUpTo, AppendsBeginning}
 
 -- Nothing is written yet.
 pub written_none : (old : Option (List ℕ)) (text : List ℕ) → IsWrittenUpTo old old text text

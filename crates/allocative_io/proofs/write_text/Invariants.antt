@@ -1,5 +1,5 @@
-use Rattle.allocative_json.specs.Run.{IsWrittenUpTo}
-use Rattle.allocative_json.proofs.run.write_text.Given as goal
+use Rattle.allocative_io.specs.Streams.{IsWrittenUpTo}
+use Rattle.allocative_io.proofs.write_text.Given as goal
 
 -- The rest is what is left to write.
 abbrev pub invariant-loop : goal.invariant-loop

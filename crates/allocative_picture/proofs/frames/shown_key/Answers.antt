@@ -1,7 +1,7 @@
 use Rattle.std.proofs.Common.{◌≡◌, ℕ, suc, ◌-◌, ◌<◌, List, Bor, [], ◌∷◌, length, get_or, refl, ap, ◌∙◌, arith}
 use Rattle.allocative_graph.proofs.NodeText.{texts}
-use Rattle.allocative_picture.specs.Rows.{shown_key}
-use Rattle.allocative_picture.proofs.rows.shown_key.Goals as goal
+use Rattle.allocative_picture.specs.Frames.{shown_key}
+use Rattle.allocative_picture.proofs.frames.shown_key.Goals as goal
 
 -- The shown key of a path with a key is its last key.
 last_shown : (ks : List (Bor (List ℕ))) (i : ℕ) (d : Bor (List ℕ)) → 0 < length ks → i ≡ length ks - 1 →

@@ -3,7 +3,7 @@ use Rattle.std.specs.Prelude.{◌≡◌, ℕ, suc, ◌+◌, ◌<◌, ◌^◌, Bo
 use Rattle.allocative_graph.specs.declared.refusal.Refusal.{Refusal}
 use Rattle.allocative_graph.specs.declared.refusal.Refusal.TheVariants.{Memory, TooLarge, Open}
 use Rattle.allocative_graph.specs.Forest.{Forest, Empty, Inline, Unique, First, Again}
-use Rattle.allocative_graph.specs.Sums.{entered}
+use Rattle.allocative_graph.specs.Sums.{bytes_entered}
 use Rattle.allocative_graph.specs.Collector.{Kind, OfGraph, OfHeld, OfOwned, State, Failed, Going, plus, plus_holding}
 use Rattle.allocative_graph.specs.Collector.{plus_owning, Takes, is_graph, begin, IsClosed, no_entries}
 use Rattle.allocative_graph.specs.Shows.{Showing}
@@ -30,7 +30,7 @@ FitsWords open_visitors (Again k n i after) = FitsWords open_visitors after
 -- The forest f exceeds no bound of the collector. A flame graph counts all bytes. The collector of held bytes counts
 -- what is held, and that of owned bytes what is owned, and each entry has to fit.
 abbrev pub HasRoomFor : Kind → Forest → Type 0
-HasRoomFor (OfGraph c) f = entered c.sums + all_bytes f < 2 ^ 63
+HasRoomFor (OfGraph c) f = bytes_entered c.sums + all_bytes f < 2 ^ 63
 HasRoomFor (OfHeld h) f = ((plus_holding h f).sum < 2 ^ 64) × FitsWords h.open_visitors f
 HasRoomFor (OfOwned o) f = ((plus_owning o f).sum < 2 ^ 64) × FitsWords o.open_visitors f
 
@@ -67,16 +67,16 @@ pub data FailsOnlyIfFull (p : Showing) : State → Result Unit Refusal → State
       → FailsOnlyIfFull p (Going b) (Ok u) (Going c)
   has_refused : {b : Kind} {e : Refusal} → MayRefuse p b e → FailsOnlyIfFull p (Going b) (Err e) (Failed e)
 
--- A visit of p by a root visitor refuses only if it must. If the visit is exact, and the collector was going with no
+-- A visit of p by a root visitor refuses only if it must. If the visit is strict, and the collector was going with no
 -- open visitor, an Err is the collector's cause, and says why p may be refused with the root visitor open. What else
 -- may happen is said by `VisitsRoot`.
 abbrev pub RootFailsOnlyIfFull : Bool → Showing → State → Result Unit Refusal → State → Type 0
-RootFailsOnlyIfFull is_exact p (Failed r) result t = ⊤
-RootFailsOnlyIfFull is_exact p (Going b) (Ok u) t = ⊤
-RootFailsOnlyIfFull is_exact p (Going b) (Err e) t =
-    IsTrue is_exact → IsClosed b → (t ≡ Failed e) × MayRefuse p (begin b) e
+RootFailsOnlyIfFull is_strict p (Failed r) result t = ⊤
+RootFailsOnlyIfFull is_strict p (Going b) (Ok u) t = ⊤
+RootFailsOnlyIfFull is_strict p (Going b) (Err e) t =
+    IsTrue is_strict → IsClosed b → (t ≡ Failed e) × MayRefuse p (begin b) e
 
--- Why the profile of an exact p is refused: with Memory, or with TooLarge, if an empty collector of a flame graph
+-- Why the profile of a strict p is refused: with Memory, or with TooLarge, if an empty collector of a flame graph
 -- with a root visitor open cannot take all that p allows.
 abbrev pub MayRefuseProfile : Bool → Showing → Refusal → Type 0
-MayRefuseProfile is_exact p e = IsTrue is_exact → MayRefuse p (begin (OfGraph no_entries)) e
+MayRefuseProfile is_strict p e = IsTrue is_strict → MayRefuse p (begin (OfGraph no_entries)) e

@@ -7,57 +7,57 @@ use Rattle.std.specs.Ordering.{nat_cmp}
 
 -- A limit and a soft limit in bytes, the most bytes that there ever were, and what was admitted: the bytes of each
 -- value by its number, ordered by number.
-pub record Holding : Type 0 where
+pub record AccountData : Type 0 where
   pub limit : ℕ
   pub soft_limit : ℕ
   pub peak : ℕ
   pub entries : List (ℕ × ℕ)
 
 -- An account with this limit, no soft limit and no entry.
-abbrev pub new_holding : ℕ → Holding
-new_holding limit = record { limit = limit; soft_limit = 2 ^ 64 - 1; peak = 0; entries = [] }
+abbrev pub new_account : ℕ → AccountData
+new_account limit = record { limit = limit; soft_limit = 2 ^ 64 - 1; peak = 0; entries = [] }
 
 -- The sum of the bytes of these entries.
 abbrev pub sum_of : List (ℕ × ℕ) → ℕ
 sum_of entries = sum_by (λ n. n) (values_of entries)
 
 -- The sum of the bytes of all entries of these accounts.
-abbrev pub all_bytes : List (String Global × Holding) → ℕ
+abbrev pub all_bytes : List (String Global × AccountData) → ℕ
 all_bytes accounts = sum_by (λ h. sum_of h.entries) (values_of accounts)
 
 -- The bytes of the entry under the number.
-abbrev pub bytes_at : ℕ → Holding → Option ℕ
+abbrev pub bytes_at : ℕ → AccountData → Option ℕ
 bytes_at number h = lookup (is_at (nat_cmp number)) h.entries
 
 -- The account with these bytes under the number, in place of an entry that was there. Its sum is now `total`, and its
 -- peak is at least that.
-abbrev pub with_bytes : ℕ → ℕ → ℕ → Holding → Holding
+abbrev pub with_bytes : ℕ → ℕ → ℕ → AccountData → AccountData
 with_bytes number bytes total h =
     record h { peak = max h.peak total; entries = insert_entry nat_cmp h.entries number bytes }
 
 -- The account with this limit.
-abbrev pub with_limit : ℕ → Holding → Holding
+abbrev pub with_limit : ℕ → AccountData → AccountData
 with_limit limit h = record h { limit = limit }
 
 -- The account with this soft limit.
-abbrev pub with_soft_limit : ℕ → Holding → Holding
+abbrev pub with_soft_limit : ℕ → AccountData → AccountData
 with_soft_limit bytes h = record h { soft_limit = bytes }
 
 -- The account whose peak is the sum of its entries.
-abbrev pub with_peak_reset : Holding → Holding
+abbrev pub with_peak_reset : AccountData → AccountData
 with_peak_reset h = record h { peak = sum_of h.entries }
 
 -- The account without the entry under the number.
-abbrev pub without : ℕ → Holding → Holding
+abbrev pub without : ℕ → AccountData → AccountData
 without number h = record h { entries = remove_entry (is_at (nat_cmp number)) h.entries }
 
 -- The bytes are exactly the sum of the account's entries, and at most its limit and its peak.
-abbrev pub IsSummed : ℕ → Holding → Type 0
+abbrev pub IsSummed : ℕ → AccountData → Type 0
 IsSummed bytes h = (bytes ≡ sum_of h.entries) × (bytes ≤ h.limit) × (bytes ≤ h.peak)
 
 -- The number now has these bytes in place of `had`. All bytes of the account together are `total`, which is within
 -- its limit.
-pub record Puts (number bytes : ℕ) (had : Option ℕ) (old new : Holding) (total : ℕ) : Type 0 where
+pub record Puts (number bytes : ℕ) (had : Option ℕ) (old new : AccountData) (total : ℕ) : Type 0 where
   pub had_bytes : bytes_at number old ≡ had
   pub is : new ≡ with_bytes number bytes total old
   pub total_is : total + unwrap_or had 0 ≡ sum_of old.entries + bytes

@@ -1,7 +1,7 @@
 use Rattle.std.proofs.Common.{sym, ap, ◌∙◌, ◌≡◌, Some, option_copied, ◌∷◌, rules}
 use Rattle.allocative_picture.specs.Marks.{mark_in}
 use Rattle.allocative_picture.proofs.Marking.{marks_found}
-use Rattle.allocative_picture.proofs.rows.below.Goals as goal
+use Rattle.allocative_picture.proofs.frames.below.Goals as goal
 
 pub returns : goal.returns
 returns c = λ m p.

@@ -4,7 +4,7 @@ use Rattle.std.proofs.Common.{flat_map, Option, Some, None, inl, inr, Result, Ok
 use Rattle.std.proofs.Common.{◌-◌}
 use Rattle.allocative.proofs.Common.{Outer, Refusal, Memory, TooLarge, Key, Identity, Forest, Empty, First, Again}
 use Rattle.allocative.proofs.Common.{followed_by, entry_of, add_all, held, Live, Kind, OfGraph, OfHeld, State, Failed}
-use Rattle.allocative.proofs.Common.{Going, plus, enter, enter_first, Takes, is_graph, outer_of, leave, close_entry}
+use Rattle.allocative.proofs.Common.{Going, plus, enter, enter_first, Takes, is_graph, outer_of, leave}
 use Rattle.allocative.proofs.Common.{failed_with, Showing, Nothing, Both, InsideAs, Inside, sized, Field}
 use Rattle.allocative.proofs.Common.{Shared, each_shows, HasFailed, OpensEntry, stays_failed, is_refused}
 use Rattle.allocative.proofs.Common.{is_entered, OpensShared, stays_shared, is_refused_shared, goes_past, enters_first}
@@ -16,16 +16,16 @@ use Rattle.std.proofs.lemmas.Grind.{flat_map-append}
 use Rattle.allocative_graph.specs.declared.refusal.Refusal.TheVariants.{Open}
 use Rattle.allocative_graph.specs.Path.{Path}
 use Rattle.allocative_graph.specs.Forest.{Inline, Unique, Bag, own_behind, contents, content_entries}
-use Rattle.allocative_graph.specs.Sums.{Sums, entered, add}
+use Rattle.allocative_graph.specs.Sums.{Sums, bytes_entered, add}
 use Rattle.allocative_graph.specs.Held.{inline_bytes}
 use Rattle.allocative_graph.specs.Collector.{Owning, entries_at, plus_live}
 use Rattle.allocative_graph.specs.Visits.{HasRoom, Refuses}
-use Rattle.allocative_graph.proofs.Below.{entered-add}
+use Rattle.allocative_graph.proofs.Below.{bytes_entered-add}
 use Rattle.allocative_graph.proofs.Following.{own-following, contents-following}
 use Rattle.allocative_graph.proofs.Plus.{plus-nothing, plus-following, takes_nothing, takes_both, inside_entry}
 use Rattle.allocative_graph.proofs.Plus.{takes_entry, inside_first, takes_shared, held_again, owned_again}
 use Rattle.allocative_graph.proofs.Plus.{is_graph-plus, is_graph-enter}
-use Rattle.allocative.specs.Exact.{FitsWords, had_failed}
+use Rattle.allocative.specs.Strict.{FitsWords, had_failed}
 
 -- ---- the bytes of all entries
 abbrev bag_bytes : Bag → ℕ
@@ -33,9 +33,9 @@ bag_bytes [] = 0
 bag_bytes (e ∷ b) = e.size + bag_bytes b
 
 -- Adding a bag to sums adds its bytes to all bytes entered.
-entered-add_all : (s : Sums) (b : Bag) → entered (add_all s b) ≡ entered s + bag_bytes b
-entered-add_all s [] = omega arith
-entered-add_all s (e ∷ b) = omega (arith, entered-add_all (add s e) b, entered-add s e)
+bytes_entered-add_all : (s : Sums) (b : Bag) → bytes_entered (add_all s b) ≡ bytes_entered s + bag_bytes b
+bytes_entered-add_all s [] = omega arith
+bytes_entered-add_all s (e ∷ b) = omega (arith, bytes_entered-add_all (add s e) b, bytes_entered-add s e)
 
 -- The bytes of two bags one after the other add up.
 bag-append : (a b : Bag) → bag_bytes (a ++ b) ≡ bag_bytes a + bag_bytes b
@@ -60,9 +60,9 @@ bytes_of_all p (First k n i inside after) =
 bytes_of_all p (Again k n i after) = omega (arith, bytes_of_all p after)
 
 -- A forest that is added to the collector of a flame graph adds all its bytes to those entered.
-pub entered-plus : (c : Live) (f : Forest) → entered (plus_live c f).sums ≡ entered c.sums + all_bytes f
-entered-plus c f = entered-add_all c.sums (entries_at c.here f)
-    ∙ ap (λ n. entered c.sums + n) (bag-append (own_behind c.here f) (content_entries f) ∙ bytes_of_all c.here f)
+pub bytes_entered-plus : (c : Live) (f : Forest) → bytes_entered (plus_live c f).sums ≡ bytes_entered c.sums + all_bytes f
+bytes_entered-plus c f = bytes_entered-add_all c.sums (entries_at c.here f)
+    ∙ ap (λ n. bytes_entered c.sums + n) (bag-append (own_behind c.here f) (content_entries f) ∙ bytes_of_all c.here f)
 
 -- All bytes of two forests one after the other add up.
 all_bytes-following : (f g : Forest) → all_bytes (followed_by f g) ≡ all_bytes f + all_bytes g
@@ -88,7 +88,7 @@ sum_in (OfOwned o) = o.sum
 -- What is added first has room, and what comes after it has room then.
 room_apart : (b : Kind) (f g : Forest) → HasRoomFor b (followed_by f g) → HasRoomFor b f × HasRoomFor (plus b f) g
 room_apart (OfGraph c) f g h =
-    (omega (arith, h, all_bytes-following f g), omega (arith, h, all_bytes-following f g, entered-plus c f))
+    (omega (arith, h, all_bytes-following f g), omega (arith, h, all_bytes-following f g, bytes_entered-plus c f))
 room_apart (OfHeld d) f g (h, l) =
     let h' : sum_in (plus (plus (OfHeld d) f) g) < 2 ^ 64 =
     subst (λ (n : ℕ). n < 2 ^ 64) (ap sum_in (plus-following (OfHeld d) f g)) h in
@@ -121,8 +121,8 @@ owned_within false k n d f h l =
 -- An entry has room, and so has then what is inside it.
 room_within : (u : Bool) (k : Key) (n : ℕ) (b : Kind) (f : Forest) → HasRoomFor b (entry_of u k n f) →
     HasRoom u n b × HasRoomFor (enter u k n b) f
-room_within true k n (OfGraph c) f h = (omega (arith, h), omega (arith, h, entered-plus c (Unique k n Empty Empty)))
-room_within false k n (OfGraph c) f h = (omega (arith, h), omega (arith, h, entered-plus c (Inline k n Empty Empty)))
+room_within true k n (OfGraph c) f h = (omega (arith, h), omega (arith, h, bytes_entered-plus c (Unique k n Empty Empty)))
+room_within false k n (OfGraph c) f h = (omega (arith, h), omega (arith, h, bytes_entered-plus c (Inline k n Empty Empty)))
 room_within true k n (OfHeld d) f (h, l) =
     ((inline_room d.is_in_unique _ d.sum 0 (inline_bytes f + held f) h, l.1), (subst (λ (m : ℕ). m < 2 ^ 64) (sym (ap sum_in (inside_entry true k n (OfHeld d) f))) h, l.2))
 room_within false k n (OfHeld d) f (h, l) =
@@ -213,12 +213,12 @@ can_content : {p : Showing} (k : Key) (n : ℕ) (i : Identity) (c : Live) → Ca
 can_content k n i c (d, room) = (
   declared_content k n i d,
   λ f x. let h = room (First k n i f Empty) (inl (f, x, refl)) in
-      omega (arith, h, entered-plus c (First k n i Empty Empty)),
+      omega (arith, h, bytes_entered-plus c (First k n i Empty Empty)),
 )
 
 -- If the collector of a flame graph can take a shared entry, the pointer's bytes exceed no bound.
 can_pointer : {p : Showing} (k : Key) (n : ℕ) (i : Identity) (c : Live) → CanTake (OfGraph c) (Shared k n i p) →
-    entered c.sums + n < 2 ^ 63
+    bytes_entered c.sums + n < 2 ^ 63
 can_pointer k n i c (d, room) = let h = room (Again k n i Empty) (inr refl) in omega (arith, h)
 
 -- If the collector of owned bytes can take a shared entry, its sum with the pointer fits a word.
@@ -369,13 +369,13 @@ only_if_full_not_field {p} {k} {y = None} (is_refused {b = b} i) =
 only_if_full_not_field {k = k} {y = Some n} (is_refused h) =
     only_if_full_weaker (λ f x. sized x) in_sized (only_if_full_not_within {u = false} {k = k} (is_refused h))
 
--- If both of two visits have to be exact, the first has to be.
-pub first_exact : (d e : Bool) → IsTrue (d && e) → IsTrue d
-first_exact d e h = (and_parts d e h).0
+-- If both of two visits have to be strict, the first has to be.
+pub first_true : (d e : Bool) → IsTrue (d && e) → IsTrue d
+first_true d e h = (and_parts d e h).0
 
--- If both of two visits have to be exact, the second has to be.
-pub second_exact : (d e : Bool) → IsTrue (d && e) → IsTrue e
-second_exact d e h = (and_parts d e h).1
+-- If both of two visits have to be strict, the second has to be.
+pub second_true : (d e : Bool) → IsTrue (d && e) → IsTrue e
+second_true d e h = (and_parts d e h).1
 
 -- ---- items one after another
 -- A forest followed by no entry stays as it is.
@@ -453,9 +453,9 @@ only_if_full_not_shared {p} {k} {n} {i} (is_too_large_shared {o = o} {e = e} j h
     has_refused (subst (MayRefuse (Shared k n i p) (OfOwned o)) (sym j)
     (λ w. omega (arith, h, can_count k n i o w)))
 
--- Of a visit that is not exact nothing is asked.
-pub inexact : {p : Showing} {a b : State} {r : Result Unit Refusal} → IsTrue false → FailsOnlyIfFull p a r b
-inexact h = absurd (false≢true h)
+-- Of a visit that is not strict nothing is asked.
+pub not_strict : {p : Showing} {a b : State} {r : Result Unit Refusal} → IsTrue false → FailsOnlyIfFull p a r b
+not_strict h = absurd (false≢true h)
 
 -- ---- errors that are returned by hand
 -- A visit that is refused, followed by refusing with the same error.

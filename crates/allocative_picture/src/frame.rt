@@ -1,11 +1,11 @@
-//! The rows that a picture is drawn from.
+//! The frames that a picture is drawn from.
 
 /// A path of a profile, as a picture shows it.
 ///
-/// The rows of a profile are in the order of paths: a path comes before those below it, and paths with one parent are
+/// The frames of a profile are in the order of paths: a path comes before those below it, and paths with one parent are
 /// ordered by the bytes of their last keys.
 #[derive(Clone, Copy)]
-pub struct Row<'a> {
+pub struct Frame<'a> {
     /// The number of keys of the path, which is 0 for the root.
     pub depth: usize,
     /// The last key of the path, or the name of the root. It may be any text.
@@ -27,7 +27,7 @@ pub enum Mark {
     Plain,
     /// The path has a warning: it declares fewer bytes than its parts.
     Warned,
-    /// The row belongs to the sum of two profiles.
+    /// The frame belongs to the sum of two profiles.
     Changed {
         /// The bytes of the path and of all paths below it in the earlier profile.
         was: usize,

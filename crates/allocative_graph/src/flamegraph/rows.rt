@@ -2,7 +2,7 @@
 ghost use Rattle.std.specs.Prelude.{◌≡◌, ◌++◌, [], IfOk, IfErr, IfSome, IfNone, OnOk, map};
 ghost use Rattle.allocative_graph.specs.Path.{texts};
 ghost use Rattle.allocative_graph.specs.Graph.{size_at, total_at, IsBehind, HasNothing};
-ghost use Rattle.allocative_graph.specs.Reads.{AllSmaller, row_figures, figures, figures_behind, node, AreChildren};
+ghost use Rattle.allocative_graph.specs.Rows.{AllSmaller, row_figures, figures, figures_behind, node, AreChildren};
 
 use crate::flamegraph::{Child, FlameGraph, place_by_halving};
 use crate::refusal::Refusal;

@@ -1,16 +1,16 @@
-//! The rows of a flame graph.
+//! The frames of a flame graph.
 ghost use Rattle.std.specs.Prelude.{◌≡◌, ◌+◌, ◌<◌, ◌^◌, ◌++◌, [], ◌∷◌, OnOk, map, filter, option_copied};
 ghost use Rattle.std.specs.FinMap.{len};
 ghost use Rattle.allocative_graph.specs.Graph.{total, size_at};
-ghost use Rattle.allocative_graph.specs.Reads as reads;
-ghost use Rattle.allocative_graph.specs.Reads.{figures_behind};
+ghost use Rattle.allocative_graph.specs.Rows as frames;
+ghost use Rattle.allocative_graph.specs.Rows.{figures_behind};
 ghost use Rattle.allocative_graph.specs.Path.{Path};
-ghost use Rattle.allocative_picture.specs.Rows.{row_data, shown_key, rows_from, row_from};
+ghost use Rattle.allocative_picture.specs.Frames.{frame_data, shown_key, frames_from, frame_from};
 ghost use Rattle.allocative_picture.specs.Boxes.{is_drawn};
 ghost use Rattle.allocative_picture.specs.Marks.{mark_by, mark_in};
 
 use crate::boxes::is_drawn;
-use crate::row::{Mark, Row};
+use crate::frame::{Frame, Mark};
 use allocative_graph::flamegraph::FlameGraph;
 use allocative_graph::key::Key;
 use std::alloc::AllocError;
@@ -70,12 +70,17 @@ fn shown_key(path: &[&'static str]) -> &'static str
     }
 }
 
-/// The row of a path, which is the root of a graph, if `before` bytes come before it.
-fn row_from(mark: Mark, before: usize, path: &[&'static str], graph: &FlameGraph) -> Row<'static>
-    ensures { row_data result ≡ row_from (λ _. mark) before
+/// The frame of a path, which is the root of a graph, if `before` bytes come before it.
+fn frame_from(
+    mark: Mark,
+    before: usize,
+    path: &[&'static str],
+    graph: &FlameGraph,
+) -> Frame<'static>
+    ensures { frame_data result ≡ frame_from (λ _. mark) before
         (record { path = map (λ k. k.now) path.now; self_size = size_at graph.now []; total_size = total graph.now }) }
 {
-    Row {
+    Frame {
         depth: path.len(),
         key: shown_key(path),
         own: graph.self_size(),
@@ -85,32 +90,32 @@ fn row_from(mark: Mark, before: usize, path: &[&'static str], graph: &FlameGraph
     }
 }
 
-/// Appends a row, if it is wide enough for a box.
+/// Appends a frame, if it is wide enough for a box.
 pub(crate) fn push_wide<'a>(
     least: u32,
     all: u128,
-    row: Row<'a>,
-    rows: &mut Vec<Row<'a>>,
+    frame: Frame<'a>,
+    frames: &mut Vec<Frame<'a>>,
 ) -> Result<(), AllocError>
-    ensures { OnOk result (map row_data rows.new.items
-        ≡ map row_data rows.old.items ++ filter (is_drawn least all) (row_data row.entry ∷ [])) }
+    ensures { OnOk result (map frame_data frames.new.items
+        ≡ map frame_data frames.old.items ++ filter (is_drawn least all) (frame_data frame.entry ∷ [])) }
 {
-    if is_drawn(least, all, &row) {
-        rows.push(row)?;
+    if is_drawn(least, all, &frame) {
+        frames.push(frame)?;
     }
     Ok(())
 }
 
-/// Appends the rows of all paths of a graph that are wide enough, each after the given keys. `other` is what the other
+/// Appends the frames of all paths of a graph that are wide enough, each after the given keys. `other` is what the other
 /// graph has at these keys and below them. `before` has the bytes of all paths before, and `paths` their number.
-pub(crate) fn push_rows(
+pub(crate) fn push_frames(
     shown: &Shown<'_>,
     graph: &FlameGraph,
     other: Option<&FlameGraph>,
     path: &mut Vec<&'static str>,
     before: &mut usize,
     paths: &mut usize,
-    rows: &mut Vec<Row<'static>>,
+    frames: &mut Vec<Frame<'static>>,
 ) -> Result<(), AllocError>
     requires fits { before.old + total graph.now < 2 ^ 64 }
     requires other { (p : Path)
@@ -119,21 +124,21 @@ pub(crate) fn push_rows(
     ensures path { OnOk result (path.new.items ≡ path.old.items) }
     ensures before { OnOk result (before.new ≡ before.old + total graph.now) }
     ensures paths { OnOk result (paths.new ≡ paths.old + len graph.now) }
-    ensures rows { OnOk result (map row_data rows.new.items ≡ map row_data rows.old.items
+    ensures frames { OnOk result (map frame_data frames.new.items ≡ map frame_data frames.old.items
         ++ filter (is_drawn shown.now.least shown.now.all)
-        (rows_from (mark_by shown.now.marks shown.now.other.now) before.old
+        (frames_from (mark_by shown.now.marks shown.now.other.now) before.old
         (figures_behind (map (λ k. k.now) path.old.items) graph.now))) }
 {
     let children = graph.children();
     let mark = shown.marks.of(other);
-    let row = row_from(mark, *before, path.as_slice(), graph);
-    push_wide(shown.least, shown.all, row, rows)?;
+    let frame = frame_from(mark, *before, path.as_slice(), graph);
+    push_wide(shown.least, shown.all, frame, frames)?;
     *before += graph.self_size();
     *paths = paths.checked_add(1).ok_or(AllocError)?;
     for child in children {
         let below = below(other, &child.key);
         path.push(child.key.as_str())?;
-        push_rows(shown, &child.graph, below, path, before, paths, rows)?;
+        push_frames(shown, &child.graph, below, path, before, paths, frames)?;
         path.pop();
     }
     Ok(())

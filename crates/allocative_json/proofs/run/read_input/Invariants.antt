@@ -1,6 +1,0 @@
-use Rattle.std.specs.Io.KnownBytes.{Consumes}
-use Rattle.allocative_json.proofs.run.read_input.Given as goal
-
--- The bytes so far are what the reader gave.
-abbrev pub invariant-loop : goal.invariant-loop
-invariant-loop g l = Consumes (g.R.Read.remaining l.fn.input) (g.R.Read.remaining l.input) l.bytes.items
