@@ -15,8 +15,9 @@ if TYPE_CHECKING:
 WIDTH = 100
 GROUP = 5
 INDENT = " " * 8
-# An enum that holds itself has at most so many variants times names of types in its fields: for more the checker stops.
-LARGEST_ENUM = 430
+# If a type holds itself, at most so many names of types stand in its fields and those of the types that it reaches, and
+# in its fields times the number of its variants. For more the checker stops.
+LARGEST = 430
 EMPTY = type_of("()")
 Proof = tuple[str, str]
 LETTERS = [*"abcdefghijklmnopqrstuvw"]
@@ -119,6 +120,8 @@ class Writer:
         self.facts: list[str] = []
         members = [member for each in cycle or [definition] for member in each.shown]
         self.flags = sorted(set().union(*map(self.flags_of, members)))
+        if self.is_level:
+            self.refuse_large()
         self.variant_records: dict[str, str] = {}
         self.counted: set[str] = set()
         alias, described = self.aliases(), "" if self.is_borrowed else self.described()
@@ -358,16 +361,28 @@ class Writer:
         return self.implementation(f" (elim x [\n{arms}    ])", body, use)
 
     def refuse_parts(self) -> None:
-        """Refuses the fields that an enum that holds itself cannot have, and more than the checker can take."""
+        """Refuses the fields that an enum that holds itself cannot have."""
         for member in self.definition.members:
             if not member.is_whole:
                 what = "of an enum that holds itself is not shown whole: put it into a struct"
                 raise Fault(member.at, f"the field {member.name} {what}")
-        count = len(self.definition.variants)
-        names = sum(len(NAME.findall(member.type.text)) for member in self.definition.members)
-        if count * names > LARGEST_ENUM:
-            why = f"{count} variants and {names} names of types in its fields are too many for the checker"
-            raise Fault(self.definition.at, f"{self.name} holds itself, and {why}: put fields of a variant into a struct")
+
+    def refuse_large(self) -> None:
+        """Refuses a type that holds itself and is too large for the checker."""
+        count, own = len(self.definition.variants), len(names_of(self.definition))
+        if count * own > LARGEST:
+            why = f"its {count} variants have too many fields for the checker: put fields of a variant into a struct"
+            raise Fault(self.definition.at, f"{self.name} holds itself, and {why}")
+        types, reached, todo, total = self.scope.module.types, {self.name}, [self.definition], 0
+        while todo:
+            names = names_of(todo.pop())
+            total += len(names)
+            found = sorted(types.keys() & {*names} - reached)
+            reached.update(found)
+            todo += [types[name] for name in found]
+        if total > LARGEST:
+            why = f"the {len(reached)} types that it reaches have too many fields for the checker: let it hold fewer types"
+            raise Fault(self.definition.at, f"{self.name} holds itself, and {why}")
 
     def kept(self, variant: Variant, names: list[str]) -> list[tuple[Member, str, str]]:
         """The fields that a variant shows, with keys and names. A single one without a name has its name."""
@@ -481,6 +496,11 @@ def ensured(taken: set[str], call: str, arm: str) -> str:
     name = next(name for name in (call, call + arm, f"{call}{arm}-2") if name not in taken)
     taken.add(name)
     return f"c.{name}.ensures"
+
+
+def names_of(definition: Definition) -> list[str]:
+    """The names of types in the fields of a type."""
+    return [name for member in definition.members for name in NAME.findall(member.type.text)]
 
 
 def holds(kind: Type, parameter: str) -> bool:

@@ -3,11 +3,11 @@ use Rattle.std.specs.Prelude.{ℕ}
 use Rattle.allocative.specs.Path.{Key}
 use Rattle.allocative.specs.Shows.{Showing, Nothing, Both, Inside as inside, Unique as unique, Shared as shared}
 use Rattle.test_entries.specs.declared.forest.Forest.{Forest, Empty, Entry'}
-use Rattle.test_entries.specs.declared.forest.Kind.{Kind}
-use Rattle.test_entries.specs.declared.forest.Kind.TheVariants.{Inline, Unique, Shared}
+use Rattle.test_entries.specs.declared.forest.EntryKind.{EntryKind}
+use Rattle.test_entries.specs.declared.forest.EntryKind.TheVariants.{Inline, Unique, Shared}
 
 -- One entry, where p is what the entries inside it or in its content show.
-abbrev pub entry_shows : Kind → Key → ℕ → Showing → Showing
+abbrev pub entry_shows : EntryKind → Key → ℕ → Showing → Showing
 entry_shows Inline k n p = inside k n p
 entry_shows Unique k n p = unique k n p
 entry_shows (Shared i) k n p = shared k n i p

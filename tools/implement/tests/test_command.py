@@ -182,7 +182,13 @@ class CommandTest(unittest.TestCase):
             variants = "".join(f"    V{number}(u8, u8, u8, String),\n" for number in range(count - 1))
             enum = f"#[derive(Drop)]\nenum A {{\n    First(Vec<A>, u8),\n{variants}}}\n"
             self.assertEqual(self.run_it(enum)[0], status)
-        self.assertIn("11 variants and 43 names of types in its fields are too many", self.run_it(enum)[2][0])
+        self.assertIn("its 11 variants have too many fields for the checker", self.run_it(enum)[2][0])
+        for count, status in ((42, 0), (43, 4)):
+            held = "".join(f"#[derive(Drop)]\nstruct B{each}({', '.join(['u8'] * 9)});\n" for each in range(count))
+            names = ", ".join(f"B{each}" for each in range(count))
+            types = f"{held}#[derive(Drop)]\nstruct A(Vec<A>, {names});\n"
+            self.assertEqual(self.run_it(types)[0], status)
+        self.assertIn("the 44 types that it reaches have too many fields", self.run_it(types)[2][0])
         self.assertIn("holds the type itself in a way", self.run_it("use std::collections::*;\n#[derive(Drop)]\nstruct A {\n    a: VecDeque<A>,\n}\n")[2][0])
 
     def test_paths_of_the_module_itself(self) -> None:
