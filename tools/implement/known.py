@@ -22,11 +22,13 @@ HOMES |= {"OnceBox": "once_cell", "Error": "anyhow", "IdRc": "allocative", "IdAr
 # What containers ask of their keys.
 KEYS = dict.fromkeys(("HashMap", "HashSet", "IndexMap", "IndexSet"), ("Eq", "Hash"))
 KEYS |= dict.fromkeys(("BTreeMap", "BTreeSet"), ("Ord",))
+# What keeps its items behind a pointer.
+POINTERS = {"Vec", "Box", "VecDeque", "Slab", "IdRc", "IdArc", "OnceBox", *KEYS}
 # Traits with their paths, of which `Ord` alone implies another that a key needs.
 TRAITS = set("std cmp hash fmt Allocative Described Drop Clone Copy Debug PartialEq PartialOrd Eq Ord Hash".split())
 FUNCTIONS = ("fn(", "unsafe fn", "extern ", "unsafe extern")
 Path = tuple[str, ...]
-NOT_EXACT = {"OnceBox"}
+NOT_STRICT = {"OnceBox"}
 # Types that need no `use`.
 PRELUDE = {"String", "Vec", "Option", "Result", "Box", *(name for name in NUMBERS if name[0].islower())}
 
@@ -40,6 +42,7 @@ class Scope:
         self.outside = outside
         self.strict: set[str] = set()
         self.tallied: set[str] = set()
+        self.counts: dict[str, int] = {}
         self.reason = cache(self.reason)
 
     def own(self, kind: Type) -> Definition | None:
@@ -58,6 +61,18 @@ class Scope:
     def path(self, kind: Type) -> Path:
         """The path of a name, from the `use` that brings it in."""
         return self.module.uses.get(kind.path[0], kind.path[:1]) + kind.path[1:]
+
+    def names_in(self, kind: Type) -> int:
+        """How many names of types stand in a value of a type itself, and not behind a pointer."""
+        kind = self.real(kind)
+        definition = self.own(kind)
+        if definition is None:
+            inside = () if kind.name in POINTERS else kind.parts
+            return 1 + sum(map(self.names_in, inside))
+        if kind.name not in self.counts:
+            self.counts[kind.name] = 0
+            self.counts[kind.name] = sum(self.names_in(member.type) for member in definition.members)
+        return 1 + self.counts[kind.name]
 
     def reason(self, kind: Type, parameters: Path) -> str:
         """Why a field of a type cannot be shown, or nothing."""
@@ -142,7 +157,7 @@ class Scope:
             found = {f"{kind.name}.is_strict"}
         elif kind.form == "path":
             definition = self.own(kind)
-            is_known = kind.name in HOMES and kind.name not in NOT_EXACT
+            is_known = kind.name in HOMES and kind.name not in NOT_STRICT
             if not is_known and not (definition and definition.name in self.strict):
                 return {f"⟦<{kind.text} as Allocative>⟧.is_strict"}
         return found.union(*(self.flags(part, parameters) for part in kind.parts))

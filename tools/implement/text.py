@@ -18,6 +18,8 @@ INDENT = " " * 8
 # If a type holds itself, at most so many names of types stand in its fields and those of the types that it reaches, and
 # in its fields times the number of its variants. For more the checker stops.
 LARGEST = 430
+# A value of a type has at most so many names of types in it, not behind pointers. For more the checker stops.
+LARGEST_VALUE = 830
 EMPTY = type_of("()")
 Proof = tuple[str, str]
 LETTERS = [*"abcdefghijklmnopqrstuvw"]
@@ -120,6 +122,9 @@ class Writer:
         self.facts: list[str] = []
         members = [member for each in cycle or [definition] for member in each.shown]
         self.flags = sorted(set().union(*map(self.flags_of, members)))
+        if self.scope.names_in(type_of(self.name)) > LARGEST_VALUE:
+            why = "has too many fields in one value for the checker: put large fields into a `Box`"
+            raise Fault(definition.at, f"{self.name} {why}")
         if self.is_level:
             self.refuse_large()
         self.variant_records: dict[str, str] = {}
