@@ -15,8 +15,9 @@ if TYPE_CHECKING:
 WIDTH = 100
 GROUP = 5
 INDENT = " " * 8
-# If a type holds itself, at most so many names of types stand in its fields and those of the types that it reaches, and
-# in its fields times the number of its variants. For more the checker stops.
+# If a type holds itself, at most so many names of types stand in its fields and in those of the types that it reaches. An
+# enum's variants times the names in its fields, with one more for each 25 in its whole value, are at most as many. For
+# more the checker stops.
 LARGEST = 430
 # A value of a type has at most so many names of types in it, not behind pointers. For more the checker stops.
 LARGEST_VALUE = 830
@@ -375,7 +376,7 @@ class Writer:
     def refuse_large(self) -> None:
         """Refuses a type that holds itself and is too large for the checker."""
         count, own = len(self.definition.variants), len(names_of(self.definition))
-        if count * own > LARGEST:
+        if count * (own + self.scope.names_in(type_of(self.name)) // 25) > LARGEST:
             why = f"its {count} variants have too many fields for the checker: put fields of a variant into a struct"
             raise Fault(self.definition.at, f"{self.name} holds itself, and {why}")
         types, reached, todo, total = self.scope.module.types, {self.name}, [self.definition], 0
