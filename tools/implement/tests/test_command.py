@@ -189,13 +189,14 @@ class CommandTest(unittest.TestCase):
             types = f"{held}#[derive(Drop)]\nstruct A(Vec<A>, {names});\n"
             self.assertEqual(self.run_it(types)[0], status)
         self.assertIn("the 44 types that it reaches have too many fields", self.run_it(types)[2][0])
+        queue = "use std::collections::*;\n#[derive(Drop)]\nstruct A {\n    a: VecDeque<A>,\n}\n"
+        self.assertIn("holds the type itself in a way", self.run_it(queue)[2][0])
 
     def test_large_values(self) -> None:
-        held = "".join(f"#[derive(Drop)]\nstruct B{each}({', '.join([f'B{each - 1}'] * 3)});\n" for each in range(1, 7))
-        head = f"#[derive(Drop)]\nstruct B0(u8);\n{held}"
-        self.assertIn("B6 has too many fields in one value", self.run_it(head)[2][0])
-        self.assertEqual(self.run_it(head.replace("B6(B5,", "B6(Box<B5>,").replace("B6(Box<B5>, B5, B5)", "B6(Box<B5>)"))[0], 0)
-        self.assertIn("holds the type itself in a way", self.run_it("use std::collections::*;\n#[derive(Drop)]\nstruct A {\n    a: VecDeque<A>,\n}\n")[2][0])
+        fields = ["u8", *(", ".join([f"B{each}"] * 3) for each in range(6))]
+        types = "".join(f"#[derive(Drop)]\nstruct B{each}({kinds});\n" for each, kinds in enumerate(fields))
+        self.assertIn("B6 has too many fields in one value", self.run_it(types)[2][0])
+        self.assertEqual(self.run_it(types.replace("(B5, B5, B5)", "(Box<B5>)"))[0], 0)
 
     def test_paths_of_the_module_itself(self) -> None:
         text = POINT + "#[derive(Drop)]\nstruct A {\n    a: Vec<self::Point>,\n    // allocative: size 8\n    b: super::B,\n}\n"
