@@ -71,7 +71,7 @@ impl Allocative for Category {
         let by_name = Field("by_name", &self.by_name);
         Declared(
             "Category",
-            <CategoryLayout>::size(),
+            <Self as Described>::size(),
             (name, children, rank, by_name),
         )
         .enter(visitor)
@@ -125,7 +125,7 @@ impl Allocative for Chain {
     fn visit(&self, visitor: &mut Visitor<'_>) -> Result<(), Refusal> {
         let text = Field("text", &self.text);
         let next = Field("next", &self.next);
-        Declared("Chain", <ChainLayout>::size(), (text, next)).enter(visitor)
+        Declared("Chain", <Self as Described>::size(), (text, next)).enter(visitor)
     }
 }
 // allocative: end
@@ -184,13 +184,13 @@ impl Allocative for Tree {
         match self {
             Tree::Leaf(a) => {
                 let a = Field("Leaf", a);
-                Declared("Tree", <TreeLayout>::size(), a).enter(visitor)
+                Declared("Tree", <Self as Described>::size(), a).enter(visitor)
             }
             Tree::Fork(a, b) => {
                 let a = Field("0", a);
                 let b = Field("1", b);
                 let inside = Declared("Fork", <TreeForkFields>::size(), (a, b));
-                Declared("Tree", <TreeLayout>::size(), inside).enter(visitor)
+                Declared("Tree", <Self as Described>::size(), inside).enter(visitor)
             }
         }
     }
@@ -296,14 +296,14 @@ impl Allocative for Json {
 
     fn visit(&self, visitor: &mut Visitor<'_>) -> Result<(), Refusal> {
         match self {
-            Json::Null => Declared("Json", <JsonLayout>::size(), ()).enter(visitor),
+            Json::Null => Declared("Json", <Self as Described>::size(), ()).enter(visitor),
             Json::Bool(a) => {
                 let a = Field("Bool", a);
-                Declared("Json", <JsonLayout>::size(), a).enter(visitor)
+                Declared("Json", <Self as Described>::size(), a).enter(visitor)
             }
             Json::Text(a) => {
                 let a = Field("Text", a);
-                Declared("Json", <JsonLayout>::size(), a).enter(visitor)
+                Declared("Json", <Self as Described>::size(), a).enter(visitor)
             }
             Json::Pair(a, b, c, d, e) => {
                 let a = Field("0", a);
@@ -312,26 +312,26 @@ impl Allocative for Json {
                 let d = Field("3", d);
                 let e = Field("4", e);
                 let inside = Declared("Pair", <JsonPairFields>::size(), (a, b, c, d, e));
-                Declared("Json", <JsonLayout>::size(), inside).enter(visitor)
+                Declared("Json", <Self as Described>::size(), inside).enter(visitor)
             }
             Json::List(a) => {
                 let a = Field("List", a);
-                Declared("Json", <JsonLayout>::size(), a).enter(visitor)
+                Declared("Json", <Self as Described>::size(), a).enter(visitor)
             }
             Json::Table(a) => {
                 let a = Field("Table", a);
-                Declared("Json", <JsonLayout>::size(), a).enter(visitor)
+                Declared("Json", <Self as Described>::size(), a).enter(visitor)
             }
-            Json::Stop => Declared("Json", <JsonLayout>::size(), ()).enter(visitor),
+            Json::Stop => Declared("Json", <Self as Described>::size(), ()).enter(visitor),
             Json::Boxed(a) => {
                 let a = Field("Boxed", a);
-                Declared("Json", <JsonLayout>::size(), a).enter(visitor)
+                Declared("Json", <Self as Described>::size(), a).enter(visitor)
             }
             Json::Maybe { first, number } => {
                 let first = Field("first", first);
                 let number = Field("number", number);
                 let inside = Declared("Maybe", <JsonMaybeFields>::size(), (first, number));
-                Declared("Json", <JsonLayout>::size(), inside).enter(visitor)
+                Declared("Json", <Self as Described>::size(), inside).enter(visitor)
             }
         }
     }
@@ -388,7 +388,7 @@ impl Allocative for Chapter {
     fn visit(&self, visitor: &mut Visitor<'_>) -> Result<(), Refusal> {
         let title = Field("title", &self.title);
         let notes = Field("notes", &self.notes);
-        Declared("Chapter", <ChapterLayout>::size(), (title, notes)).enter(visitor)
+        Declared("Chapter", <Self as Described>::size(), (title, notes)).enter(visitor)
     }
 }
 // allocative: end
@@ -441,7 +441,7 @@ impl Allocative for Note {
     fn visit(&self, visitor: &mut Visitor<'_>) -> Result<(), Refusal> {
         let chapters = Field("chapters", &self.chapters);
         let is_long = Field("is_long", &self.is_long);
-        Declared("Note", <NoteLayout>::size(), (chapters, is_long)).enter(visitor)
+        Declared("Note", <Self as Described>::size(), (chapters, is_long)).enter(visitor)
     }
 }
 // allocative: end
@@ -500,7 +500,7 @@ impl Allocative for Rope {
                 let a = Field("0", a);
                 let b = Field("1", b);
                 let inside = Declared("Of", <RopeOfFields>::size(), (a, b));
-                Declared("Rope", <RopeLayout>::size(), inside).enter(visitor)
+                Declared("Rope", <Self as Described>::size(), inside).enter(visitor)
             }
         }
     }
