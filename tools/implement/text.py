@@ -64,6 +64,13 @@ def nested(kinds: list[Type], name: str = "") -> Type:
     return found
 
 
+def greatest(lists: list[Type]) -> Type:
+    """The greatest of some lists of types. Only lists that differ count, and they are joined two by two."""
+    differing = [*dict.fromkeys(each for each in lists if each != EMPTY)] or [EMPTY]
+    at = len(differing) // 2
+    return nested([greatest(differing[:at]), greatest(differing[at:])], "Or") if at else differing[0]
+
+
 def grouped(parts: list) -> list[list]:
     return [parts[at : at + GROUP] for at in range(0, len(parts), GROUP)]
 
@@ -166,7 +173,7 @@ class Writer:
         lists = [self.fields(variant) for variant in self.definition.variants]
         pairs = list(zip(self.definition.variants, lists))
         if self.definition.is_enum:
-            lists = [nested([type_of("u8"), nested(lists, "Or")])]
+            lists = [nested([type_of("u8"), greatest(lists)])]
         self.record, text = self.alias(self.layout, lists[0])
         for variant, fields in pairs:
             if self.definition.is_enum and variant.is_entry:

@@ -218,22 +218,10 @@ type JsonLayout = Record<
     (
         u8,
         Or<
-            (),
+            Or<(bool, ()), Or<(String, ()), (u64, (String, (u64, (u64, (String, ())))))>>,
             Or<
-                (bool, ()),
-                Or<
-                    (String, ()),
-                    Or<
-                        (u64, (String, (u64, (u64, (String, ()))))),
-                        Or<
-                            (Vec<()>, ()),
-                            Or<
-                                (BTreeMap<String, ()>, ()),
-                                Or<(), Or<(Box<()>, ()), (Option<Box<()>>, (u32, ()))>>,
-                            >,
-                        >,
-                    >,
-                >,
+                Or<(Vec<()>, ()), (BTreeMap<String, ()>, ())>,
+                Or<(Box<()>, ()), (Option<Box<()>>, (u32, ()))>,
             >,
         >,
     ),

@@ -137,7 +137,7 @@ pub enum Post {
     Sent { number: u64, name: String },
 }
 // allocative: begin
-type PostLayout = Record<(u8, Or<(), Or<(self::Letter, ()), (u64, (String, ()))>>)>;
+type PostLayout = Record<(u8, Or<(self::Letter, ()), (u64, (String, ()))>)>;
 
 type PostSentFields = Record<(u64, (String, ()))>;
 

@@ -126,7 +126,7 @@ pub enum Event {
     Sale { shelf: u64, prices: Vec<u64> },
 }
 // allocative: begin
-type EventLayout = Record<(u8, Or<(), Or<(String, ()), (u64, (Vec<u64>, ()))>>)>;
+type EventLayout = Record<(u8, Or<(String, ()), (u64, (Vec<u64>, ()))>)>;
 
 type EventSaleFields = Record<(u64, (Vec<u64>, ()))>;
 

@@ -175,6 +175,16 @@ class CommandTest(unittest.TestCase):
         self.put("src/b/shown.rt", "impl Described for Point {}\nimpl Allocative for Point {}\n")
         self.assertEqual(self.run_it(text)[0], 0)
 
+    def test_layouts_of_enums(self) -> None:
+        for variants, fields in (
+            ("A, B", "()"),
+            ("A(u8), B, C(u8)", "(u8, ())"),
+            ("A(u8), B(u16), C(u32)", "Or<(u8, ()), Or<(u16, ()), (u32, ())>>"),
+            ("A(u8), B(u16), C(u32), D(u64)", "Or<Or<(u8, ()), (u16, ())>, Or<(u32, ()), (u64, ())>>"),
+        ):
+            output = self.run_it(f"#[derive(Drop)]\nenum E {{ {variants} }}\n")[1]
+            self.assertIn(f"type ELayout = Record<(u8, {fields})>;", output)
+
     def test_recursive_types_and_cycles(self) -> None:
         two = "#[derive(Drop)]\nstruct A {\n    b: Vec<B>,\n}\n#[derive(Drop)]\nstruct B {\n    a: Vec<A>,\n}\n"
         self.assertIn("#[cycle(NAME)]", self.run_it(two)[2][0])

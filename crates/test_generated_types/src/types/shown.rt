@@ -348,19 +348,10 @@ type RequestLayout = Record<
     (
         u8,
         Or<
-            (),
+            Or<(String, ()), Or<(u32, (u32, ())), (String, (u64, ()))>>,
             Or<
-                (String, ()),
-                Or<
-                    (u32, (u32, ())),
-                    Or<
-                        (String, (u64, ())),
-                        Or<
-                            (u32, (u32, (bool, ()))),
-                            Or<(u16, (u16, (u16, (u16, (String, ()))))), Or<(u64, (f64, ())), ()>>,
-                        >,
-                    >,
-                >,
+                (u32, (u32, (bool, ()))),
+                Or<(u16, (u16, (u16, (u16, (String, ()))))), (u64, (f64, ()))>,
             >,
         >,
     ),
@@ -530,7 +521,7 @@ where
     }
 }
 
-type NamedLayout<T> = Record<(u8, Or<(), (String, (T, ()))>)>;
+type NamedLayout<T> = Record<(u8, (String, (T, ())))>;
 
 type NamedSomebodyFields<T> = Record<(String, (T, ()))>;
 
