@@ -42,7 +42,7 @@ class Scope:
         self.outside = outside
         self.strict: set[str] = set()
         self.tallied: set[str] = set()
-        self.counts: dict[str, int] = {}
+        self.name_counts: dict[str, int] = {}
         self.reason = cache(self.reason)
 
     def own(self, kind: Type) -> Definition | None:
@@ -69,10 +69,10 @@ class Scope:
         if definition is None:
             inside = () if kind.name in POINTERS else kind.parts
             return 1 + sum(map(self.names_in, inside))
-        if kind.name not in self.counts:
-            self.counts[kind.name] = 0
-            self.counts[kind.name] = sum(self.names_in(member.type) for member in definition.members)
-        return 1 + self.counts[kind.name]
+        if kind.name not in self.name_counts:
+            self.name_counts[kind.name] = 0
+            self.name_counts[kind.name] = sum(self.names_in(member.type) for member in definition.members)
+        return 1 + self.name_counts[kind.name]
 
     def reason(self, kind: Type, parameters: Path) -> str:
         """Why a field of a type cannot be shown, or nothing."""

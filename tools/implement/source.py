@@ -227,7 +227,7 @@ class Source:
         found: set[str] = set()
         waiting = [name]
         while waiting:
-            definition = self.wanted.get(waiting.pop())
+            definition = self.module.types.get(waiting.pop())
             for member in definition.members if definition else ():
                 kinds = self.scope.real(member.type).all()
                 more = {kind.name for kind in kinds if self.scope.own(kind)} - found

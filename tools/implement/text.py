@@ -130,8 +130,7 @@ class Writer:
         members = [member for each in cycle or [definition] for member in each.shown]
         self.flags = sorted(set().union(*map(self.flags_of, members)))
         if self.scope.names_in(type_of(self.name)) > LARGEST_VALUE:
-            why = "has too many fields in one value for the checker: put large fields into a `Box`"
-            raise Fault(definition.at, f"{self.name} {why}")
+            raise Fault(definition.at, "it has too many fields in one value for the checker: put large ones into a `Box`")
         if self.is_level:
             self.refuse_large()
         self.variant_records: dict[str, str] = {}
@@ -383,16 +382,11 @@ class Writer:
 
     def refuse_large(self) -> None:
         """Refuses a type that holds itself and reaches too much for the checker."""
-        types, reached, todo, total = self.scope.module.types, {self.name}, [self.definition], 0
-        while todo:
-            names = names_of(todo.pop())
-            total += len(names)
-            found = sorted(types.keys() & {*names} - reached)
-            reached.update(found)
-            todo += [types[name] for name in found]
-        if total > LARGEST_REACH:
+        types, reached = self.scope.module.types, self.source.reached(self.name)
+        members = [member for name in reached for member in types[name].members]
+        if sum(len(NAME.findall(member.type.text)) for member in members) > LARGEST_REACH:
             why = f"the {len(reached)} types that it reaches have too many fields for the checker: let it hold fewer types"
-            raise Fault(self.definition.at, f"{self.name} holds itself, and {why}")
+            raise Fault(self.definition.at, f"it holds itself, and {why}")
 
     def kept(self, variant: Variant, names: list[str]) -> list[tuple[Member, str, str]]:
         """The fields that a variant shows, with keys and names. A single one without a name has its name."""
@@ -506,11 +500,6 @@ def ensured(taken: set[str], call: str, arm: str) -> str:
     name = next(name for name in (call, call + arm, f"{call}{arm}-2") if name not in taken)
     taken.add(name)
     return f"c.{name}.ensures"
-
-
-def names_of(definition: Definition) -> list[str]:
-    """The names of types in the fields of a type."""
-    return [name for member in definition.members for name in NAME.findall(member.type.text)]
 
 
 def holds(kind: Type, parameter: str) -> bool:

@@ -193,14 +193,14 @@ class CommandTest(unittest.TestCase):
             names = ", ".join(f"B{each}" for each in range(count))
             types = f"{held}#[derive(Drop)]\nstruct A(Vec<A>, {names});\n"
             self.assertEqual(self.run_it(types)[0], status)
-        self.assertIn("the 44 types that it reaches have too many fields", self.run_it(types)[2][0])
+        self.assertIn("A: it holds itself, and the 44 types that it reaches have too many fields", self.run_it(types)[2][0])
         queue = "use std::collections::*;\n#[derive(Drop)]\nstruct A {\n    a: VecDeque<A>,\n}\n"
         self.assertIn("holds the type itself in a way", self.run_it(queue)[2][0])
 
     def test_large_values(self) -> None:
         fields = ["u8", *(", ".join([f"B{each}"] * 3) for each in range(6))]
         types = "".join(f"#[derive(Drop)]\nstruct B{each}({kinds});\n" for each, kinds in enumerate(fields))
-        self.assertIn("B6 has too many fields in one value", self.run_it(types)[2][0])
+        self.assertIn("B6: it has too many fields in one value", self.run_it(types)[2][0])
         self.assertEqual(self.run_it(types.replace("(B5, B5, B5)", "(Box<B5>)"))[0], 0)
 
     def test_paths_of_the_module_itself(self) -> None:
