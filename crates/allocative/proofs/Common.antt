@@ -31,7 +31,7 @@ pub use Rattle.allocative.specs.Built.{as_graph}
 pub use Rattle.allocative.specs.Closures.{called, refused_inside}
 pub use Rattle.allocative.specs.Strict.{CanTake, HasRoomFor, IsDeclared, MayRefuse, FailsOnlyIfFull, RootFailsOnlyIfFull}
 pub use Rattle.allocative.specs.Strict.{ShowsContents, all_bytes, has_added, has_refused}
-pub use Rattle.allocative.specs.Kinds.{HasEntered, HasMade, IsHeldSum, state_of}
+pub use Rattle.allocative.specs.Kinds.{IsHeldSum, state_of}
 pub use Rattle.allocative.specs.Levels.{levels_shown}
 pub use Rattle.allocative.specs.Making.{Done, Entry, Makes, MakesPlan, Plan, entry_refused, gives, inside_refused, made}
 pub use Rattle.allocative.specs.Making.{made_none, makes, one}

@@ -1,15 +1,15 @@
 -- What the collector's own calls do, by what they find: the collector had failed, or it was going.
-use Rattle.std.proofs.Common.{◌≡◌, ℕ, ◌+◌, ◌-◌, ◌<◌, ◌≤◌, ◌^◌, Bool, true, false, None, Some, Option, Ok, Err}
+use Rattle.std.proofs.Common.{◌≡◌, ℕ, ◌+◌, ◌-◌, ◌<◌, ◌≤◌, ◌^◌, Bool, true, false, Some, Option, Ok, Err}
 use Rattle.std.proofs.Common.{refl}
 use Rattle.allocative.proofs.Common.{Outer, Refusal, TooLarge, Key, Identity, Live, Kind, OfGraph, OfHeld, OfOwned}
 use Rattle.allocative.proofs.Common.{count_owning, State, Failed, Going, OpensEntry, stays_failed, is_refused}
 use Rattle.allocative.proofs.Common.{is_entered, RefusesSized, OpensShared, stays_shared, is_refused_shared, goes_past}
-use Rattle.allocative.proofs.Common.{is_too_large_shared, counts, enters_first, enters_again, HasEntered, HasMade, Done}
+use Rattle.allocative.proofs.Common.{is_too_large_shared, counts, enters_first, enters_again, Done}
 use Rattle.allocative.proofs.Common.{one, Makes, made_none, made, entry_refused}
 use Rattle.allocative_collectors.specs.Meets.{MeetsAs}
-use Rattle.allocative_graph.specs.Collector.{Holding, Owning}
+use Rattle.allocative_graph.specs.Collector.{Holding, Owning, enter, leave, outer_of}
 use Rattle.allocative_graph.specs.Sums.{bytes_entered}
-use Rattle.allocative_graph.specs.Visits.{Refuses}
+use Rattle.allocative_graph.specs.Visits.{HasRoom, Refuses}
 use Rattle.allocative.specs.Making.{had_failed}
 use Rattle.allocative.proofs.Visits.{refuses_entry}
 
@@ -25,10 +25,9 @@ pub opens_refused : {u : Bool} {k : Key} {y : Option ℕ} (b : Kind) {s t : Stat
 opens_refused b i h j = rw (i, j) (is_refused h)
 
 -- Opening an entry that has room adds it, with a visitor at it, and returns what closing it restores.
-pub opens_entered : {u : Bool} {k : Key} (y : Option ℕ) (b c : Kind) {o : Outer} {s t : State} → s ≡ Going b →
-    HasEntered u k y b o c → t ≡ Going c → OpensEntry u k y s (Ok o) t
-opens_entered None b c i h j = absurd h
-opens_entered (Some n) b c i h j = rw (i, j) (is_entered h.0 h.1 h.2)
+pub opens_entered : {u : Bool} {k : Key} {y : Option ℕ} (n : ℕ) (b c : Kind) {o : Outer} {s t : State} → y ≡ Some n →
+    s ≡ Going b → HasRoom u n b → o ≡ outer_of n b → c ≡ enter u k n b → t ≡ Going c → OpensEntry u k y s (Ok o) t
+opens_entered n b c e i h f g j = rw (e, i, j) (is_entered h f g)
 
 -- ---- making an entry
 -- Making an entry in a failed collector returns its cause and leaves it as it is.
@@ -42,11 +41,10 @@ pub makes_refused_entry : {k : Key} {y : Option ℕ} (b : Kind) {s t : State} {e
 makes_refused_entry b i h j = entry_refused (opens_refused b i h j)
 
 -- Making an entry that has room adds it, closes it, and returns Ok.
-pub makes_one : {k : Key} (y : Option ℕ) (b c : Kind) {u : Unit} {s t : State} → s ≡ Going b → HasMade k y b c →
-    t ≡ Going c → Makes (one k y) s (Ok u) t
-makes_one None b c i h j = absurd h
-makes_one (Some n) b c i h j = rw (i, j, h.1)
-    (made (is_entered h.0 refl refl) (made_none {u = tt}) (record { closes = refl }) made_none)
+pub makes_one : {k : Key} {y : Option ℕ} (n : ℕ) (b c : Kind) {u : Unit} {s t : State} → y ≡ Some n → s ≡ Going b →
+    HasRoom false n b → c ≡ leave (outer_of n b) (enter false k n b) → t ≡ Going c → Makes (one k y) s (Ok u) t
+makes_one n b c e i h g j = rw (e, i, j, g)
+    (made (is_entered h refl refl) (made_none {u = tt}) (record { closes = refl }) made_none)
 
 -- ---- no entry
 -- Making no entry in a failed collector returns its cause and leaves it as it is.

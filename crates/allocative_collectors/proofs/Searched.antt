@@ -1,16 +1,18 @@
 -- What a comparison with one key says of the others, if keys rise, and what a binary search finds.
 use Rattle.std.proofs.Common.{◌≡◌, ℕ, zero, suc, true, refl, ◌+◌, ◌-◌, ◌<◌, ◌≤◌, List, [], ◌∷◌, length, get_or, map, Result}
-use Rattle.std.proofs.Common.{Ok, Err, IfOk, IfErr, ap, subst₂, ◌∙◌, arith, inl, inr}
+use Rattle.std.proofs.Common.{Ok, Err, Some, IfOk, IfErr, sym, ap, subst₂, ◌∙◌, arith, inl, inr}
 use Rattle.allocative_collectors.proofs.Common.{Ordering, Less, Equal, Greater, is_lt, ordering_reverse, Key, key_cmp}
 use Rattle.allocative_collectors.proofs.Common.{key_in, KeysRise, IsKeyGap}
+use Rattle.std.specs.List.{slice_get}
 use Rattle.std.specs.List.Sorted.{IsSearchInRange, IsBinarySearchResult, IsSortedBy}
 use Rattle.std.proofs.lemmas.Bool.{cases_eq}
 use Rattle.std.proofs.lemmas.List.{get_or-map, length-map}
+use Rattle.std.proofs.lemmas.Option.{get_or_from_slice_get, slice_get_within}
 use Rattle.std.proofs.lemmas.List.Sorted.{searchable_from_sorted}
 use Rattle.allocative_collectors.proofs.Keys.{key_total, key_same}
 
 -- If the test for less holds, the comparison says `Less`.
-pub less_from : (o : Ordering) → is_lt o ≡ true → o ≡ Less
+less_from : (o : Ordering) → is_lt o ≡ true → o ≡ Less
 less_from Less e = refl
 less_from Equal e = cc
 less_from Greater e = cc
@@ -44,12 +46,22 @@ module _ (ks : List Key) (rise : KeysRise ks) (k : Key) where
   }
 
   -- all keys are smaller if the last one is
-  pub gap_behind : (n m : ℕ) → n ≡ length ks → m + 1 ≡ n → key_cmp (key_in ks m) k ≡ Less → IsKeyGap ks k n
+  gap_behind : (n m : ℕ) → n ≡ length ks → m + 1 ≡ n → key_cmp (key_in ks m) k ≡ Less → IsKeyGap ks k n
   gap_behind n m all last less = record {
     in_range = omega arith;
     smaller_before = λ j h. smaller_up_to m (omega arith) less j (omega arith);
     greater_after = λ j le h. absurd (omega arith);
   }
+
+-- A key after that of the last of some numbers belongs behind them.
+pub behind_last : (K : ℕ → Key) (xs : List ℕ) → KeysRise (map K xs) → (k : Key) (n : ℕ) →
+    slice_get xs (length xs - 1) ≡ Some n → is_lt (key_cmp (K n) k) ≡ true → IsKeyGap (map K xs) k (length xs)
+behind_last K xs rise k n last lt =
+    let within = slice_get_within xs (length xs - 1) n last in
+    let key : key_in (map K xs) (length xs - 1) ≡ K n =
+    get_or-map K xs (length xs - 1) 0 [] within ∙ ap K (get_or_from_slice_get xs (length xs - 1) n 0 last) in
+    gap_behind (map K xs) rise k (length xs) (length xs - 1) (sym (length-map xs K)) (omega arith)
+    (ap (λ (l : Key). key_cmp l k) key ∙ less_from _ lt)
 
 module _ {X : Type 0} (key : X → Key) where
   -- what holds of the key at a place

@@ -1,8 +1,8 @@
 -- The numbers of a node's children, as one list or in chunks, and places among them.
-use Rattle.std.specs.Prelude.{◌≡◌, ℕ, ◌+◌, ◌-◌, ◌<◌, ◌≤◌, List, [], ◌∷◌, length, take, slice_index_or, zero, suc}
+use Rattle.std.specs.Prelude.{◌≡◌, ℕ, ◌+◌, ◌≤◌, List, [], ◌∷◌, length, take, zero, suc}
 use Rattle.std.specs.List.{flat_map}
 use Rattle.allocative_collectors.specs.declared.children.Children.{Children}
-use Rattle.allocative_collectors.specs.declared.children.Children.TheVariants.{Few, Many}
+use Rattle.allocative_collectors.specs.declared.children.Children.TheVariants.{Empty, One, Two, Three, Few, Many}
 use Rattle.allocative_collectors.specs.declared.children.Chunk.{Chunk}
 use Rattle.allocative_collectors.specs.declared.children.Place.{Place}
 
@@ -16,8 +16,17 @@ flat cs = flat_map numbers_in cs
 
 -- All numbers.
 abbrev pub numbers : Children → List ℕ
-numbers (Few v) = v.items
-numbers (Many cs) = flat cs.items
+numbers Empty = []
+numbers (One list) = list
+numbers (Two list) = list
+numbers (Three list) = list
+numbers (Few v) = v.value.items
+numbers (Many cs) = flat cs.value.items
+
+-- The numbers are not in chunks.
+abbrev pub IsOneList : Children → Type 0
+IsOneList (Many cs) = ⊥
+IsOneList c = Unit {0}
 
 -- How many numbers stand before chunk i.
 abbrev pub before : List Chunk → ℕ → ℕ
@@ -35,8 +44,8 @@ IsPlaceIn cs p = p.index ≤ length (chunk_at cs p.chunk)
 
 -- The same among all numbers. One list counts as one chunk.
 abbrev pub IsPlace : Children → Place → Type 0
-IsPlace (Few v) p = (p.chunk ≡ 0) × (p.index ≤ length v.items)
-IsPlace (Many cs) p = IsPlaceIn cs.items p
+IsPlace (Many cs) p = IsPlaceIn cs.value.items p
+IsPlace c p = (p.chunk ≡ 0) × (p.index ≤ length (numbers c))
 
 -- A place in a chunk, as one among the numbers of all chunks.
 abbrev pub place_in : List Chunk → Place → ℕ
@@ -44,11 +53,5 @@ place_in cs p = before cs p.chunk + p.index
 
 -- A place, as one among all numbers.
 abbrev pub flat_place : Children → Place → ℕ
-flat_place (Few v) p = p.index
-flat_place (Many cs) p = place_in cs.items p
-
--- The number n is the last one, and i is the place behind it.
-pub record IsLast (xs : List ℕ) (n i : ℕ) : Type 0 where
-  pub some : 0 < length xs
-  pub is : slice_index_or xs (length xs - 1) 0 ≡ n
-  pub behind : i ≡ length xs
+flat_place (Many cs) p = place_in cs.value.items p
+flat_place c p = p.index

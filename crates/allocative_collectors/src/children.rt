@@ -1,9 +1,8 @@
 //! The numbers of a node's children, in an order that the caller keeps.
-ghost use Rattle.std.specs.Prelude.{◌≡◌, ◌<◌, ◌≤◌, [], ◌++◌, length, IfOk, IfSome, OnOk, OnErr, IsTrue, slice_index_or, slice_get, Some};
+ghost use Rattle.std.specs.Prelude.{◌≡◌, ◌-◌, ◌<◌, ◌≤◌, [], ◌∷◌, ◌++◌, length, IfOk, IfSome, OnOk, OnErr, IsTrue, slice_index_or, slice_get, Some};
 ghost use Rattle.std.specs.List.{insert};
-ghost use Rattle.allocative_collectors.specs.Chunked.{numbers, numbers_in, flat, IsPlace, IsPlaceIn, place_in, flat_place, IsLast};
+ghost use Rattle.allocative_collectors.specs.Chunked.{numbers, numbers_in, flat, IsOneList, IsPlace, IsPlaceIn, place_in, flat_place};
 
-use smallvec::SmallVec;
 use std::alloc::{AllocError, Global};
 
 /// How many numbers are one list at most.
@@ -14,12 +13,17 @@ const LONGEST_CHUNK: usize = 256;
 
 /// Numbers in an order that the caller keeps.
 ///
-/// Up to `LONGEST_LIST` numbers are one list, of which four need no memory of their own. More are in chunks, so that a
-/// number that is put in the middle moves few others. If memory ran out, a longer list may have stayed one.
+/// Most nodes have few children, and up to three numbers need no memory of their own. Up to `LONGEST_LIST` are one list.
+/// More are in chunks, so that a number that is put in the middle moves few others. If memory ran out, a longer list may
+/// have stayed one. Lists and chunks are in boxes, so that the numbers of each node take 16 bytes here.
 #[derive(Drop)]
 pub(crate) enum Children {
-    Few(SmallVec<u32, 4>),
-    Many(Vec<Chunk>),
+    Empty,
+    One([u32; 1]),
+    Two([u32; 2]),
+    Three([u32; 3]),
+    Few(Box<Vec<u32>>),
+    Many(Box<Vec<Chunk>>),
 }
 
 /// Numbers that follow one another. There is at least one.
@@ -41,36 +45,23 @@ pub(crate) struct Place {
 }
 
 impl Children {
-    /// No numbers. It allocates nothing.
-    pub(crate) fn new(alloc: Global) -> Children
-        ensures { numbers result ≡ [] }
-    {
-        Children::Few(SmallVec::new(alloc))
-    }
-
-    /// Whether there is only an empty list.
+    /// Whether there are no numbers.
     pub(crate) fn is_empty(&self) -> bool
         ensures { IsTrue result → numbers self.now ≡ [] }
     {
-        match self {
-            Children::Few(list) => list.is_empty(),
-            Children::Many(_) => false,
-        }
+        matches!(self, Children::Empty)
     }
 
-    /// The last number, and the place behind it.
-    pub(crate) fn last(&self) -> Option<(u32, Place)>
-        ensures place { IfSome result (λ end. IsPlace self.now end.1) }
-        ensures last { IfSome result
-            (λ end. IsLast (numbers self.now) end.0 (flat_place self.now end.1)) }
+    /// The numbers, if they are not in chunks.
+    pub(crate) fn as_list(&self) -> &[u32]
+        ensures { IsOneList self.now → result.now ≡ numbers self.now }
     {
         match self {
-            Children::Few(list) => {
-                let number = *list.as_slice().last()?;
-                let index = list.len();
-                Some((number, Place { chunk: 0, index }))
-            }
-            Children::Many(chunks) => last_in(chunks.as_slice()),
+            Children::Empty | Children::Many(_) => &[],
+            Children::One(list) => list,
+            Children::Two(list) => list,
+            Children::Three(list) => list,
+            Children::Few(list) => list.as_slice(),
         }
     }
 
@@ -79,32 +70,88 @@ impl Children {
         requires { room.old.items ≡ [] }
         ensures { IfOk result (λ list. list.now ≡ numbers self.now) }
     {
-        match self {
-            Children::Few(list) => Ok(list.as_slice()),
-            Children::Many(chunks) => {
-                for chunk in chunks {
-                    room.push(chunk.first)?;
-                    room.extend_from_slice(chunk.rest.as_slice())?;
-                }
-                Ok(room.as_slice())
-            }
+        let Children::Many(chunks) = self else {
+            return Ok(self.as_list());
+        };
+        for chunk in chunks.as_slice() {
+            room.push(chunk.first)?;
+            room.extend_from_slice(chunk.rest.as_slice())?;
         }
+        Ok(room.as_slice())
     }
 
     /// Puts a number at a place, with its key. The only error is that memory runs out, and then the numbers are as they
     /// were.
-    pub(crate) fn insert(&mut self, place: Place, number: u32, key: &str) -> Result<(), AllocError>
+    pub(crate) fn insert(
+        &mut self,
+        alloc: Global,
+        place: Place,
+        number: u32,
+        key: &str,
+    ) -> Result<(), AllocError>
         requires { IsPlace self.old place }
         ensures ok { OnOk result
             (numbers self.new ≡ insert (numbers self.old) (flat_place self.old place) number) }
         ensures err { OnErr result (numbers self.new ≡ numbers self.old) }
     {
         match self {
+            Children::Empty => *self = Children::One([number]),
+            Children::One(list) => *self = Children::Two(two(*list, place.index, number)),
+            Children::Two(list) => *self = Children::Three(three(*list, place.index, number)),
+            Children::Three(list) => *self = Children::Few(four(
+                alloc,
+                *list,
+                place.index,
+                number,
+            )?),
+            Children::Few(list) if place.index == list.len() => list.push(number)?,
             Children::Few(list) => list.insert(place.index, number)?,
             Children::Many(chunks) => insert_in(chunks, place, number, start_of(key))?,
         }
         Ok(())
     }
+}
+
+// One number, and another at an index of at most 1.
+fn two(list: [u32; 1], index: usize, number: u32) -> [u32; 2]
+    requires { index ≤ length list }
+    ensures { result ≡ insert list index number }
+{
+    let [first] = list;
+    if index == 0 {
+        [number, first]
+    } else {
+        [first, number]
+    }
+}
+
+// Two numbers, and another at an index of at most 2.
+fn three(list: [u32; 2], index: usize, number: u32) -> [u32; 3]
+    requires { index ≤ length list }
+    ensures { result ≡ insert list index number }
+{
+    let [first, second] = list;
+    match index {
+        0 => [number, first, second],
+        1 => [first, number, second],
+        _ => [first, second, number],
+    }
+}
+
+// Three numbers, and another at an index of at most 3.
+fn four(
+    alloc: Global,
+    list: [u32; 3],
+    index: usize,
+    number: u32,
+) -> Result<Box<Vec<u32>>, AllocError>
+    requires { index ≤ length list }
+    ensures { IfOk result (λ longer. longer.value.items ≡ insert list index number) }
+{
+    let mut longer = Vec::with_capacity(alloc, 8)?;
+    longer.extend_from_slice(&list)?;
+    longer.insert(index, number)?;
+    Ok(Box::new(alloc, longer)?)
 }
 
 impl Chunk {
@@ -170,11 +217,12 @@ impl Chunk {
     }
 }
 
-// The last number of the chunks, and the place behind it: in a new chunk, if the last one is full.
-fn last_in(chunks: &[Chunk]) -> Option<(u32, Place)>
+/// The last number of the chunks, and the place behind it: in a new chunk, if the last one is full.
+pub(crate) fn last_in(chunks: &[Chunk]) -> Option<(u32, Place)>
     ensures place { IfSome result (λ end. IsPlaceIn chunks.now end.1) }
     ensures last { IfSome result
-        (λ end. IsLast (flat chunks.now) end.0 (place_in chunks.now end.1)) }
+        (λ end. slice_get (flat chunks.now) (length (flat chunks.now) - 1) ≡ Some end.0) }
+    ensures behind { IfSome result (λ end. place_in chunks.now end.1 ≡ length (flat chunks.now)) }
 {
     let chunk = chunks.len().checked_sub(1)?;
     let end = &chunks[chunk];
@@ -235,6 +283,7 @@ pub(crate) fn one_chunk(
 }
 
 // Puts a number at a place of the chunks, with the start of its key.
+#[inline(never)]
 fn insert_in(
     chunks: &mut Vec<Chunk>,
     place: Place,

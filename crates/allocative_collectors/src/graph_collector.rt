@@ -1,7 +1,7 @@
 //! The state of a flame graph's collector: the arena of paths, the identities met, and where its visitors are.
 ghost use Rattle.std.specs.Prelude.{◌≡◌, ◌+◌, ◌^◌, ◌<◌, [], false, IfOk, IfErr, OnOk, OnErr, IsTrue, ◌↔◌};
 ghost use Rattle.allocative_graph.specs.Sums.{bytes_entered};
-ghost use Rattle.allocative_graph.specs.Collector.{OfGraph, no_entries, enter_live, leave_live, go, IsClosed, IsAtRoot};
+ghost use Rattle.allocative_graph.specs.Collector.{OfGraph, no_outer, no_entries, enter_live, leave_live, go, IsClosed, IsAtRoot};
 ghost use Rattle.allocative_graph.specs.Graph.{total as graph_total};
 ghost use Rattle.allocative_graph.specs.Visits.{Refuses, IsProfile};
 ghost use Rattle.allocative_collectors.specs.Meets.{MeetsAs};
@@ -9,6 +9,7 @@ ghost use Rattle.allocative_collectors.specs.Meets.{MeetsAs};
 use crate::output::FlameGraphOutput;
 use crate::tree::Tree;
 use allocative_graph::key::Key;
+use allocative_graph::outer::Outer;
 use allocative_graph::refusal::Refusal;
 use allocative_graph::shared::Identity;
 use std::alloc::{AllocError, Global};
@@ -64,21 +65,22 @@ impl GraphCollector {
         })
     }
 
-    /// One more entry of `size` bytes under the key, unique or inline, and a visitor at it.
+    /// One more entry of `size` bytes under the key, unique or inline, and a visitor at it. It returns what `leave`
+    /// restores.
     ///
     /// It returns `TooLarge` exactly if the bytes of all entries would exceed `isize::MAX`, and otherwise fails only
     /// with `Memory`: if memory runs out, or if there would be more than 2^32 - 1 paths. The bound on bytes is
     /// tested before memory is allocated. An error changes nothing.
     #[inline(always)]
-    pub fn enter(&mut self, key: &Key, size: usize, is_unique: bool) -> Result<(), Refusal>
-        ensures ok { OnOk result ((bytes_entered self.old.sums + size < 2 ^ 63)
-            × (self.new ≡ enter_live is_unique key.now size self.old)) }
+    pub fn enter(&mut self, key: &Key, size: usize, is_unique: bool) -> Result<Outer, Refusal>
+        ensures ok { IfOk result (λ outer. (bytes_entered self.old.sums + size < 2 ^ 63)
+            × (outer ≡ no_outer) × (self.new ≡ enter_live is_unique key.now size self.old)) }
         ensures err { IfErr result (Refuses is_unique size (OfGraph self.old)) }
         ensures kept { OnErr result (self.new ≡ self.old) }
     {
         let at = self.current;
         self.current = self.tree.enter(&mut self.room, at, key, size, is_unique)?;
-        Ok(())
+        Ok(Outer::at(at))
     }
 
     /// One more inline entry of `size` bytes under the key, with nothing inside it: no visitor goes there.
@@ -119,11 +121,15 @@ impl GraphCollector {
     }
 
     /// One visitor less: back to where the visitor outside it is. It allocates nothing.
+    ///
+    /// The kept place is mostly the right one. Then the processor need not wait for the node to be read.
     #[inline(always)]
-    pub fn leave(&mut self)
+    pub fn leave(&mut self, outer: Outer)
         ensures { self.new ≡ leave_live self.old }
     {
+        let place = outer.place();
         match self.tree.parent(self.current) {
+            Some(parent) if parent == place => self.current = place,
             Some(parent) => self.current = parent,
             None => self.leave_root(),
         }
@@ -154,12 +160,14 @@ impl GraphCollector {
         }
     }
 
-    /// One more root visitor, when no visitor is open.
-    pub fn begin(&mut self)
+    /// One more root visitor, when no visitor is open. It returns what `leave` restores.
+    pub fn begin(&mut self) -> Outer
         requires { IsClosed (OfGraph self.old) }
-        ensures { self.new ≡ go [] self.old }
+        ensures outer { result ≡ no_outer }
+        ensures begun { self.new ≡ go [] self.old }
     {
         self.is_rooted = true;
+        Outer::at(0)
     }
 
     /// The graph of all entries, with the warnings. The only error is that memory runs out.

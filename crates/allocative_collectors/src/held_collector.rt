@@ -45,10 +45,7 @@ impl HeldCollector {
     fn outer(&self) -> Outer
         ensures { result ≡ outer_of 0 (OfHeld self.now) }
     {
-        Outer {
-            is_unique: self.is_in_unique,
-            spare: 0,
-        }
+        Outer::of_held(self.is_in_unique)
     }
 
     /// One more entry of `size` bytes, unique or inline, and a visitor at it. It returns what `leave` restores.
@@ -83,7 +80,7 @@ impl HeldCollector {
         ensures { self.new ≡ leave_holding outer self.old }
     {
         self.visitors = self.visitors.saturating_sub(1);
-        self.is_in_unique = outer.is_unique;
+        self.is_in_unique = outer.is_unique();
     }
 
     /// Whether no visitor is open.

@@ -13,7 +13,7 @@ ghost use Rattle.allocative_collectors.specs.Chunked.{numbers, numbers_in, flat,
 ghost use Rattle.allocative_collectors.specs.Nodes.{shape, IsTree};
 ghost use Rattle.allocative_collectors.specs.Warned.{warning_of};
 
-use crate::children::{Children, Chunk, LONGEST_LIST, Place, one_chunk, start_of};
+use crate::children::{Children, Chunk, LONGEST_LIST, Place, last_in, one_chunk, start_of};
 use crate::output::{FlameGraphOutput, WarnedPath};
 use allocative_graph::flamegraph::{FlameGraph, push_child};
 use allocative_graph::key::Key;
@@ -87,7 +87,7 @@ impl Tree {
         let mut nodes = Vec::new(alloc);
         nodes.push(Node::new(Key::new(""), usize::MAX))?;
         let mut children = Vec::new(alloc);
-        children.push(Children::new(alloc))?;
+        children.push(Children::Empty)?;
         Ok(Tree {
             alloc,
             nodes,
@@ -100,6 +100,8 @@ impl Tree {
     ///
     /// It fails with `TooLarge` if the room has fewer bytes, which is tested before memory is allocated. Otherwise it
     /// fails only with `Memory`: if memory runs out, or if there would be more than 2^32 - 1 paths beside the root.
+    ///
+    /// Entries often come in the same order as before, so the child that followed the last one is tried first.
     #[inline(always)]
     pub(crate) fn enter(
         &mut self,
@@ -119,12 +121,28 @@ impl Tree {
         if size > *room {
             return Err(Refusal::TooLarge);
         }
-        let node = self.child(at, key)?;
+        let expected = self.nodes[at].next as usize;
+        if self.is_child(at, key, expected) {
+            self.expect_follower(at, expected);
+            self.raise(room, expected, size, is_unique);
+            return Ok(expected);
+        }
+        Ok(self.enter_unexpected(room, at, key.as_str(), size, is_unique)?)
+    }
+
+    /// Adds the bytes of an entry to a node, and takes them from the room.
+    #[inline(always)]
+    fn raise(&mut self, room: &mut usize, node: usize, size: usize, is_unique: bool)
+        requires node { (0 < node) × (node < length self.old) }
+        requires room { size ≤ room.old }
+        requires count { total self.old + room.old + 1 ≡ 2 ^ 63 }
+        ensures raised { self.new ≡ put node (path_at self.old node) size is_unique self.old }
+        ensures room { room.old ≡ room.new + size }
+    {
         *room -= size;
         let entered = &mut self.nodes[node];
         entered.bytes += size;
         entered.is_unique = entered.is_unique || is_unique;
-        Ok(node)
     }
 
     /// The node one key above, or None for the root.
@@ -152,47 +170,49 @@ impl Tree {
     {
         let mut keys: Vec<&'static str> = Vec::new(self.alloc);
         let mut warned = Vec::new(self.alloc);
-        let graph = self.make(0, &mut keys, &mut warned)?;
+        let mut graph = FlameGraph::default(self.alloc);
+        self.make(0, &mut graph, &mut keys, &mut warned)?;
         Ok(FlameGraphOutput::new(self.alloc, graph, warned)?)
     }
 
-    /// The graph of the node `at` and all below it. Those of their paths that have a warning are appended to `warned`;
-    /// `keys` is the node's path.
+    /// Makes `graph` that of the node `at` and all below it. Those of their paths that have a warning are appended to
+    /// `warned`; `keys` is the node's path. The graph is no result, so that a level of the walk takes less of the stack.
     fn make(
         &self,
         at: usize,
+        graph: &mut FlameGraph,
         keys: &mut Vec<&'static str>,
         warned: &mut Vec<WarnedPath>,
-    ) -> Result<FlameGraph, Refusal>
+    ) -> Result<(), Refusal>
         requires within { at < length self.now }
         requires fits { bytes_entered (map_of self.now) < 2 ^ 63 }
         requires keys { texts keys.old.items ≡ path_at self.now at }
         ensures keys { OnOk result (keys.new.items ≡ keys.old.items) }
-        ensures made { IfOk result (MakesGraph self.now at
-            (map warning_of warned.old.items) (map warning_of warned.new.items)) }
+        ensures made { OnOk result (MakesGraph self.now at
+            (map warning_of warned.old.items) (map warning_of warned.new.items) graph.new) }
         ensures err { IfErr result (λ e. e ≡ Refusal.Memory) }
     {
-        if let Some(leaf) = self.leaf(at) {
-            return Ok(leaf);
-        }
-        let node = &self.nodes[at];
-        let numbers = &self.children[at];
         let mut room = Vec::new(self.alloc);
-        let children = numbers.list(&mut room)?;
+        let children = self.children[at].list(&mut room)?;
         let size_below = bytes_of(&self.nodes, children);
-        let mut graph = FlameGraph::with_capacity(self.alloc, children.len())?;
+        *graph = FlameGraph::with_capacity(self.alloc, children.len())?;
         graph.add_self(self.size(at, size_below))?;
         if self.is_short(at, size_below) {
-            push_warned(keys.as_slice(), node.bytes, size_below, warned)?;
+            push_warned(keys.as_slice(), self.nodes[at].bytes, size_below, warned)?;
         }
         for &child in children {
             let key = &self.nodes[child as usize].key;
+            if let Some(leaf) = self.leaf(child as usize) {
+                push_child(graph, key.copy(), leaf)?;
+                continue;
+            }
             keys.push(key.as_str())?;
-            let below = self.make(child as usize, keys, warned)?;
-            push_child(&mut graph, key.copy(), below)?;
+            let mut below = FlameGraph::default(self.alloc);
+            self.make(child as usize, &mut below, keys, warned)?;
             let _ = keys.pop();
+            push_child(graph, key.copy(), below)?;
         }
-        Ok(graph)
+        Ok(())
     }
 
     /// The graph of a node that has no children, and so no warning. It allocates nothing.
@@ -236,23 +256,6 @@ impl Tree {
         at != 0 && !node.is_unique && node.bytes < size_below
     }
 
-    /// The child of the node `at` that has the key. It is made if there is none.
-    ///
-    /// Entries often come in the same order as before, so the child that followed the last one is tried first.
-    #[inline(always)]
-    fn child(&mut self, at: usize, key: &Key) -> Result<usize, AllocError>
-        requires { at < length self.old }
-        ensures entered { IfOk result (IsEntered self.old self.new at key.now 0 false) }
-        ensures err { OnErr result (self.new ≡ self.old) }
-    {
-        let expected = self.nodes[at].next as usize;
-        if self.is_child(at, key, expected) {
-            self.expect_follower(at, expected);
-            return Ok(expected);
-        }
-        self.unexpected_child(at, key)
-    }
-
     /// Whether the node `number` is the child of the node `at` that has the key.
     #[inline(always)]
     fn is_child(&self, at: usize, key: &Key, number: usize) -> bool
@@ -292,31 +295,29 @@ impl Tree {
         self.expect_follower(at, child);
     }
 
-    /// The child of the node `at` that has the key and was not expected. It is made if there is none.
+    /// Enters under a key that was not expected. The room has the bytes.
     #[cold]
     #[inline(never)]
-    fn unexpected_child(&mut self, at: usize, key: &Key) -> Result<usize, AllocError>
-        requires { at < length self.old }
-        ensures entered { IfOk result (IsEntered self.old self.new at key.now 0 false) }
-        ensures err { OnErr result (self.new ≡ self.old) }
+    fn enter_unexpected(
+        &mut self,
+        room: &mut usize,
+        at: usize,
+        key: &'static str,
+        size: usize,
+        is_unique: bool,
+    ) -> Result<usize, AllocError>
+        requires within { at < length self.old }
+        requires room { size ≤ room.old }
+        requires count { total self.old + room.old + 1 ≡ 2 ^ 63 }
+        ensures entered { IfOk result
+            (AddedAt self.old self.new at key.now size is_unique room.old room.new) }
+        ensures kept { OnErr result ((self.new ≡ self.old) × (room.new ≡ room.old)) }
     {
-        let node = self.search_child(at, key)?;
+        let node = self.search_child(at, &Key::new(key))?;
         self.follow_last(at, node);
         self.cut_long_list(at);
+        self.raise(room, node, size, is_unique);
         Ok(node)
-    }
-
-    /// Cuts the list of a node's children into chunks if it is long. If memory runs out it stays one list.
-    fn cut_long_list(&mut self, at: usize)
-        requires { at < length self.old }
-        ensures { self.new ≡ self.old }
-    {
-        if let Children::Few(list) = &self.children[at]
-            && list.len() > LONGEST_LIST
-            && let Ok(chunks) = chunks_of(self.alloc, &self.nodes, list.as_slice())
-        {
-            self.children[at] = Children::Many(chunks);
-        }
     }
 
     /// The child of the node `at` that has the key, found by a search. It is made if there is none.
@@ -329,16 +330,29 @@ impl Tree {
             Ok(child) => Ok(child as usize),
             Err(place) => {
                 let node = self.nodes.len();
-                let Ok(number) = u32::try_from(node) else {
+                if node > u32::MAX as usize {
                     return Err(AllocError);
-                };
+                }
                 self.nodes.reserve(1)?;
                 self.children.reserve(1)?;
-                self.children[at].insert(place, number, key.as_str())?;
-                self.children.push(Children::new(self.alloc))?;
-                self.nodes.push(Node::new(key.copy(), at))?;
+                self.children[at].insert(self.alloc, place, node as u32, key.as_str())?;
+                self.children.push_reserved(Children::Empty);
+                self.nodes.push_reserved(Node::new(key.copy(), at));
                 Ok(node)
             }
+        }
+    }
+
+    /// Cuts the list of a node's children into chunks if it is long. If memory runs out it stays one list.
+    fn cut_long_list(&mut self, at: usize)
+        requires { at < length self.old }
+        ensures { self.new ≡ self.old }
+    {
+        if let Children::Few(list) = &self.children[at]
+            && list.len() > LONGEST_LIST
+            && let Ok(chunks) = chunks_of(self.alloc, &self.nodes, list.as_slice())
+        {
+            self.children[at] = Children::Many(chunks);
         }
     }
 }
@@ -370,23 +384,33 @@ fn find(nodes: &[Node], children: &Children, key: &Key) -> Result<u32, Place>
     ensures absent { IfErr result (λ place.
         IsKeyGap (keys_of (map shape nodes.now) (numbers children.now)) key.now (flat_place children.now place)) }
 {
-    // A key that comes in order needs one comparison.
-    if let Some((last, end)) = children.last()
-        && compare(nodes, last, key).is_lt()
-    {
-        return Err(end);
+    if let Children::Many(chunks) = children {
+        return find_in_chunks(nodes, chunks.as_slice(), key);
     }
-    match children {
-        Children::Few(list) => match find_in_list(nodes, list.as_slice(), key) {
-            Ok(number) => Ok(number),
-            Err(index) => Err(Place { chunk: 0, index }),
-        },
-        Children::Many(chunks) => find_in_chunks(nodes, chunks.as_slice(), key),
+    match find_in_list(nodes, children.as_list(), key) {
+        Ok(number) => Ok(number),
+        Err(index) => Err(Place { chunk: 0, index }),
     }
 }
 
 /// The one of some numbers whose node has the key, or the place where the key belongs among them.
 fn find_in_list(nodes: &[Node], list: &[u32], key: &Key) -> Result<u32, usize>
+    requires rise { KeysRise (keys_of (map shape nodes.now) list.now) }
+    ensures found { IfOk result (HasKey (map shape nodes.now) list.now key.now) }
+    ensures absent { IfErr result (IsKeyGap (keys_of (map shape nodes.now) list.now) key.now) }
+{
+    // A key that comes in order needs one comparison.
+    if let Some(last) = list.last()
+        && compare(nodes, *last, key).is_lt()
+    {
+        return Err(list.len());
+    }
+    search_list(nodes, list, key)
+}
+
+/// What `find_in_list` finds, by a binary search.
+#[inline(never)]
+fn search_list(nodes: &[Node], list: &[u32], key: &Key) -> Result<u32, usize>
     requires rise { KeysRise (keys_of (map shape nodes.now) list.now) }
     ensures found { IfOk result (HasKey (map shape nodes.now) list.now key.now) }
     ensures absent { IfErr result (IsKeyGap (keys_of (map shape nodes.now) list.now) key.now) }
@@ -404,6 +428,7 @@ fn find_in_list(nodes: &[Node], list: &[u32], key: &Key) -> Result<u32, usize>
 
 /// The same for numbers in chunks. The starts of the keys give a place, which is tested. If it is not the one, the keys
 /// alone are searched.
+#[inline(never)]
 fn find_in_chunks(nodes: &[Node], chunks: &[Chunk], key: &Key) -> Result<u32, Place>
     requires rise { KeysRise (keys_of (map shape nodes.now) (flat chunks.now)) }
     ensures found { IfOk result (HasKey (map shape nodes.now) (flat chunks.now) key.now) }
@@ -411,6 +436,12 @@ fn find_in_chunks(nodes: &[Node], chunks: &[Chunk], key: &Key) -> Result<u32, Pl
     ensures absent { IfErr result (λ place.
         IsKeyGap (keys_of (map shape nodes.now) (flat chunks.now)) key.now (place_in chunks.now place)) }
 {
+    // A key that comes in order needs one comparison.
+    if let Some((last, end)) = last_in(chunks)
+        && compare(nodes, last, key).is_lt()
+    {
+        return Err(end);
+    }
     let place = guess_place(nodes, chunks, key);
     match find_at(nodes, chunks, key, place) {
         Some(found) => found,
@@ -520,8 +551,8 @@ fn search_chunks(nodes: &[Node], chunks: &[Chunk], key: &Key) -> Result<u32, Pla
 }
 
 /// A list of children as chunks. The only error is that memory runs out.
-fn chunks_of(alloc: Global, nodes: &[Node], list: &[u32]) -> Result<Vec<Chunk>, AllocError>
-    ensures { IfOk result (λ chunks. flat chunks.items ≡ list.now) }
+fn chunks_of(alloc: Global, nodes: &[Node], list: &[u32]) -> Result<Box<Vec<Chunk>>, AllocError>
+    ensures { IfOk result (λ chunks. flat chunks.value.items ≡ list.now) }
 {
     let mut starts = Vec::with_capacity(alloc, list.len())?;
     for &number in list {
@@ -531,7 +562,8 @@ fn chunks_of(alloc: Global, nodes: &[Node], list: &[u32]) -> Result<Vec<Chunk>, 
         };
         starts.push(start)?;
     }
-    one_chunk(alloc, list, starts)
+    let chunks = one_chunk(alloc, list, starts)?;
+    Ok(Box::new(alloc, chunks)?)
 }
 
 /// The bytes of some nodes together.
@@ -549,6 +581,7 @@ fn bytes_of(nodes: &[Node], numbers: &[u32]) -> usize
 
 /// Appends the path `keys`, which has a warning, with its own bytes and those one key below. It is no part of the
 /// walk's own function, so that a level of the walk takes less of the stack.
+#[cold]
 #[inline(never)]
 fn push_warned(
     keys: &[&'static str],

@@ -5,7 +5,7 @@ ghost use Rattle.std.specs.Prelude.{◌≡◌, ◌<◌, ◌^◌, Some, true, fal
 ghost use Rattle.allocative_graph.specs.Collector.{State, Going, OfGraph, OfHeld, OfOwned, no_entries, nothing_held, nothing_owned, enter, leave, begin, outer_of, failed_with, IsClosed, IsAtRoot};
 ghost use Rattle.allocative_graph.specs.Graph.{total};
 ghost use Rattle.allocative_graph.specs.Visits.{HasFailed, RefusesSized, OpensEntry, ClosesEntry, OpensShared, OpensRoot, Settles, Ends, IsProfile};
-ghost use Rattle.allocative.specs.Kinds.{kind_of, HasEntered, HasMade, IsHeldSum};
+ghost use Rattle.allocative.specs.Kinds.{IsHeldSum};
 ghost use Rattle.allocative.specs.Built.{as_graph};
 ghost use Rattle.allocative.specs.Making.{Makes, Done, one};
 
@@ -22,112 +22,26 @@ enum Kind {
     Graph(GraphCollector),
     Held(HeldCollector),
     Owned(OwnedCollector),
+    Failed(Refusal),
 }
 
 /// What visitors enter into: the collector of a flame graph, of held bytes or of owned bytes.
 /// It has failed, with its first cause, or it is going. Visitors borrow it from each other.
 #[derive(Drop)]
 pub struct Collector {
-    failed: Option<Refusal>,
     kind: Kind,
 }
 
 impl Model for Collector {
     ghost use Rattle.allocative_graph.specs.Collector.{State};
     ghost use Rattle.allocative_graph.specs.Representation.Codes.{state_code};
-    ghost use Rattle.allocative.specs.Kinds.{kind_of, state_of};
+    ghost use Rattle.allocative.specs.Kinds.{state_of};
 
     ghost Value = { State };
 
     ghost coded = { state_code };
 
-    ghost view = { λ c. state_of c.failed (kind_of c.kind) };
-}
-
-impl Kind {
-    // One more entry of a declared size, and a visitor at it. It returns what `close_entry` restores.
-    #[inline(always)]
-    fn enter(&mut self, key: &Key, size: Option<usize>, is_unique: bool) -> Result<Outer, Refusal>
-        ensures ok { IfOk result
-            (λ outer. HasEntered is_unique key.now size (kind_of self.old) outer (kind_of self.new)) }
-        ensures err { IfErr result (RefusesSized is_unique size (kind_of self.old)) }
-    {
-        let Some(size) = size else {
-            return Err(Refusal::TooLarge);
-        };
-        match self {
-            Kind::Graph(graph) => {
-                graph.enter(key, size, is_unique)?;
-                Ok(Outer::none())
-            }
-            Kind::Held(held) => held.enter(size, is_unique),
-            Kind::Owned(owned) => owned.enter(size, is_unique),
-        }
-    }
-
-    // One more inline entry of a declared size, with nothing inside it.
-    #[inline(always)]
-    fn enter_simple(&mut self, key: &Key, size: Option<usize>) -> Result<(), Refusal>
-        ensures ok { OnOk result (HasMade key.now size (kind_of self.old) (kind_of self.new)) }
-        ensures err { IfErr result (RefusesSized false size (kind_of self.old)) }
-    {
-        let Some(size) = size else {
-            return Err(Refusal::TooLarge);
-        };
-        match self {
-            Kind::Graph(graph) => graph.enter_simple(key, size),
-            Kind::Held(held) => {
-                let outer = held.enter(size, false)?;
-                held.leave(outer);
-                Ok(())
-            }
-            Kind::Owned(owned) => {
-                let outer = owned.enter(size, false)?;
-                owned.leave(outer);
-                Ok(())
-            }
-        }
-    }
-
-    // One visitor less.
-    #[inline(always)]
-    fn close_entry(&mut self, outer: Outer)
-        ensures { kind_of self.new ≡ leave outer (kind_of self.old) }
-    {
-        match self {
-            Kind::Graph(graph) => graph.leave(),
-            Kind::Held(held) => held.leave(outer),
-            Kind::Owned(owned) => owned.leave(outer),
-        }
-    }
-
-    // Whether no visitor is open.
-    fn is_closed(&self) -> bool
-        ensures closed { IsTrue result ↔ IsClosed (kind_of self.now) }
-        ensures at_root { IsTrue result → IsAtRoot (kind_of self.now) }
-    {
-        match self {
-            Kind::Graph(graph) => graph.is_closed(),
-            Kind::Held(held) => held.is_closed(),
-            Kind::Owned(owned) => owned.is_closed(),
-        }
-    }
-
-    // One more root visitor, when no visitor is open. It returns what `close_entry` restores.
-    fn begin(&mut self) -> Outer
-        requires { IsClosed (kind_of self.old) }
-        ensures outer { result ≡ outer_of 0 (kind_of self.old) }
-        ensures begun { kind_of self.new ≡ begin (kind_of self.old) }
-    {
-        match self {
-            Kind::Graph(graph) => {
-                graph.begin();
-                Outer::none()
-            }
-            Kind::Held(held) => held.begin(),
-            Kind::Owned(owned) => owned.begin(),
-        }
-    }
+    ghost view = { λ c. state_of c.kind };
 }
 
 impl Collector {
@@ -137,7 +51,6 @@ impl Collector {
     {
         let graph = GraphCollector::new(alloc)?;
         Ok(Collector {
-            failed: None,
             kind: Kind::Graph(graph),
         })
     }
@@ -147,7 +60,6 @@ impl Collector {
         ensures { result ≡ Going (OfHeld nothing_held) }
     {
         Collector {
-            failed: None,
             kind: Kind::Held(HeldCollector::new()),
         }
     }
@@ -157,31 +69,30 @@ impl Collector {
         ensures { result ≡ Going (OfOwned nothing_owned) }
     {
         Collector {
-            failed: None,
             kind: Kind::Owned(OwnedCollector::new()),
         }
     }
 
     /// Fails with `refusal`, unless it has failed before. It returns the first cause.
+    #[cold]
+    #[inline(never)]
     pub(crate) fn refuse(&mut self, refusal: Refusal) -> Refusal
         ensures after { self.new ≡ failed_with refusal self.old }
         ensures cause { HasFailed self.new result }
     {
-        match self.failed {
-            Some(cause) => cause,
-            None => {
-                self.failed = Some(refusal);
-                refusal
-            }
+        if let Kind::Failed(cause) = &self.kind {
+            return *cause;
         }
+        self.kind = Kind::Failed(refusal);
+        refusal
     }
 
     /// The first cause if the collector has failed, otherwise `Ok`.
     pub(crate) fn go_on(&self) -> Result<(), Refusal>
         ensures { Makes Done self.now result self.now }
     {
-        if let Some(cause) = self.failed {
-            return Err(cause);
+        if let Kind::Failed(cause) = &self.kind {
+            return Err(*cause);
         }
         Ok(())
     }
@@ -198,14 +109,24 @@ impl Collector {
         ensures opens { OpensEntry is_unique key size self.old result self.new }
         ensures cause { IfErr result (HasFailed self.new) }
     {
-        if let Some(cause) = self.failed {
-            return Err(cause);
+        let Some(size) = size else {
+            return Err(self.refuse(Refusal::TooLarge));
+        };
+        match &mut self.kind {
+            Kind::Graph(graph) => match graph.enter(&key, size, is_unique) {
+                Ok(outer) => Ok(outer),
+                Err(refusal) => Err(self.refuse(refusal)),
+            },
+            Kind::Held(held) => match held.enter(size, is_unique) {
+                Ok(outer) => Ok(outer),
+                Err(refusal) => Err(self.refuse(refusal)),
+            },
+            Kind::Owned(owned) => match owned.enter(size, is_unique) {
+                Ok(outer) => Ok(outer),
+                Err(refusal) => Err(self.refuse(refusal)),
+            },
+            Kind::Failed(cause) => Err(*cause),
         }
-        let opened = self.kind.enter(&key, size, is_unique);
-        if let Err(refusal) = opened {
-            self.failed = Some(refusal);
-        }
-        opened
     }
 
     /// One more inline entry of a declared size, with nothing inside it. It is `TooLarge` if there is no size.
@@ -214,14 +135,18 @@ impl Collector {
         ensures made { Makes (one key size) self.old result self.new }
         ensures cause { IfErr result (HasFailed self.new) }
     {
-        if let Some(cause) = self.failed {
-            return Err(cause);
+        let Some(bytes) = size else {
+            return Err(self.refuse(Refusal::TooLarge));
+        };
+        if let Kind::Graph(graph) = &mut self.kind {
+            if let Err(refusal) = graph.enter_simple(&key, bytes) {
+                return Err(self.refuse(refusal));
+            }
+            return Ok(());
         }
-        let entered = self.kind.enter_simple(&key, size);
-        if let Err(refusal) = entered {
-            self.failed = Some(refusal);
-        }
-        entered
+        let opened = self.open_entry(key, size, false)?;
+        self.close_entry(opened);
+        Ok(())
     }
 
     /// One more pointer of `size` bytes to the shared value with the identity `id`. It returns whether the content is
@@ -235,25 +160,17 @@ impl Collector {
         ensures opens { OpensShared key size id self.old result self.new }
         ensures cause { IfErr result (HasFailed self.new) }
     {
-        if let Some(cause) = self.failed {
-            return Err(cause);
-        }
         match &mut self.kind {
+            Kind::Graph(graph) => match graph.enter_shared(&key, size, id) {
+                Ok(is_first) => Ok(is_first),
+                Err(refusal) => Err(self.refuse(refusal)),
+            },
             Kind::Held(_) => Ok(false),
             Kind::Owned(owned) => match owned.count(size) {
                 Ok(()) => Ok(false),
-                Err(refusal) => {
-                    self.failed = Some(refusal);
-                    Err(refusal)
-                }
+                Err(refusal) => Err(self.refuse(refusal)),
             },
-            Kind::Graph(graph) => match graph.enter_shared(&key, size, id) {
-                Ok(is_first) => Ok(is_first),
-                Err(refusal) => {
-                    self.failed = Some(refusal);
-                    Err(refusal)
-                }
-            },
+            Kind::Failed(cause) => Err(*cause),
         }
     }
 
@@ -262,8 +179,11 @@ impl Collector {
     pub(crate) fn close_entry(&mut self, outer: Outer)
         ensures { ClosesEntry outer self.old self.new }
     {
-        if self.failed.is_none() {
-            self.kind.close_entry(outer);
+        match &mut self.kind {
+            Kind::Graph(graph) => graph.leave(outer),
+            Kind::Held(held) => held.leave(outer),
+            Kind::Owned(owned) => owned.leave(outer),
+            Kind::Failed(_) => {}
         }
     }
 
@@ -272,26 +192,30 @@ impl Collector {
     pub(crate) fn begin(&mut self) -> Result<Outer, Refusal>
         ensures { OpensRoot self.old result self.new }
     {
-        if let Some(cause) = self.failed {
-            return Err(cause);
+        match &mut self.kind {
+            Kind::Graph(graph) if graph.is_closed() => Ok(graph.begin()),
+            Kind::Held(held) if held.is_closed() => Ok(held.begin()),
+            Kind::Owned(owned) if owned.is_closed() => Ok(owned.begin()),
+            Kind::Failed(cause) => Err(*cause),
+            _ => Err(Refusal::Open),
         }
-        if !self.kind.is_closed() {
-            return Err(Refusal::Open);
-        }
-        Ok(self.kind.begin())
     }
 
     /// The first cause if the collector has failed, `Open` if a visitor is open, and otherwise `Ok`.
     pub(crate) fn check(&self) -> Result<(), Refusal>
         ensures { Settles self.now result }
     {
-        if let Some(cause) = self.failed {
-            return Err(cause);
+        let is_closed = match &self.kind {
+            Kind::Graph(graph) => graph.is_closed(),
+            Kind::Held(held) => held.is_closed(),
+            Kind::Owned(owned) => owned.is_closed(),
+            Kind::Failed(cause) => return Err(*cause),
+        };
+        if is_closed {
+            Ok(())
+        } else {
+            Err(Refusal::Open)
         }
-        if !self.kind.is_closed() {
-            return Err(Refusal::Open);
-        }
-        Ok(())
     }
 
     /// Checks the collector of a flame graph: the first cause if it has failed, `Open` if a visitor is
@@ -302,7 +226,7 @@ impl Collector {
         self.check()?;
         match &self.kind {
             Kind::Graph(_) => Ok(()),
-            Kind::Held(_) | Kind::Owned(_) => Err(Refusal::Open),
+            _ => Err(Refusal::Open),
         }
     }
 
@@ -311,9 +235,9 @@ impl Collector {
         ensures { IsHeldSum self.now result }
     {
         match &self.kind {
-            Kind::Graph(_) => 0,
             Kind::Held(held) => held.sum(),
             Kind::Owned(owned) => owned.sum(),
+            _ => 0,
         }
     }
 
@@ -325,7 +249,7 @@ impl Collector {
         self.check()?;
         match &self.kind {
             Kind::Graph(graph) => graph.finish(),
-            Kind::Held(_) | Kind::Owned(_) => Err(Refusal::Open),
+            _ => Err(Refusal::Open),
         }
     }
 }
@@ -369,7 +293,7 @@ impl Collector {
         // Only a flame graph's collector shows contents, and it keeps its own places.
         Visitor {
             collector: self,
-            outer: Outer::none(),
+            outer: Outer::at(0),
         }
     }
 

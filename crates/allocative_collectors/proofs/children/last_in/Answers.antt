@@ -1,7 +1,9 @@
 -- The last number of the last chunk, and the place behind it.
-use Rattle.std.proofs.Common.{◌≡◌, ◌+◌, ◌-◌, ℕ, suc, length, get_or, sym, ap, ◌∙◌, arith}
+use Rattle.std.proofs.Common.{◌≡◌, ◌+◌, ◌-◌, ℕ, suc, Some, length, get_or, sym, ap, ◌∙◌, arith}
+use Rattle.std.specs.List.{slice_get}
+use Rattle.std.proofs.lemmas.Option.{slice_get-get_or}
 use Rattle.allocative_collectors.specs.declared.children.Chunk.{Chunk}
-use Rattle.allocative_collectors.specs.Chunked.{numbers_in, flat, before, chunk_at, IsLast}
+use Rattle.allocative_collectors.specs.Chunked.{numbers_in, flat, before, chunk_at}
 use Rattle.allocative_collectors.proofs.Chunks.{chunk_is, in_chunk, before_more, before_all}
 use Rattle.allocative_collectors.proofs.children.last_in.Goals as goal
 use Rattle.allocative_collectors.proofs.children.last_in.Goals.{After-len-index}
@@ -17,8 +19,9 @@ read c = ap length (chunk_is c.args.chunks.now c.in_ok-chunk.chunk c.index-chunk
     (arith, ap (λ (x : Chunk). length x.rest.items) c.index-chunks-chunk.is, c.len-index.ensures)
 
 -- the number is the last one of all, whose places end with those of the chunk
-last : (c : After-len-index) → IsLast (flat c.args.chunks.now) c.last-number.result
-    (before c.args.chunks.now (suc c.in_ok-chunk.chunk))
+last : (c : After-len-index) → let xs = flat c.args.chunks.now in
+    (slice_get xs (length xs - 1) ≡ Some c.last-number.result)
+    × (before c.args.chunks.now (suc c.in_ok-chunk.chunk) ≡ length xs)
 last c =
     let cs = c.args.chunks.now in
     let i = c.in_ok-chunk.chunk in
@@ -28,12 +31,10 @@ last c =
     let count : c.len-index.result ≡ length c.index-chunks-chunk.result.rest.items =
     omega (arith, c.len-index.ensures) in
     let index : length (flat cs) - 1 ≡ before cs i + c.len-index.result = omega (arith, read c) in
-    record {
-      some = omega (arith, there.0);
-      is = ap (λ (n : ℕ). get_or (flat cs) n 0) index
-          ∙ (there.1 ∙ sym (c.last-number.ensures ∙ (λ j. get_or (numbers_in (c.index-chunks-chunk.is j)) (sym count j) 0)));
-      behind = all;
-    }
+    let is = ap (λ (n : ℕ). get_or (flat cs) n 0) index
+    ∙ (there.1 ∙ sym (c.last-number.ensures ∙ (λ j. get_or (numbers_in (c.index-chunks-chunk.is j)) (sym count j) 0)))
+    in
+    (slice_get-get_or (flat cs) (length (flat cs) - 1) 0 (omega (arith, there.0)) ∙ ap Some is, all)
 
 pub returns-then-index-lt-LONGEST_CHUNK-clause-place : goal.returns-then-index-lt-LONGEST_CHUNK-clause-place
 returns-then-index-lt-LONGEST_CHUNK-clause-place c =
@@ -41,13 +42,18 @@ returns-then-index-lt-LONGEST_CHUNK-clause-place c =
 
 pub returns-then-index-lt-LONGEST_CHUNK-clause-last : goal.returns-then-index-lt-LONGEST_CHUNK-clause-last
 returns-then-index-lt-LONGEST_CHUNK-clause-last c =
-    let here = (goal.at.returns-then-index-lt-LONGEST_CHUNK-clause-last c).After-len-index in
-    let l = last here in
+    (last (goal.at.returns-then-index-lt-LONGEST_CHUNK-clause-last c).After-len-index).0
+
+pub returns-then-index-lt-LONGEST_CHUNK-clause-behind : goal.returns-then-index-lt-LONGEST_CHUNK-clause-behind
+returns-then-index-lt-LONGEST_CHUNK-clause-behind c =
+    let here = (goal.at.returns-then-index-lt-LONGEST_CHUNK-clause-behind c).After-len-index in
     let more = before_more c.args.chunks.now c.in_ok-chunk.chunk (omega (arith, is_last here)) in
-    record { some = l.some; is = l.is; behind = omega (arith, l.behind, read here) }
+    omega (arith, (last here).1, read here)
 
 pub returns-clause-last : goal.returns-clause-last
-returns-clause-last c =
-    let l = last (goal.at.returns-clause-last c).After-len-index in
+returns-clause-last c = (last (goal.at.returns-clause-last c).After-len-index).0
+
+pub returns-clause-behind : goal.returns-clause-behind
+returns-clause-behind c =
     let next : c.in_ok-chunk.chunk + 1 ≡ suc c.in_ok-chunk.chunk = omega arith in
-    record { some = l.some; is = l.is; behind = omega (arith, l.behind, ap (before c.args.chunks.now) next) }
+    omega (arith, (last (goal.at.returns-clause-behind c).After-len-index).1, ap (before c.args.chunks.now) next)

@@ -1,5 +1,5 @@
 -- The chunks have the numbers of the list.
-use Rattle.std.proofs.Common.{◌≡◌, sym, ap, ◌∙◌}
+use Rattle.std.proofs.Common.{◌≡◌, ℕ, Vec, Global, sym, ap, ◌∙◌}
 use Rattle.std.proofs.lemmas.List.{get_or_default}
 use Rattle.allocative_collectors.specs.Chunked.{numbers}
 use Rattle.allocative_collectors.proofs.NodeReads.{in_lists, same_lists}
@@ -14,4 +14,4 @@ invariant_of-self c =
     let read : c.index.result.now ≡ old =
     c.index.ensures ∙ (get_or_default lists c.args.at c.index.result.now old within ∙ sym c.index_mut.ensures.value) in
     same_lists items c.self.invariant c.args.at old _ within c.index_mut.ensures.value
-    (c.in-Ok.ensures ∙ (c.as_slice.ensures ∙ (ap numbers (sym c.in-Few.is) ∙ ap numbers read)))
+    (c.in-Ok.ensures ∙ (c.as_slice.ensures.value ∙ (ap (λ (v : Vec ℕ Global). v.items) c.deref-3.ensures ∙ (ap numbers (sym c.in-Few.is) ∙ ap numbers read))))

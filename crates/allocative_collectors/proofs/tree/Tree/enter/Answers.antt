@@ -1,52 +1,13 @@
 -- An entry of 0 bytes, and then one of all bytes.
-use Rattle.std.proofs.Common.{◌≡◌, ◌||◌, map, set, arith, ap, refl, ◌∙◌}
-use Rattle.allocative_collectors.proofs.Common.{shape, Listed, put, path_at, sums}
-use Rattle.allocative_collectors.proofs.Entries.{total_entered, entered_twice}
-use Rattle.allocative_collectors.proofs.NodeReads.{in_shapes, bytes_fit, raised_nodes, raise_node, tree_of}
-use Rattle.allocative_collectors.proofs.Raised.{raised, arena_raised, sums_raised}
+use Rattle.std.proofs.Common.{ap, ◌∙◌, arith}
+use Rattle.allocative_collectors.proofs.Common.{Listed, path_at, put}
+use Rattle.allocative_collectors.proofs.Entries.{entered_twice}
 use Rattle.allocative_collectors.proofs.tree.Tree.enter.Goals as goal
-use Rattle.allocative_collectors.proofs.tree.Tree.enter.Goals.{then-entered, else-entered, Joined-entered}
 
-pub overflow_add-entered : goal.overflow_add-entered
-overflow_add-entered c =
-    let le = bytes_fit c.self.inside.nodes.items c.self.view_is c.in_ok-node.node c.in_ok-node.ensures.entered.within
-    c.index_mut-entered.result.now c.index_mut-entered.ensures.value in
-    omega (arith, c.requires.count, total_entered c.in_ok-node.ensures.entered, le)
-
--- A step of `enter`: the new mark says whether the node was unique before or the entry is.
-mark : (c : Joined-entered) → c.if-entered.entered ≡ (c.index_mut-entered.result.now.is_unique || c.args.is_unique)
-mark c = elim c.if-entered.branch [
-  | then-entered w ↦ grind arith
-  | else-entered w ↦ grind arith
-]
-
--- the nodes after the write
-written : (c : Joined-entered) → map shape
-    (set c.self.inside.nodes.items c.in_ok-node.node
-    (raise_node c.args.size c.if-entered.entered c.index_mut-entered.result.now))
-    ≡ raised (map shape c.self.inside.nodes.items) c.in_ok-node.node c.args.size c.args.is_unique
-written c = raised_nodes c.self.inside.nodes.items c.self.view_is c.in_ok-node.node c.in_ok-node.ensures.entered.within
-    c.index_mut-entered.result.now c.index_mut-entered.ensures.value c.args.size c.args.is_unique c.if-entered.entered
-    (mark c)
-
-pub invariant_of-self : goal.invariant_of-self
-invariant_of-self c =
-    let items = c.self.inside.nodes.items in
-    let entered = c.in_ok-node.ensures.entered in
-    tree_of _ (written (goal.at.invariant_of-self c).Joined-entered) refl
-    (arena_raised (map shape items) c.self.invariant.arena c.in_ok-node.node entered.not_root
-    (in_shapes items c.in_ok-node.node c.self.view_is entered.within) c.args.size c.args.is_unique)
-
-pub returns-clause-entered : goal.returns-clause-entered
-returns-clause-entered c =
-    let items = c.self.inside.nodes.items in
-    let node = c.in_ok-node.node in
-    let first = c.in_ok-node.ensures.entered in
-    let second = sums_raised (map shape items) c.self.invariant.arena node first.not_root
-    (in_shapes items node c.self.view_is first.within) c.args.size c.args.is_unique in
-    record {
-      fits = omega arith;
-      count = omega arith;
-      is = entered_twice _ _ _ _ _ _ _ _ first (ap sums (written (goal.at.returns-clause-entered c).Joined-entered)
-          ∙ (second ∙ ap (λ (s : Listed). put node (path_at s node) c.args.size c.args.is_unique s) c.self.view_is));
-    }
+pub returns-then-is_child-clause-entered : goal.returns-then-is_child-clause-entered
+returns-then-is_child-clause-entered c = record {
+  fits = omega arith;
+  count = c.raise.ensures.room;
+  is = entered_twice _ _ _ _ _ _ _ _ (c.is_child.ensures.0 c.if-is_child.true)
+      (c.raise.ensures.raised ∙ ap (λ (s : Listed). put c.index.result.now.next (path_at s c.index.result.now.next) c.args.size c.args.is_unique s) c.expect_follower.ensures);
+}

@@ -1,11 +1,12 @@
 -- The child that was found, and the new one.
-use Rattle.std.proofs.Common.{◌≡◌, ℕ, false, List, length, map, set, get_or, [], ◌∷◌, ◌++◌, sym}
+use Rattle.std.proofs.Common.{◌≡◌, ℕ, false, List, length, map, set, get_or, [], ◌∷◌, ◌++◌, sym, refl}
 use Rattle.std.proofs.Common.{ap, subst, subst₂, ◌∙◌}
 use Rattle.allocative_collectors.proofs.Common.{HasKey, shape, leaf, Listed, IsEntered, IsTree, IsChild, KeysRise}
 use Rattle.allocative_collectors.proofs.Common.{keys_of, keys_at, children_at, IsKeyGap, sums}
 use Rattle.std.proofs.lemmas.List.{length-map, get_or_default}
 use Rattle.std.specs.List.{insert}
 use Rattle.allocative_collectors.specs.declared.children.Children.{Children}
+use Rattle.allocative_collectors.specs.declared.children.Children.TheVariants.{Empty}
 use Rattle.allocative_collectors.specs.declared.tree.Node.{Node}
 use Rattle.allocative_collectors.specs.Chunked.{numbers, IsPlace, flat_place}
 use Rattle.allocative_collectors.proofs.NodeReads.{in_shapes, in_lists, children_read, grown_nodes, grown_lists, tree_of}
@@ -13,7 +14,7 @@ use Rattle.allocative_collectors.proofs.NodeReads.{same_lists}
 use Rattle.allocative_collectors.proofs.Grown.{grown, with_child, arena_grown}
 use Rattle.allocative_collectors.proofs.Child.{was_entered, now_entered}
 use Rattle.allocative_collectors.proofs.tree.Tree.search_child.Goals as goal
-use Rattle.allocative_collectors.proofs.tree.Tree.search_child.Goals.{After-index, After-index_mut, In_ok-push-in-Err-2}
+use Rattle.allocative_collectors.proofs.tree.Tree.search_child.Goals.{After-index, After-index_mut, After-push_reserved-in-Err}
 
 -- A step of `search_child`: the list that is searched has the numbers of the node's children.
 searched : (c : After-index) →
@@ -71,37 +72,36 @@ invariant_of-self-in_err-insert-in-Err c =
     c.in_err-insert-in-Err.ensures.err)
 
 -- where the new number is put
-abbrev place : In_ok-push-in-Err-2 → ℕ
+abbrev place : After-push_reserved-in-Err → ℕ
 place c = flat_place c.index_mut.result.now c.in-Err.place
 
 -- the number is that of the next node
-number : (c : In_ok-push-in-Err-2) → c.in-Ok-try_from.number ≡ length (map shape c.self.inside.nodes.items)
-number c = c.in-Ok-try_from.ensures.1 ∙ (c.len-node.ensures ∙ (c.self.inside.nodes.ok.0
-    ∙ sym (length-map c.self.inside.nodes.items shape)))
+number : (c : After-push_reserved-in-Err) → c.len-node.result ≡ length (map shape c.self.inside.nodes.items)
+number c = c.len-node.ensures ∙ (c.self.inside.nodes.ok.0 ∙ sym (length-map c.self.inside.nodes.items shape))
 
 -- the nodes and the lists after all writes
-made_nodes : (c : In_ok-push-in-Err-2) → map shape c.push-in-Err.new.self.items
+made_nodes : (c : After-push_reserved-in-Err) → map shape c.push_reserved-in-Err.new.self.items
     ≡ grown (map shape c.self.inside.nodes.items) c.args.at c.args.key.now
 made_nodes c =
-    ap (map shape) c.in_ok-push-in-Err-2.ensures.items
-    ∙ ((λ j. map shape (c.in_ok-reserve-in-Err.ensures.items j ++ c.new-in-Err.result ∷ []))
-    ∙ grown_nodes c.self.inside.nodes.items c.args.at c.args.key.now c.new-in-Err.result
-    (c.new-in-Err.ensures ∙ ap (leaf c.args.at) c.copy.ensures))
+    ap (map shape) c.push_reserved-in-Err.ensures.items
+    ∙ ((λ j. map shape (c.in_ok-reserve-in-Err.ensures.items j ++ c.new.result ∷ []))
+    ∙ grown_nodes c.self.inside.nodes.items c.args.at c.args.key.now c.new.result
+    (c.new.ensures ∙ ap (leaf c.args.at) c.copy.ensures))
 
-made_lists : (c : In_ok-push-in-Err-2) →
-    c.index_mut.result.now ≡ get_or c.self.inside.children.items c.args.at c.index_mut.result.now → map numbers c.push.new.self.items
+made_lists : (c : After-push_reserved-in-Err) →
+    c.index_mut.result.now ≡ get_or c.self.inside.children.items c.args.at c.index_mut.result.now → map numbers c.push_reserved.new.self.items
     ≡ with_child (map numbers c.self.inside.children.items) c.args.at (place c)
     (length (map shape c.self.inside.nodes.items))
 made_lists c is =
     let old = c.index_mut.result.now in
-    ap (map numbers) c.in_ok-push-in-Err.ensures.items
-    ∙ ((λ j. map numbers (set (c.in_ok-reserve-in-Err-2.ensures.items j) c.args.at c.insert.new.self ++ c.new.result ∷ []))
-    ∙ grown_lists c.self.inside.children.items c.args.at old c.insert.new.self c.new.result
-    (in_lists c.self.inside.nodes.items c.self.invariant c.args.at c.self.view_is c.requires) is c.new.ensures (place c) _
+    ap (map numbers) c.push_reserved.ensures.items
+    ∙ ((λ j. map numbers (set (c.in_ok-reserve-in-Err-2.ensures.items j) c.args.at c.insert.new.self ++ Empty ∷ []))
+    ∙ grown_lists c.self.inside.children.items c.args.at old c.insert.new.self Empty
+    (in_lists c.self.inside.nodes.items c.self.invariant c.args.at c.self.view_is c.requires) is refl (place c) _
     (c.in_ok-insert-in-Err.ensures.ok ∙ ap (insert (numbers old) (place c)) (number c)))
 
 -- the gap that was found, among the keys of the children
-gap : (c : In_ok-push-in-Err-2) → c.index.result.now ≡ c.index_mut.result.now →
+gap : (c : After-push_reserved-in-Err) → c.index.result.now ≡ c.index_mut.result.now →
     children_at (map numbers c.self.inside.children.items) c.args.at ≡ numbers c.index.result.now → IsKeyGap
     (keys_at (map shape c.self.inside.nodes.items) (map numbers c.self.inside.children.items) c.args.at) c.args.key.now
     (place c)
@@ -119,20 +119,18 @@ pub invariant_of-self-in-Err : goal.invariant_of-self-in-Err
 invariant_of-self-in-Err c =
     let items = c.self.inside.nodes.items in
     let at = goal.at.invariant_of-self-in-Err c in
-    let here = at.In_ok-push-in-Err-2 in
+    let here = at.After-push_reserved-in-Err in
     tree_of _ (made_nodes here) (made_lists here (read at.After-index_mut)) (arena_grown (map shape items) c.self.invariant.arena c.args.at
     (in_shapes items c.args.at c.self.view_is c.requires) c.args.key.now (place here)
     (gap here (same at.After-index_mut) (searched at.After-index)))
 
-pub returns-in_ok-push-in-Err-2-clause-entered : goal.returns-in_ok-push-in-Err-2-clause-entered
-returns-in_ok-push-in-Err-2-clause-entered c =
+pub returns-in_ok-insert-in-Err-clause-entered : goal.returns-in_ok-insert-in-Err-clause-entered
+returns-in_ok-insert-in-Err-clause-entered c =
     let items = c.self.inside.nodes.items in
-    let at = goal.at.returns-in_ok-push-in-Err-2-clause-entered c in
-    let here = at.In_ok-push-in-Err-2 in
-    let index : length (map shape items) ≡ c.len-node.result =
-    length-map items shape ∙ sym (c.len-node.ensures ∙ c.self.inside.nodes.ok.0) in
+    let at = goal.at.returns-in_ok-insert-in-Err-clause-entered c in
+    let here = at.After-push_reserved-in-Err in
     let now = now_entered (map shape items) c.self.invariant.arena c.args.at
     (in_shapes items c.args.at c.self.view_is c.requires) c.args.key.now (place here)
     (gap here (same at.After-index_mut) (searched at.After-index)) in
     subst (λ (e : Listed × (Listed × ℕ)). IsEntered e.0 e.1.0 c.args.at c.args.key.now 0 false e.1.1)
-    (λ j. (c.self.view_is j, (sums (sym (made_nodes here) j), index j))) now
+    (λ j. (c.self.view_is j, (sums (sym (made_nodes here) j), sym (number here) j))) now
