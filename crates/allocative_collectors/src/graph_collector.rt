@@ -1,7 +1,7 @@
 //! The state of a flame graph's collector: the arena of paths, the identities met, and where its visitors are.
 ghost use Rattle.std.specs.Prelude.{◌≡◌, ◌+◌, ◌^◌, ◌<◌, [], false, IfOk, IfErr, OnOk, OnErr, IsTrue, ◌↔◌};
 ghost use Rattle.allocative_graph.specs.Sums.{bytes_entered};
-ghost use Rattle.allocative_graph.specs.Collector.{OfGraph, no_outer, no_entries, enter_live, leave_live, go, IsClosed, IsAtRoot};
+ghost use Rattle.allocative_graph.specs.Collector.{OfGraph, no_entries, enter_live, leave_live, go, IsClosed, IsAtRoot};
 ghost use Rattle.allocative_graph.specs.Graph.{total as graph_total};
 ghost use Rattle.allocative_graph.specs.Visits.{Refuses, IsProfile};
 ghost use Rattle.allocative_collectors.specs.Meets.{MeetsAs};
@@ -9,7 +9,6 @@ ghost use Rattle.allocative_collectors.specs.Meets.{MeetsAs};
 use crate::output::FlameGraphOutput;
 use crate::tree::Tree;
 use allocative_graph::key::Key;
-use allocative_graph::outer::Outer;
 use allocative_graph::refusal::Refusal;
 use allocative_graph::shared::Identity;
 use std::alloc::{AllocError, Global};
@@ -25,6 +24,8 @@ pub struct GraphCollector {
     tree: Tree,
     // The node of the current path.
     current: usize,
+    // Where the last entry was entered, which is mostly the parent of the current node: a guess.
+    outside: usize,
     // For each open content, the node that was current when it was entered. The innermost content comes last.
     places: Vec<usize>,
     met: HashSet<Identity>,
@@ -58,6 +59,7 @@ impl GraphCollector {
         Ok(GraphCollector {
             tree,
             current: 0,
+            outside: 0,
             places: Vec::new(alloc),
             met: HashSet::new(alloc),
             is_rooted: false,
@@ -65,22 +67,22 @@ impl GraphCollector {
         })
     }
 
-    /// One more entry of `size` bytes under the key, unique or inline, and a visitor at it. It returns what `leave`
-    /// restores.
+    /// One more entry of `size` bytes under the key, unique or inline, and a visitor at it.
     ///
     /// It returns `TooLarge` exactly if the bytes of all entries would exceed `isize::MAX`, and otherwise fails only
     /// with `Memory`: if memory runs out, or if there would be more than 2^32 - 1 paths. The bound on bytes is
     /// tested before memory is allocated. An error changes nothing.
     #[inline(always)]
-    pub fn enter(&mut self, key: &Key, size: usize, is_unique: bool) -> Result<Outer, Refusal>
-        ensures ok { IfOk result (λ outer. (bytes_entered self.old.sums + size < 2 ^ 63)
-            × (outer ≡ no_outer) × (self.new ≡ enter_live is_unique key.now size self.old)) }
+    pub fn enter(&mut self, key: &Key, size: usize, is_unique: bool) -> Result<(), Refusal>
+        ensures ok { OnOk result ((bytes_entered self.old.sums + size < 2 ^ 63)
+            × (self.new ≡ enter_live is_unique key.now size self.old)) }
         ensures err { IfErr result (Refuses is_unique size (OfGraph self.old)) }
         ensures kept { OnErr result (self.new ≡ self.old) }
     {
         let at = self.current;
         self.current = self.tree.enter(&mut self.room, at, key, size, is_unique)?;
-        Ok(Outer::at(at))
+        self.outside = at;
+        Ok(())
     }
 
     /// One more inline entry of `size` bytes under the key, with nothing inside it: no visitor goes there.
@@ -122,14 +124,14 @@ impl GraphCollector {
 
     /// One visitor less: back to where the visitor outside it is. It allocates nothing.
     ///
-    /// The kept place is mostly the right one. Then the processor need not wait for the node to be read.
+    /// If the guess is right, the processor need not wait for the node to be read.
     #[inline(always)]
-    pub fn leave(&mut self, outer: Outer)
+    pub fn leave(&mut self)
         ensures { self.new ≡ leave_live self.old }
     {
-        let place = outer.place();
+        let outside = self.outside;
         match self.tree.parent(self.current) {
-            Some(parent) if parent == place => self.current = place,
+            Some(parent) if parent == outside => self.current = outside,
             Some(parent) => self.current = parent,
             None => self.leave_root(),
         }
@@ -160,14 +162,12 @@ impl GraphCollector {
         }
     }
 
-    /// One more root visitor, when no visitor is open. It returns what `leave` restores.
-    pub fn begin(&mut self) -> Outer
+    /// One more root visitor, when no visitor is open.
+    pub fn begin(&mut self)
         requires { IsClosed (OfGraph self.old) }
-        ensures outer { result ≡ no_outer }
-        ensures begun { self.new ≡ go [] self.old }
+        ensures { self.new ≡ go [] self.old }
     {
         self.is_rooted = true;
-        Outer::at(0)
     }
 
     /// The graph of all entries, with the warnings. The only error is that memory runs out.

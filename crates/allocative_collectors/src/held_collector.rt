@@ -45,7 +45,10 @@ impl HeldCollector {
     fn outer(&self) -> Outer
         ensures { result ≡ outer_of 0 (OfHeld self.now) }
     {
-        Outer::of_held(self.is_in_unique)
+        Outer {
+            is_unique: self.is_in_unique,
+            spare: 0,
+        }
     }
 
     /// One more entry of `size` bytes, unique or inline, and a visitor at it. It returns what `leave` restores.
@@ -80,7 +83,7 @@ impl HeldCollector {
         ensures { self.new ≡ leave_holding outer self.old }
     {
         self.visitors = self.visitors.saturating_sub(1);
-        self.is_in_unique = outer.is_unique();
+        self.is_in_unique = outer.is_unique;
     }
 
     /// Whether no visitor is open.

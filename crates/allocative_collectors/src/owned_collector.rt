@@ -46,7 +46,10 @@ impl OwnedCollector {
     fn outer(&self) -> Outer
         ensures { result ≡ outer_of 0 (OfOwned self.now) }
     {
-        Outer::of_owned(self.spare)
+        Outer {
+            is_unique: false,
+            spare: self.spare,
+        }
     }
 
     /// One more entry of `size` bytes with nothing inside it, and no visitor at it.
@@ -90,7 +93,7 @@ impl OwnedCollector {
         ensures { self.new ≡ leave_owning outer self.old }
     {
         self.visitors = self.visitors.saturating_sub(1);
-        self.spare = outer.spare();
+        self.spare = outer.spare;
     }
 
     /// Whether no visitor is open and no bytes are spare, as is so once each visitor was left.

@@ -10,6 +10,7 @@ use Rattle.allocative_graph.specs.Forest.{met_after, Fits}
 use Rattle.allocative_graph.specs.Sums.{Sums, add_all}
 use Rattle.allocative_graph.specs.Held.{held, inline_bytes, ShowsNoContent}
 use Rattle.allocative_graph.specs.Owned.{direct, owned}
+use Rattle.allocative_graph.specs.declared.outer.Outer as declared
 
 -- The collector of a flame graph: the sums of what was entered, the identities met, the current path, the paths to go
 -- back to, and the number of open visitors, which were entered and not left.
@@ -36,9 +37,8 @@ pub record Owning : Type 0 where
   pub open_visitors : ℕ
 
 -- What leaving an entry restores: whether the entry outside is unique, and its spare bytes.
-pub record Outer : Type 0 where
-  pub is_unique : Bool
-  pub spare : ℕ
+abbrev pub Outer : Type 0
+Outer = declared.Outer
 
 -- What is restored if nothing outside counts.
 abbrev pub no_outer : Outer

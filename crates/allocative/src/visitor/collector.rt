@@ -114,7 +114,7 @@ impl Collector {
         };
         match &mut self.kind {
             Kind::Graph(graph) => match graph.enter(&key, size, is_unique) {
-                Ok(outer) => Ok(outer),
+                Ok(()) => Ok(Outer::none()),
                 Err(refusal) => Err(self.refuse(refusal)),
             },
             Kind::Held(held) => match held.enter(size, is_unique) {
@@ -180,7 +180,7 @@ impl Collector {
         ensures { ClosesEntry outer self.old self.new }
     {
         match &mut self.kind {
-            Kind::Graph(graph) => graph.leave(outer),
+            Kind::Graph(graph) => graph.leave(),
             Kind::Held(held) => held.leave(outer),
             Kind::Owned(owned) => owned.leave(outer),
             Kind::Failed(_) => {}
@@ -193,7 +193,10 @@ impl Collector {
         ensures { OpensRoot self.old result self.new }
     {
         match &mut self.kind {
-            Kind::Graph(graph) if graph.is_closed() => Ok(graph.begin()),
+            Kind::Graph(graph) if graph.is_closed() => {
+                graph.begin();
+                Ok(Outer::none())
+            }
             Kind::Held(held) if held.is_closed() => Ok(held.begin()),
             Kind::Owned(owned) if owned.is_closed() => Ok(owned.begin()),
             Kind::Failed(cause) => Err(*cause),
@@ -293,7 +296,7 @@ impl Collector {
         // Only a flame graph's collector shows contents, and it keeps its own places.
         Visitor {
             collector: self,
-            outer: Outer::at(0),
+            outer: Outer::none(),
         }
     }
 

@@ -4,8 +4,8 @@ use Rattle.allocative_collectors.proofs.Common.{Live, go, live}
 use Rattle.allocative_collectors.proofs.Collect.{closed, at_root}
 use Rattle.allocative_collectors.proofs.graph_collector.GraphCollector.begin.Goals as goal
 
-pub returns-clause-begun : goal.returns-clause-begun
-returns-clause-begun c =
+pub returns : goal.returns
+returns c =
     let i = c.self.inside in
     let out = closed i.tree i.current i.places.items i.is_rooted
     (ap (λ (v : Live). v.open_visitors) c.self.view_is ∙ c.requires) in

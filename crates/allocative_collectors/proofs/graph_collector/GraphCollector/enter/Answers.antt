@@ -1,7 +1,6 @@
 -- The tree has one more entry, and the current place is that of the entry.
 use Rattle.std.proofs.Common.{◌≡◌, ◌+◌, ◌<◌, ◌^◌, subst}
 use Rattle.allocative_collectors.proofs.Common.{bytes_entered, Live, enter_live, live}
-use Rattle.allocative_graph.specs.Collector.{no_outer}
 use Rattle.allocative_collectors.proofs.Collect.{placed_added, fits_map, gone_down}
 use Rattle.allocative_collectors.proofs.graph_collector.GraphCollector.enter.Goals as goal
 
@@ -13,7 +12,7 @@ pub returns-clause-ok : goal.returns-clause-ok
 returns-clause-ok c =
     let i = c.self.inside in
     let ok = c.in_ok-self-inside in
-    subst (λ (v : Live). (bytes_entered v.sums + c.args.size < 2 ^ 63) × (c.at.result ≡ no_outer)
+    subst (λ (v : Live). (bytes_entered v.sums + c.args.size < 2 ^ 63)
     × (live c.enter.new.self i.met.keys ok.field-0 i.places.items i.is_rooted
     ≡ enter_live c.args.is_unique c.args.key.now c.args.size v)) c.self.view_is
-    (fits_map c.self.invariant ok.ensures.entered, c.at.ensures, gone_down c.self.invariant ok.ensures.entered i.met.keys i.is_rooted)
+    (fits_map c.self.invariant ok.ensures.entered, gone_down c.self.invariant ok.ensures.entered i.met.keys i.is_rooted)

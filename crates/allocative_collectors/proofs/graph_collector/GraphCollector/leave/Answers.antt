@@ -8,9 +8,9 @@ use Rattle.allocative_collectors.proofs.graph_collector.GraphCollector.leave.Goa
 pub returns-in-Some : goal.returns-in-Some
 returns-in-Some c =
     let i = c.self.inside in
-    let above = subst (IsAbove i.tree i.current) c.if-parent-place.true c.in-Some.ensures.above in
-    came_back i.tree i.met.keys c.place-place.result i.current i.places.items i.places.items i.is_rooted
-    (one_up i.tree i.met.keys c.place-place.result i.current i.places.items i.is_rooted above.key above.path)
+    let above = subst (IsAbove i.tree i.current) c.if-parent-outside.true c.in-Some.ensures.above in
+    came_back i.tree i.met.keys i.outside i.current i.places.items i.places.items i.is_rooted
+    (one_up i.tree i.met.keys i.outside i.current i.places.items i.is_rooted above.key above.path)
     ∙ ap leave_live c.self.view_is
 
 pub returns-in-Some-2 : goal.returns-in-Some-2

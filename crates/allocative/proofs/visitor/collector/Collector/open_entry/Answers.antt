@@ -9,7 +9,7 @@ pub returns-in-Ok-clause-opens : goal.returns-in-Ok-clause-opens
 returns-in-Ok-clause-opens c =
     let ok = c.in-Ok.ensures.ok in
     opens_entered c.in-Some.size (OfGraph c.in-Graph.graph) (OfGraph c.enter.new.self) c.in-Some.is
-    (sym (rw c.in-Graph.is at c.self.view_is)) ok.0 ok.1 (ap OfGraph ok.2) refl
+    (sym (rw c.in-Graph.is at c.self.view_is)) ok.0 c.none.ensures (ap OfGraph ok.1) refl
 
 pub returns-in-Ok-enter-clause-opens : goal.returns-in-Ok-enter-clause-opens
 returns-in-Ok-enter-clause-opens c =
