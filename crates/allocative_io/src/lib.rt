@@ -31,7 +31,8 @@ impl From<AllocError> for Unread {
 /// Reads to the end of the input. It returns `Unread::Failed` if a read fails, and `Unread::Memory` if memory runs out,
 /// which an empty input never causes. An interrupted read is repeated.
 pub fn read_input<R: Read>(alloc: Global, input: &mut R) -> Result<Vec<u8>, Unread>
-    ensures ok { IfOk result (λ bytes. IfSome (R.remaining input.old) (λ known. bytes.items ≡ known)) }
+    ensures ok { IfOk result (λ bytes.
+        IfSome (R.remaining input.old) (λ known. bytes.items ≡ known)) }
     ensures err { IfErr result (StopsReading (R.remaining input.old)) }
 {
     let mut bytes = Vec::new(alloc);

@@ -121,7 +121,8 @@ fn draw_wide(
     paths: usize,
     options: &Options<'_>,
 ) -> Result<String, AllocError>
-    ensures { ReturnsText result (drawing_of subject options.now (map frame_data frames.now) paths) }
+    ensures { ReturnsText result
+        (drawing_of subject options.now (map frame_data frames.now) paths) }
 {
     let bottom = 64 + 18 * levels(frames);
     let height = bottom + 8 + 16 * options.warned.len() as u128;

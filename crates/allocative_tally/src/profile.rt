@@ -37,7 +37,8 @@ pub fn profile_counted_values<T: Tallied>(
     roots: &[T],
 ) -> Result<FlameGraphOutput, Refusal>
     ensures profile { IfOk result (IsProfileOf (each_shows T.may_show roots.now)) }
-    ensures refused { IfErr result (MayRefuseProfile T.is_strict (each_shows T.may_show roots.now)) }
+    ensures refused { IfErr result
+        (MayRefuseProfile T.is_strict (each_shows T.may_show roots.now)) }
     ensures total { IfOk result (λ o. total o.graph < 2 ^ 63) }
 {
     profile_value(alloc, &CountedRoots(roots))

@@ -63,7 +63,8 @@ pub fn profile_values<T: Allocative>(
     roots: &[T],
 ) -> Result<FlameGraphOutput, Refusal>
     ensures profile { IfOk result (IsProfileOf (each_shows T.may_show roots.now)) }
-    ensures refused { IfErr result (MayRefuseProfile T.is_strict (each_shows T.may_show roots.now)) }
+    ensures refused { IfErr result
+        (MayRefuseProfile T.is_strict (each_shows T.may_show roots.now)) }
     ensures total { IfOk result (λ o. total o.graph < 2 ^ 63) }
 {
     let mut builder = FlameGraphBuilder::new(alloc)?;

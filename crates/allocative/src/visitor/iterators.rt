@@ -44,7 +44,8 @@ pub(crate) trait EnterItem<A>: Drop {
 
     /// Enters the item at the visitor.
     fn enter_item(&self, item: A, visitor: &mut Visitor<'_>) -> Result<(), Refusal>
-        ensures { Entered is_strict (may_show self.now (seen item)) visitor.old visitor.new result };
+        ensures { Entered is_strict (may_show self.now (seen item))
+            visitor.old visitor.new result };
 }
 
 /// What the item shows, with no entry of its own.
