@@ -1,30 +1,31 @@
 -- What a graph has at a path and below it, by the children of its root.
 use Rattle.std.proofs.Common.{sum_by, ◌&&◌, ◌≡◌, ℕ, zero, suc, ◌+◌, ◌<◌, true, false, cond, List, [], ◌∷◌, ◌++◌, Option}
-use Rattle.std.proofs.Common.{Some, None, IfNone, length, get_or, take, drop, refl, sym, ap, subst, subst₂, ◌∙◌, arith}
-use Rattle.std.proofs.Common.{add-zero, zero-add, take-append-drop}
-use Rattle.allocative_graph.proofs.Common.{is_some, unwrap_or, eq_by_cmp, is_eq, ordering_reverse, Less}
+use Rattle.std.proofs.Common.{Some, None, IfNone, length, get_or, refl, sym, ap, subst, subst₂, ◌∙◌, arith}
+use Rattle.std.proofs.Common.{add-zero, zero-add}
+use Rattle.std.proofs.Common.{⊎_elim, Ordering}
+use Rattle.allocative_graph.proofs.Common.{is_some, unwrap_or, eq_by_cmp, is_eq, Less}
 use Rattle.allocative_graph.proofs.Common.{nat_list_cmp_total, get, entries, len, len-entries, len-child, Child, Key}
 use Rattle.allocative_graph.proofs.Common.{Path, key_cmp, Graph, IsTree, IsBehind, HasNothing, begins, total_at, node}
 use Rattle.allocative_graph.proofs.Common.{IsNode, rows_of, rows_of_child, entries-node, size_under, InOrder, IsFound}
-use Rattle.allocative_graph.proofs.Common.{IsChildGap, AllAbove, All-from_recursion, fold-map, map-append, sum_by-cons}
-use Rattle.allocative_graph.proofs.Common.{tied_itself, keys_of}
+use Rattle.allocative_graph.proofs.Common.{IsChildGap, AllAbove, fold-map, sum_by-cons}
+use Rattle.allocative_graph.proofs.Common.{tied_itself}
 use Rattle.std.proofs.lemmas.List.Folds.{fold_stays, length-flat_map-take}
 use Rattle.std.proofs.lemmas.List.Sums.{sum_by-append}
 use Rattle.std.specs.List.Sorted.{IsStrictlySortedBy}
-use Rattle.allocative_graph.proofs.Basics.{each-append, each-implies, each-map}
+use Rattle.std.proofs.lemmas.Bool.{cases_lt}
+use Rattle.std.proofs.lemmas.Cmp.{eq_by_cmp_equiv}
+use Rattle.allocative_graph.proofs.ChildOrder.{rises}
 use Rattle.allocative_graph.proofs.ChildSizes.{Lacks, lacks-above, size_under-lacks}
 use Rattle.allocative_graph.proofs.ChildLookup.{get-under}
 
--- Two keys that are in order differ.
-other_than : (l k : Key) → key_cmp l k ≡ Less → eq_by_cmp key_cmp k l ≡ false
-other_than l k h = ap is_eq (nat_list_cmp_total.antisymm k l ∙ ap ordering_reverse h)
+-- Keys that compare as other than equal differ, whichever comes first.
+other_than : {o : Ordering} (l k : Key) → key_cmp l k ≡ o → eq_by_cmp key_cmp k l ≡ is_eq o
+other_than l k h = (eq_by_cmp_equiv nat_list_cmp_total).symm k l ∙ ap is_eq h
 
 -- A key that was not found is none of theirs.
 gap-lacks : (cs : List Child) (i : ℕ) (k : Key) → IsChildGap cs k i → Lacks k cs
-gap-lacks cs i k g =
-    subst (Lacks k) (take-append-drop i cs) (rw (map-append (λ (c : Child). c.key) (take i cs) (drop i cs))
-    (each-append _ (keys_of (take i cs)) (keys_of (drop i cs))
-    (each-implies _ _ (λ l. other_than l k) (keys_of (take i cs)) g.below) (lacks-above k (drop i cs) g.above)))
+gap-lacks cs i k g = λ j d w. ⊎_elim (λ low. other_than _ k (g.between.0 j d (omega arith) low))
+    (λ high. other_than _ k (g.between.1 j d high w)) (cases_lt j i)
 
 -- ---- what is read under a key: F passes over children with other keys, and reads the child with the key
 module _ {A : Type 0} (F : List Child → A) (one : Child → A) (k : Key)
@@ -32,7 +33,7 @@ module _ {A : Type 0} (F : List Child → A) (one : Child → A) (k : Key)
   -- If no child has the key, there is what there is without children.
   read-lacks : (cs : List Child) → Lacks k cs → F cs ≡ F []
   read-lacks [] h = refl
-  read-lacks (c ∷ cs) h = past c cs h.0 ∙ read-lacks cs h.1
+  read-lacks (c ∷ cs) h = past c cs (h 0 c (omega arith)) ∙ read-lacks cs (λ i d w. h (suc i) d (omega arith))
 
   -- If the key was found, there is what its child has.
   read-found : ((c : Child) (cs : List Child) → eq_by_cmp key_cmp k c.key ≡ true → F cs ≡ F [] → F (c ∷ cs) ≡ one c)
@@ -44,9 +45,7 @@ module _ {A : Type 0} (F : List Child → A) (one : Child → A) (k : Key)
       here c cs (subst (λ l. eq_by_cmp key_cmp k l ≡ true) (sym s) (ap is_eq (tied_itself nat_list_cmp_total k)))
       (read-lacks cs (lacks-above k cs (subst (λ l. AllAbove cs l) s o.0)))
   read-found here (c ∷ cs) (suc i) d o w s =
-      let above = All-from_recursion (λ (e : Child). key_cmp c.key e.key ≡ Less) cs
-      (each-map (λ l. key_cmp c.key l ≡ Less) (λ (e : Child). e.key) cs o.0) i d (omega arith) in
-      past c cs (other_than c.key k (subst (λ l. key_cmp c.key l ≡ Less) s above))
+      past c cs (other_than c.key k (subst (λ l. key_cmp c.key l ≡ Less) s (rises (c ∷ cs) 0 (suc i) d o (omega arith) w)))
       ∙ read-found here cs i d o.1 (omega arith) s
 
 -- The sum of the sizes of the rows whose paths begin with q.
@@ -55,7 +54,7 @@ whole_in rs q = sum_by (λ e. cond (begins q e.0) e.1 0) rs
 
 module _ (k : Key) (p : Path) where
   -- The sizes below a key that was found are those of its child.
-  size_under-found : (cs : List Child) (i : ℕ) (d : Child) → InOrder cs → i < length cs → (get_or cs i d).key ≡ k →
+  pub size_under-found : (cs : List Child) (i : ℕ) (d : Child) → InOrder cs → i < length cs → (get_or cs i d).key ≡ k →
       size_under cs k p ≡ get (get_or cs i d).graph p
   size_under-found = read-found (λ cs. size_under cs k p) (λ c. get c.graph p) k
       (λ c cs e. ap (λ b. cond b (get c.graph p) (size_under cs k p)) e)

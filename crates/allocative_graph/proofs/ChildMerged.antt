@@ -1,21 +1,21 @@
 -- Merging children: what the next child adds, what is there at the end, and one child put among others.
-use Rattle.std.proofs.Common.{◌≡◌, ℕ, ◌+◌, ◌<◌, ◌≤◌, ◌^◌, ◌&&◌, Bool, true, false, cond, List, [], ◌∷◌, ◌++◌, length}
+use Rattle.std.proofs.Common.{◌≡◌, ℕ, ◌+◌, ◌<◌, ◌≤◌, ◌&&◌, Bool, true, false, cond, List, [], ◌∷◌, ◌++◌, length}
 use Rattle.std.proofs.Common.{length-append, append_assoc, Option, Some, None, refl, sym, ap, subst, subst₂, ◌∙◌, arith}
-use Rattle.std.proofs.Common.{true≢false, Result, Ok, Err, append-nil, is_ok, suc, take, drop, drop-cons, set, get_or}
-use Rattle.std.proofs.Common.{take-append-drop}
+use Rattle.std.proofs.Common.{true≢false, Result, Ok, Err, append-nil, is_ok, zero, suc, set, get_or}
 use Rattle.allocative_graph.proofs.Common.{eq_by_cmp, Less, Equal, Greater, get, len, len-child, Child, Key, Path}
-use Rattle.allocative_graph.proofs.Common.{key_cmp, Graph, IsTree, total, rows_of, rows_of_child, AreChildren, weight}
+use Rattle.allocative_graph.proofs.Common.{key_cmp, Graph, IsTree, total, rows_of, rows_of_child, AreChildren, total_of}
 use Rattle.allocative_graph.proofs.Common.{size_under, AddsUp, AddsUpInPart, AllAbove, Added, Merged, IsFound}
-use Rattle.allocative_graph.proofs.Common.{IsChildGap, AllBelow}
+use Rattle.allocative_graph.proofs.Common.{IsChildGap}
+use Rattle.std.specs.List.{insert}
 use Rattle.std.specs.Result.{result_and}
 use Rattle.std.specs.Option.{option_to_list}
-use Rattle.allocative_graph.specs.Representation.Children.{front_order, IsNext}
+use Rattle.allocative_graph.specs.Representation.Children.{front_order, MergesFirst}
 use Rattle.allocative_graph.proofs.Basics.{on_test, and_assoc, and-true, and_parts}
 use Rattle.allocative_graph.proofs.ChildOrder.{first_below, first_tree, others, with_first, no_children, above_all}
-use Rattle.allocative_graph.proofs.ChildOrder.{key_same, key_turn, all-at}
-use Rattle.allocative_graph.proofs.ChildRows.{weight-cons, weight-one, weight-append, weight-split}
+use Rattle.allocative_graph.proofs.ChildOrder.{key_same, key_turn, rises}
+use Rattle.allocative_graph.proofs.ChildRows.{total_of-cons}
 use Rattle.allocative_graph.proofs.ChildSizes.{none_above, AddsUp-first, AddsUp-second, part_of_sum, part_of_none}
-use Rattle.std.proofs.lemmas.List.{set_split}
+use Rattle.std.proofs.lemmas.List.Sums.{sum_by-append, sum_by-set, sum_by-insert, get_or-le-sum_by}
 
 -- A child with another graph.
 abbrev pub with_graph : Child → Graph → Child
@@ -66,7 +66,7 @@ module _ (b : Bool) (c : Child) (cs ds es : List Child) (m : Merged b cs ds es) 
     above = λ k p q. (p.0, m.above k p.1 q);
     part = λ k p. at_first AddsUpInPart c cs ds es k p (m.part k p) g (λ x. part_of_none x None);
     sum = λ w k p. at_first AddsUp c cs ds es k p (m.sum w k p) g AddsUp-first;
-    at_most = omega (arith, m.at_most, weight-cons c cs, weight-cons c es);
+    at_most = omega (arith, m.at_most, total_of-cons c cs, total_of-cons c es);
   }
 
   pub merged_second : AllAbove cs c.key → AllAbove ds c.key → Merged b cs (c ∷ ds) (c ∷ es)
@@ -76,7 +76,7 @@ module _ (b : Bool) (c : Child) (cs ds es : List Child) (m : Merged b cs ds es) 
     part = λ k p. at_first (λ x y z. AddsUpInPart y x z) c ds cs es k p (m.part k p) h
         (λ y. part_of_sum None y y (AddsUp-second y));
     sum = λ w k p. at_first (λ x y z. AddsUp y x z) c ds cs es k p (m.sum w k p) h AddsUp-second;
-    at_most = omega (arith, m.at_most, weight-cons c ds, weight-cons c es);
+    at_most = omega (arith, m.at_most, total_of-cons c ds, total_of-cons c es);
   }
 
 -- The graph of d is added to that of c.
@@ -89,23 +89,23 @@ merged_both a b c d g cs ds es m same sum below_cs below_ds = record {
   above = λ k p q. (p.0, m.above k p.1 q.1);
   part = λ k p. at_both AddsUpInPart c cs ds es k p (m.part k p) d g same (sum.part p);
   sum = λ w k p. at_both AddsUp c cs ds es k p (m.sum (and_parts a b w).1 k p) d g same (sum.sum (and_parts a b w).0 p);
-  at_most = omega (arith, m.at_most, sum.at_most, weight-cons c cs, weight-cons d ds, weight-cons (with_graph c g) es);
+  at_most = omega (arith, m.at_most, sum.at_most, total_of-cons c cs, total_of-cons d ds, total_of-cons (with_graph c g) es);
 }
 
 -- ---- the next child
 -- If the first key of cs is less than the first key of ds, or ds has no child, the first child of cs is next.
 pub next_less : {cs ds cs' : List Child} {c : Child} → cs ≡ c ∷ cs' → AreChildren cs → AreChildren ds →
-    front_order cs ds ≡ Some Less → IsNext true cs ds c cs' ds
+    front_order cs ds ≡ Some Less → MergesFirst true cs ds (c ∷ []) cs' ds
 next_less {cs = cs} {ds = ds} {cs' = cs'} {c = c} e mine theirs front =
     let all : AreChildren (c ∷ cs') = subst AreChildren e mine in
-    subst (λ (l : List Child). IsNext true l ds c cs' ds) (sym e) (record {
+    subst (λ (l : List Child). MergesFirst true l ds (c ∷ []) cs' ds) (sym e) (record {
       goes_on = λ b es m. merged_first b c cs' ds es m (first_tree c cs' all) (first_below c cs' all)
           (above ds theirs (subst (λ (l : List Child). front_order l ds ≡ Some Less) e front));
       mine = others c cs' all;
       theirs = theirs;
       fewer = omega arith;
       fewer_rows = omega arith;
-      fits = omega (arith, weight-cons c cs');
+      fits = omega (arith, total_of-cons c cs');
     })
   where
     above : (ds : List Child) → AreChildren ds → front_order (c ∷ cs') ds ≡ Some Less → AllAbove ds c.key
@@ -114,17 +114,17 @@ next_less {cs = cs} {ds = ds} {cs' = cs'} {c = c} e mine theirs front =
 
 -- If the first key of cs is greater than the first key of ds, or cs has no child, the first child of ds is next.
 pub next_greater : {cs ds ds' : List Child} {d : Child} → ds ≡ d ∷ ds' → AreChildren cs → AreChildren ds →
-    front_order cs ds ≡ Some Greater → IsNext true cs ds d cs ds'
+    front_order cs ds ≡ Some Greater → MergesFirst true cs ds (d ∷ []) cs ds'
 next_greater {cs = cs} {ds = ds} {ds' = ds'} {d = d} e mine theirs front =
     let all : AreChildren (d ∷ ds') = subst AreChildren e theirs in
-    subst (λ (l : List Child). IsNext true cs l d cs ds') (sym e) (record {
+    subst (λ (l : List Child). MergesFirst true cs l (d ∷ []) cs ds') (sym e) (record {
       goes_on = λ b es m. merged_second b d cs ds' es m (first_tree d ds' all)
           (above cs mine (subst (λ (l : List Child). front_order cs l ≡ Some Greater) e front)) (first_below d ds' all);
       mine = mine;
       theirs = others d ds' all;
       fewer = omega arith;
       fewer_rows = omega (arith, length-append (rows_of_child d) (rows_of ds'));
-      fits = omega (arith, weight-cons d ds');
+      fits = omega (arith, total_of-cons d ds');
     })
   where
     above : (cs : List Child) → AreChildren cs → front_order cs (d ∷ ds') ≡ Some Greater → AllAbove cs d.key
@@ -134,65 +134,50 @@ next_greater {cs = cs} {ds = ds} {ds' = ds'} {d = d} e mine theirs front =
 -- ---- both have one key: the first child of ds is added to that of cs
 module _ {cs ds cs' ds' : List Child} {c d : Child} (e : cs ≡ c ∷ cs') (f : ds ≡ d ∷ ds') where
   pub next_equal : {a : Bool} {g : Graph} → AreChildren cs → AreChildren ds → front_order cs ds ≡ Some Equal →
-      Added a c.graph d.graph g → IsNext a cs ds (with_graph c g) cs' ds'
+      Added a c.graph d.graph g → MergesFirst a cs ds (with_graph c g ∷ []) cs' ds'
   next_equal {a = a} {g = g} mine theirs front added =
       let both : front_order (c ∷ cs') (d ∷ ds') ≡ Some Equal =
       subst₂ (λ x y. front_order x y ≡ Some Equal) e f front in
       let my_all : AreChildren (c ∷ cs') = subst AreChildren e mine in
       let their_all : AreChildren (d ∷ ds') = subst AreChildren f theirs in
-      subst₂ (λ x y. IsNext a x y (with_graph c g) cs' ds') (sym e) (sym f) (record {
+      subst₂ (λ x y. MergesFirst a x y (with_graph c g ∷ []) cs' ds') (sym e) (sym f) (record {
         goes_on = λ b es m. merged_both a b c d g cs' ds' es m (sym (key_same c.key d.key (cc))) added
             (first_below c cs' my_all) (first_below d ds' their_all);
         mine = others c cs' my_all;
         theirs = others d ds' their_all;
         fewer = omega arith;
         fewer_rows = omega (arith, length-append (rows_of_child d) (rows_of ds'));
-        fits = omega (arith, added.at_most, weight-cons c cs', weight-cons d ds');
+        fits = omega (arith, added.at_most, total_of-cons c cs', total_of-cons d ds');
       })
 
-  pub both_fit : total c.graph + total d.graph ≤ weight cs + weight ds
-  both_fit = omega (arith, ap weight e ∙ weight-cons c cs', ap weight f ∙ weight-cons d ds')
+  pub both_fit : total c.graph + total d.graph ≤ total_of cs + total_of ds
+  both_fit = omega (arith, ap total_of e ∙ total_of-cons c cs', ap total_of f ∙ total_of-cons d ds')
 
   pub rows_fit : len d.graph ≤ length (rows_of ds)
   rows_fit = omega (arith, ap (λ l. length (rows_of l)) f ∙ length-append (rows_of_child d) (rows_of ds'), len-child d)
 
 -- ---- the loop of a merge
--- Of cs and ds, cs' and ds' remain; out has the merge of the others, size is its weight, and room is enough for all.
-pub record Going (all : Bool) (cs ds out cs' ds' : List Child) (size room : ℕ) : Type 0 where
-  pub goes_on : (b : Bool) (es : List Child) → Merged b cs' ds' es → Merged (all && b) cs ds (out ++ es)
-  pub mine : AreChildren cs'
-  pub theirs : AreChildren ds'
-  pub fewer_rows : length (rows_of ds') ≤ length (rows_of ds)
-  pub fits : weight out + (weight cs' + weight ds') < 2 ^ 64
-  pub weighed : size ≡ weight out
-  pub has_room : length out + (length cs' + length ds') ≤ room
-
--- The next child is pushed.
-pub going_next : {all a all' : Bool} {cs ds out out' cs' ds' cs'' ds'' : List Child} {c : Child}
-    {size size' room room' : ℕ} → Going all cs ds out cs' ds' size room → IsNext a cs' ds' c cs'' ds''
-    → all' ≡ (all && a) → out' ≡ out ++ c ∷ [] → size' ≡ size + total c.graph → room ≤ room' →
-    Going all' cs ds out' cs'' ds'' size' room'
-going_next {all = all} {a = a} {cs = cs} {ds = ds} {out = out} {c = c} g n all_is out_is size_is more =
-    let w = weight-append out (c ∷ []) in
-    let l = length-append out (c ∷ []) in
-    record {
-      goes_on = λ b es m. subst₂ (λ v r. Merged v cs ds r) (sym (ap (λ v. v && b) all_is ∙ and_assoc all a b))
-          (sym (ap (λ r. r ++ es) out_is ∙ append_assoc out (c ∷ []) es))
-          (g.goes_on (a && b) (c ∷ es) (n.goes_on b es m));
+-- What is merged first, and then what is merged first of the rest, is merged first of all.
+pub merges_then : {all a b : Bool} {cs ds out cs' ds' more cs'' ds'' made : List Child} →
+    MergesFirst a cs ds out cs' ds' → MergesFirst b cs' ds' more cs'' ds'' → all ≡ (a && b) → made ≡ out ++ more →
+    MergesFirst all cs ds made cs'' ds''
+merges_then {a = a} {b = b} {cs = cs} {ds = ds} {out = out} {more = more} {cs'' = cs''} {ds'' = ds''} m n all_is made_is =
+    subst₂ (λ v r. MergesFirst v cs ds r cs'' ds'') (sym all_is) (sym made_is) (record {
+      goes_on = λ c es k. subst₂ (λ v r. Merged v cs ds r) (sym (and_assoc a b c)) (sym (append_assoc out more es))
+          (m.goes_on (b && c) (more ++ es) (n.goes_on c es k));
       mine = n.mine;
       theirs = n.theirs;
-      fewer_rows = omega (arith, g.fewer_rows, n.fewer_rows);
-      fits = omega (arith, g.fits, n.fits, w, weight-one c, ap weight out_is);
-      weighed = omega (arith, g.weighed, w, weight-one c, ap weight out_is, size_is);
-      has_room = omega (arith, g.has_room, n.fewer, l, ap length out_is, more);
-    }
+      fewer = omega (arith, m.fewer, n.fewer, length-append out more);
+      fewer_rows = omega (arith, m.fewer_rows, n.fewer_rows);
+      fits = omega (arith, m.fits, n.fits, sum_by-append (λ (c : Child). total c.graph) out more);
+    })
 
--- When no child of either list remains, what the loop has made is the merge of both.
-pub going_end : {all : Bool} {cs ds out cs' ds' : List Child} {size room : ℕ} → Going all cs ds out cs' ds' size room →
-    cs' ≡ [] → ds' ≡ [] → Merged all cs ds out
-going_end {all = all} {cs = cs} {ds = ds} {out = out} g c d =
+-- When no child of either list remains, what was merged first is the merge of both.
+pub merges_all : {all : Bool} {cs ds out cs' ds' : List Child} → MergesFirst all cs ds out cs' ds' → cs' ≡ [] →
+    ds' ≡ [] → Merged all cs ds out
+merges_all {all = all} {cs = cs} {ds = ds} {out = out} m c d =
     subst₂ (λ v r. Merged v cs ds r) (and-true all) (append-nil out)
-    (g.goes_on true [] (subst₂ (λ x y. Merged true x y []) (sym c) (sym d) (merged_same [] no_children)))
+    (m.goes_on true [] (subst₂ (λ x y. Merged true x y []) (sym c) (sym d) (merged_same [] no_children)))
 
 -- Two results one after another are Ok exactly if each of them is.
 pub is_ok-and : {E : Type 0} (r s : Result (Unit {0}) E) → is_ok (result_and r s) ≡ (is_ok r && is_ok s)
@@ -211,26 +196,35 @@ one_of_length xs [] x e h = e
 one_of_length xs (y ∷ rest) x e h = absurd (omega (arith, ap length e, length-append rest (x ∷ [])))
 
 -- ---- one child put among others: added to the one that has its key, or in its place
--- A child whose key is above those of a and below those of b is merged by putting it between a and b.
-inserted : (a b : List Child) (c : Child) → AreChildren (a ++ b) → IsTree c.graph → AllBelow a c.key →
-    AllAbove b c.key → Merged true (a ++ b) (c ∷ []) (a ++ c ∷ b)
-inserted [] b c h t below above = merged_second true c b [] b (merged_same b h) t above tt
-inserted (x ∷ a) b c h t below above =
-    merged_first true x (a ++ b) (c ∷ []) (a ++ c ∷ b) (inserted a b c (others x (a ++ b) h) t below.1 above)
-    (first_tree x (a ++ b) h) (first_below x (a ++ b) h) (below.0, tt)
+-- A child whose key belongs at a place is merged by putting it there.
+inserted : (cs : List Child) (i : ℕ) (c : Child) → AreChildren cs → IsTree c.graph → IsChildGap cs c.key i →
+    Merged true cs (c ∷ []) (insert cs i c)
+inserted [] zero c h t gap = merged_second true c [] [] [] (merged_same [] h) t tt tt
+inserted [] (suc i) c h t gap = absurd (omega (arith, gap.within))
+inserted (x ∷ cs) zero c h t gap = merged_second true c (x ∷ cs) [] (x ∷ cs) (merged_same (x ∷ cs) h) t
+    (above_all c.key x cs (key_turn x.key c.key (gap.between.1 0 x (omega arith) (omega arith))) h) tt
+inserted (x ∷ cs) (suc i) c h t gap = merged_first true x cs (c ∷ []) (insert cs i c)
+    (inserted cs i c (others x cs h) t (record {
+      within = omega (arith, gap.within);
+      between = (
+        (λ j d low w. gap.between.0 (suc j) d (omega arith) (omega arith)),
+        (λ j d low w. gap.between.1 (suc j) d (omega arith) (omega arith)),
+      );
+    }))
+    (first_tree x cs h) (first_below x cs h) (gap.between.0 0 x (omega arith) (omega arith), tt)
 
--- A child with the key of x is merged by adding its graph to the graph of x.
-changed : (all : Bool) (a b : List Child) (x c : Child) (g : Graph) → AreChildren (a ++ x ∷ b) → c.key ≡ x.key →
-    Added all x.graph c.graph g → Merged all (a ++ x ∷ b) (c ∷ []) (a ++ with_graph x g ∷ b)
-changed all [] b x c g h same sum =
-    subst (λ (v : Bool). Merged v (x ∷ b) (c ∷ []) (with_graph x g ∷ b)) (and-true all)
-    (merged_both all true x c g b [] b (merged_same b (others x b h)) same sum (first_below x b h) tt)
-changed all (z ∷ a) b x c g h same sum =
-    let less : key_cmp z.key c.key ≡ Less = subst (λ (k : Key). key_cmp z.key k ≡ Less) (sym same)
-    (all-at (λ l. key_cmp z.key l ≡ Less) a b x (first_below z (a ++ x ∷ b) h)) in
-    merged_first all z (a ++ x ∷ b) (c ∷ []) (a ++ with_graph x g ∷ b)
-    (changed all a b x c g (others z (a ++ x ∷ b) h) same sum) (first_tree z (a ++ x ∷ b) h)
-    (first_below z (a ++ x ∷ b) h) (less, tt)
+-- A child with the key of another is merged by adding its graph to the graph of that one.
+changed : (all : Bool) (cs : List Child) (i : ℕ) (c d : Child) (g : Graph) → AreChildren cs → i < length cs →
+    (get_or cs i d).key ≡ c.key → Added all (get_or cs i d).graph c.graph g →
+    Merged all cs (c ∷ []) (set cs i (with_graph (get_or cs i d) g))
+changed all [] i c d g h w same sum = absurd (omega arith)
+changed all (x ∷ cs) zero c d g h w same sum =
+    subst (λ (v : Bool). Merged v (x ∷ cs) (c ∷ []) (with_graph x g ∷ cs)) (and-true all)
+    (merged_both all true x c g cs [] cs (merged_same cs (others x cs h)) (sym same) sum (first_below x cs h) tt)
+changed all (x ∷ cs) (suc i) c d g h w same sum =
+    merged_first all x cs (c ∷ []) _ (changed all cs i c d g (others x cs h) (omega arith) same sum)
+    (first_tree x cs h) (first_below x cs h)
+    (subst (λ (k : Key). key_cmp x.key k ≡ Less) same (rises (x ∷ cs) 0 (suc i) d h.sorted (omega arith) w), tt)
 
 -- ---- the key of c was found at i, where x is, and x gets the graph g
 module _ (c x : Child) (g : Graph) {cs ds : List Child} {i : ℕ} (same : ds ≡ cs) (found : IsFound ds c.key i)
@@ -238,44 +232,23 @@ module _ (c x : Child) (g : Graph) {cs ds : List Child} {i : ℕ} (same : ds ≡
   here : IsFound cs c.key i
   here = subst (λ l. IsFound l c.key i) same found
 
-  was : cs ≡ take i cs ++ x ∷ drop (suc i) cs
-  was = sym (take-append-drop i cs) ∙ ap (λ s. take i cs ++ s) (drop-cons cs i x here.within)
-      ∙ ap (λ z. take i cs ++ z ∷ drop (suc i) cs) (sym there)
-
-  now : set cs i (with_graph x g) ≡ take i cs ++ with_graph x g ∷ drop (suc i) cs
-  now = set_split cs i (with_graph x g) here.within
-
   pub put_at_found : {all : Bool} → AreChildren cs → Added all x.graph c.graph g →
       Merged all cs (c ∷ []) (set cs i (with_graph x g))
-  put_at_found {all = all} h sum =
-      let same_key : c.key ≡ x.key = sym (here.same x) ∙ ap (λ (z : Child). z.key) (sym there) in
-      subst₂ (λ l r. Merged all l (c ∷ []) r) (sym was) (sym now)
-      (changed all (take i cs) (drop (suc i) cs) x c g (subst AreChildren was h) same_key sum)
+  put_at_found {all = all} h sum = subst (λ (y : Child). Merged all cs (c ∷ []) (set cs i (with_graph y g))) (sym there)
+      (changed all cs i c x g h here.within (here.same x) (subst (λ (y : Child). Added all y.graph c.graph g) there sum))
 
-  pub weights_found : (weight (set cs i (with_graph x g)) + total x.graph ≡ weight cs + total g)
-      × (total x.graph ≤ weight cs)
-  weights_found =
-      let before = ap weight was ∙ weight-split (take i cs) (drop (suc i) cs) x in
-      (omega (arith, before, ap weight now ∙ weight-split (take i cs) (drop (suc i) cs) (with_graph x g)), omega (arith, before))
+  pub totals_found : (total_of (set cs i (with_graph x g)) + total x.graph ≡ total_of cs + total g)
+      × (total x.graph ≤ total_of cs)
+  totals_found =
+      let t : Child → ℕ = λ y. total y.graph in
+      (omega (arith, sum_by-set t cs i (with_graph x g) x here.within, ap t there), omega (arith, get_or-le-sum_by t cs i x here.within, ap t there))
 
 -- ---- the key of c was not found, and belongs at i
 module _ (c : Child) {cs ds es : List Child} {i : ℕ} (same : ds ≡ cs) (missing : IsChildGap ds c.key i)
-    (put : es ≡ take i cs ++ c ∷ drop i cs) where
-  gap : IsChildGap cs c.key i
-  gap = subst (λ l. IsChildGap l c.key i) same missing
-
-  parts : cs ≡ take i cs ++ drop i cs
-  parts = sym (take-append-drop i cs)
-
+    (put : es ≡ insert cs i c) where
   pub put_at_gap : AreChildren cs → IsTree c.graph → Merged true cs (c ∷ []) es
-  put_at_gap h t = subst₂ (λ l r. Merged true l (c ∷ []) r) (sym parts) (sym put)
-      (inserted (take i cs) (drop i cs) c (subst AreChildren parts h) t gap.below gap.above)
+  put_at_gap h t = subst (Merged true cs (c ∷ [])) (sym put)
+      (inserted cs i c h t (subst (λ l. IsChildGap l c.key i) same missing))
 
-  pub weight_at_gap : weight es ≡ weight cs + total c.graph
-  weight_at_gap = omega (arith, ap weight put, weight-split (take i cs) (drop i cs) c, ap weight parts ∙ weight-append (take i cs) (drop i cs))
-
--- A child is put after all others.
-pub merged_last : (cs : List Child) (c : Child) → AreChildren cs → IsTree c.graph → AllBelow cs c.key →
-    Merged true cs (c ∷ []) (cs ++ c ∷ [])
-merged_last cs c h t below = subst (λ (l : List Child). Merged true l (c ∷ []) (cs ++ c ∷ [])) (append-nil cs)
-    (inserted cs [] c (subst AreChildren (sym (append-nil cs)) h) t below tt)
+  pub total_at_gap : total_of es ≡ total_of cs + total c.graph
+  total_at_gap = ap total_of put ∙ sum_by-insert (λ (y : Child). total y.graph) cs i c

@@ -1,13 +1,13 @@
--- Children in the order of their keys: what the order says of the parts of a list, and what a search for a key finds.
-use Rattle.std.proofs.Common.{◌≡◌, ℕ, zero, suc, ◌<◌, List, [], ◌∷◌, ◌++◌, length, get_or, ap, subst₂, ◌∙◌, arith, ◌+◌}
-use Rattle.std.proofs.Common.{◌-◌, ◌≤◌, take, drop, Result, Ok, Err, IfOk, IfErr, refl, sym, subst}
-use Rattle.allocative_graph.proofs.Common.{AllByRecursion, Less, Equal, Greater, ordering_reverse, nat_list_cmp_total}
+-- Children in the order of their keys: the first one and the others, and what a search for a key finds.
+use Rattle.std.proofs.Common.{◌≡◌, ℕ, ◌<◌, List, [], ◌∷◌, length, get_or, ap, subst₂, ◌∙◌, arith, ◌+◌}
+use Rattle.std.proofs.Common.{◌-◌, Result, Ok, Err, IfOk, IfErr, refl, subst}
+use Rattle.allocative_graph.proofs.Common.{Less, Equal, Greater, ordering_reverse, nat_list_cmp_total}
 use Rattle.allocative_graph.proofs.Common.{nat_cmp-IsAntisymmetric, slice_cmp-IsAntisymmetric, Child, Key, key_cmp}
-use Rattle.allocative_graph.proofs.Common.{IsTree, AreChildren, InOrder, AllBelow, AllAbove, length-map, keys_of, is_lt}
+use Rattle.allocative_graph.proofs.Common.{IsTree, AreChildren, InOrder, AllAbove, length-map, keys_of, is_lt}
 use Rattle.allocative_graph.proofs.Common.{IsFound, IsChildGap}
 use Rattle.std.specs.List.Sorted.{IsStrictlySortedBy, IsSearchInRange, IsBinarySearchResult, IsNonDecreasingBy}
 use Rattle.std.specs.List.Sorted.{IsSortedBy}
-use Rattle.std.proofs.lemmas.List.{get_or-map, drop_all, get_or_default}
+use Rattle.std.proofs.lemmas.List.{get_or-map, get_or_default}
 use Rattle.std.proofs.lemmas.Map.Keys.{Less-from_sorted}
 use Rattle.allocative_graph.proofs.Basics.{each-implies}
 use Rattle.std.specs.declared.cmp.Ordering.{Ordering}
@@ -58,28 +58,13 @@ pub above_all : (k : Key) (c : Child) (cs : List Child) → key_cmp k c.key ≡ 
 above_all k c cs less h =
     (less, each-implies _ _ (λ l q. nat_list_cmp_total.trans k c.key l less q) (keys_of cs) (first_below c cs h))
 
--- ---- a child in the middle
--- What holds of the keys of all children holds of the key of one in the middle.
-pub all-at : (P : Key → Type 0) (a b : List Child) (x : Child) → AllByRecursion P (keys_of (a ++ x ∷ b)) → P x.key
-all-at P [] b x h = h.0
-all-at P (y ∷ a) b x h = all-at P a b x h.1
-
 -- ---- a search for a key
--- If the key at each place before i is below k, the first i children are all below k.
-below_from : (cs : List Child) (i : ℕ) (k : Key) → i ≤ length cs →
-    ((j : ℕ) (d : Child) → j < i → key_cmp (get_or cs j d).key k ≡ Less) → AllBelow (take i cs) k
-below_from cs zero k within f = tt
-below_from [] (suc i) k within f = absurd (omega arith)
-below_from (c ∷ cs) (suc i) k within f =
-    (f 0 c (omega arith), below_from cs i k (omega arith) (λ j d h. f (suc j) d (omega arith)))
-
--- If the key at each place from i on is above k, the children from i on are all above k.
-above_from : (cs : List Child) (i : ℕ) (k : Key) →
-    ((j : ℕ) (d : Child) → i ≤ j → j < length cs → key_cmp (get_or cs j d).key k ≡ Greater) → AllAbove (drop i cs) k
-above_from [] zero k f = tt
-above_from [] (suc i) k f = tt
-above_from (c ∷ cs) zero k f = (key_turn c.key k (f 0 c (omega arith) (omega arith)), above_from cs zero k (λ j d a b. f (suc j) d (omega arith) (omega arith)))
-above_from (c ∷ cs) (suc i) k f = above_from cs i k (λ j d a b. f (suc j) d (omega arith) (omega arith))
+-- The keys rise from place to place.
+pub rises : (cs : List Child) (i j : ℕ) (d : Child) → InOrder cs → i < j → j < length cs →
+    key_cmp (get_or cs i d).key (get_or cs j d).key ≡ Less
+rises cs i j d o low high = subst₂ (λ a b. key_cmp a b ≡ Less)
+    (get_or-map (λ (c : Child). c.key) cs i d [] (omega arith)) (get_or-map (λ (c : Child). c.key) cs j d [] high)
+    (Less-from_sorted key_cmp (keys_of cs) i j [] o low (omega (arith, length-map {B = Key} cs (λ c. c.key))))
 
 -- An ordering with the index 0 is `Less`.
 first_index : (o : Ordering) → ordering_index o ≡ 0 → o ≡ Less
@@ -89,13 +74,8 @@ first_index Greater e = absurd (omega arith)
 
 module _ (cs : List Child) (o : InOrder cs) (k : Key) where
   sorted : IsSortedBy (λ (a b : Child). is_lt (key_cmp a.key b.key)) cs
-  sorted i d low high =
-      let keys : key_cmp (get_or (keys_of cs) i []) (get_or (keys_of cs) (i + 1) []) ≡ Less =
-      Less-from_sorted key_cmp (keys_of cs) i (i + 1) [] o (omega arith)
-      (omega (arith, length-map {B = Key} cs (λ c. c.key))) in
-      let up = subst₂ (λ a b. key_cmp a b ≡ Less) (get_or-map (λ (c : Child). c.key) cs i d [] (omega arith))
-      (get_or-map (λ (c : Child). c.key) cs (i + 1) d [] (omega arith)) keys in
-      ap is_lt (nat_list_cmp_total.antisymm (get_or cs (i + 1) d).key (get_or cs i d).key ∙ ap ordering_reverse up)
+  sorted i d low high = ap is_lt (nat_list_cmp_total.antisymm (get_or cs (i + 1) d).key (get_or cs i d).key
+      ∙ ap ordering_reverse (rises cs i (i + 1) d o (omega arith) high))
 
   comparisons_rise : IsNonDecreasingBy (λ (c : Child). ordering_index (key_cmp c.key k)) cs
   comparisons_rise = searchable_from_sorted nat_list_cmp_total (λ (c : Child). c.key) cs k sorted
@@ -105,14 +85,8 @@ module _ (cs : List Child) (o : InOrder cs) (k : Key) where
       record { found : IfOk r (IsFound cs k); missing : IfErr r (IsChildGap cs k) }
   searched (Ok i) in_range equal =
       record { found = record { within = in_range; same = λ d. key_same _ _ (equal d) }; missing = tt }
-  searched (Err i) in_range parted = record {
-    found = tt;
-    missing = record {
-      within = in_range;
-      below = below_from cs i k in_range (λ j d h. (parted comparisons_rise).0 j d (omega arith) h);
-      above = above_from cs i k (λ j d a b. (parted comparisons_rise).1 j d a b);
-    };
-  }
+  searched (Err i) in_range parted =
+      record { found = tt; missing = record { within = in_range; between = parted comparisons_rise } }
 
   -- A key above the last one is above all, and belongs at the end.
   pub behind_last : (d : Child) → 0 < length cs → key_cmp (get_or cs (length cs - 1) d).key k ≡ Less →
@@ -124,9 +98,10 @@ module _ (cs : List Child) (o : InOrder cs) (k : Key) where
       less) in
       record {
         within = omega arith;
-        below = below_from cs (length cs) k (omega arith)
-            (λ j e h. first_index _ (omega (arith, comparisons_rise j last e (omega arith) (omega arith), lower e)));
-        above = subst (λ (s : List Child). AllAbove s k) (sym (drop_all (length cs) cs (omega arith))) tt;
+        between = (
+          (λ j e low w. first_index _ (omega (arith, comparisons_rise j last e (omega arith) (omega arith), lower e))),
+          (λ j e high w. absurd (omega arith)),
+        );
       }
 
 -- The key of the last child is found at the end.

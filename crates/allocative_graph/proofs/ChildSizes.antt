@@ -1,24 +1,27 @@
 -- The sizes below a key that a child has, and below a key that no child has.
-use Rattle.std.proofs.Common.{◌≡◌, ℕ, inl, inr, true, false, cond, List, [], ◌∷◌, Option, None, refl, sym, ap, subst}
+use Rattle.std.proofs.Common.{◌≡◌, ℕ, inl, inr, true, false, List, Option, None, refl, sym, ap, subst}
 use Rattle.std.proofs.Common.{◌∙◌, arith}
-use Rattle.allocative_graph.proofs.Common.{is_some, AllByRecursion, eq_by_cmp, is_eq, get, Child, Key, Path, key_cmp}
-use Rattle.allocative_graph.proofs.Common.{size_under, AddsUp, AddsUpInPart, AllAbove, keys_of}
+use Rattle.allocative_graph.proofs.Common.{is_some, eq_by_cmp, is_eq, get, Child, Key, Path, key_cmp, Less, default}
+use Rattle.allocative_graph.proofs.Common.{size_under, AddsUp, AddsUpInPart, AllAbove, All-from_recursion}
+use Rattle.std.specs.List.{All}
+use Rattle.std.proofs.lemmas.List.Recursion.{found_nowhere}
 use Rattle.std.specs.Cmp.{Equal-is}
-use Rattle.allocative_graph.proofs.Basics.{each-implies, or_left, or-false}
+use Rattle.allocative_graph.proofs.Basics.{each-map, or_left, or-false}
 use Rattle.allocative_graph.proofs.ChildOrder.{key_same}
 
 -- No child has the key k.
 abbrev pub Lacks : Key → List Child → Type 0
-Lacks k cs = AllByRecursion (λ l. eq_by_cmp key_cmp k l ≡ false) (keys_of cs)
+Lacks k cs = All (λ c. eq_by_cmp key_cmp k c.key ≡ false) cs
 
 -- No child has a key that is below the keys of all children.
 pub lacks-above : (k : Key) (cs : List Child) → AllAbove cs k → Lacks k cs
-lacks-above k cs h = each-implies _ _ (λ l. ap is_eq) (keys_of cs) h
+lacks-above k cs h = λ i d w. ap is_eq (All-from_recursion (λ (c : Child). key_cmp k c.key ≡ Less) cs
+    (each-map (λ l. key_cmp k l ≡ Less) (λ (c : Child). c.key) cs h) i d w)
 
 -- If no child has the key k, no size is below k.
 pub size_under-lacks : (cs : List Child) (k : Key) (p : Path) → Lacks k cs → size_under cs k p ≡ None
-size_under-lacks [] k p h = refl
-size_under-lacks (c ∷ cs) k p h = ap (λ b. cond b (get c.graph p) (size_under cs k p)) h.0 ∙ size_under-lacks cs k p h.1
+size_under-lacks cs k p h = found_nowhere (λ cs. size_under cs k p) (λ c. eq_by_cmp key_cmp k c.key)
+    (λ c. get c.graph p) None refl (λ c cs. refl) cs (record { key = k; graph = default }) (λ i w. h i _ w)
 
 -- No size is below a key that is below the keys of all children.
 pub none_above : (k l : Key) (p : Path) (cs : List Child) → eq_by_cmp key_cmp k l ≡ true → AllAbove cs l →

@@ -42,14 +42,14 @@ pub use Rattle.allocative_graph.specs.Read.{AreStacks, IsCut, IsFault, IsNumber,
 pub use Rattle.allocative_graph.specs.Read.{all_bytes, bytes_at, is_path_of, number_of, line_stack}
 pub use Rattle.allocative_graph.specs.Rows.{AreChildren, Figures, figures_behind, keys_of, node, rows_of}
 pub use Rattle.allocative_graph.specs.Rows.{rows_of_child, under_rows}
-pub use Rattle.allocative_graph.specs.Representation.Children.{AddsUp, AddsUpInPart, AllAbove, AllBelow, InOrder}
+pub use Rattle.allocative_graph.specs.Representation.Children.{AddsUp, AddsUpInPart, AllAbove, InOrder}
 pub use Rattle.allocative_graph.specs.Representation.Children.{IsChildGap, IsFound, size_under, Added, Merged}
 pub use Rattle.allocative_graph.specs.Representation.Children.{child_of_path}
-pub use Rattle.allocative_graph.specs.Representation.Node.{IsNode, weight}
+pub use Rattle.allocative_graph.specs.Representation.Node.{IsNode}
 pub use Rattle.allocative_graph.specs.Representation.NodeRows.{both, entries-node, first, len-child, node_sorted}
 pub use Rattle.allocative_graph.specs.Representation.NodeRows.{second}
 pub use Rattle.allocative_graph.specs.Representation.PathRows.{IsSumByPath, joined_on, line_from, lines_below}
-pub use Rattle.allocative_graph.specs.Representation.PathRows.{sum_of_rows, graph_of_path, one_stack, sum_of_stacks}
+pub use Rattle.allocative_graph.specs.Representation.PathRows.{graph_of_path, one_stack, sum_of_stacks}
 pub use Rattle.allocative_graph.specs.Sums.{Node, Sums, add, add_all, below, bytes_in, is_entered_in, is_unique_in}
 pub use Rattle.allocative_graph.specs.Sums.{node_of, sums_of, together}
 pub use Rattle.allocative_graph.specs.declared.flamegraph.Child.{Child}

@@ -12,7 +12,6 @@ use Rattle.allocative_graph.proofs.Merge.{get-sum_of, get-graph, get-graph-root}
 use Rattle.allocative_graph.proofs.Lookups.{get-sums_of}
 use Rattle.allocative_graph.proofs.Closed.{below_entered, parent_entered}
 use Rattle.allocative_graph.proofs.ChildLookup.{get-root, get-under as get-below, node_of_one, one_sorted}
-use Rattle.allocative_graph.proofs.ChildRows.{weight-one}
 use Rattle.allocative_graph.proofs.NodeSizes.{total-node}
 
 -- ---- one size more at a path
@@ -126,7 +125,7 @@ module _ (k : Key) (g : Graph) where
   get-under l q = ap (λ h. get h (l ∷ q)) as_node ∙ get-below 0 (only ∷ []) l q (one_sorted only)
 
   pub total-under : total (under k g) ≡ total g
-  total-under = omega (arith, ap total as_node, total-node 0 (only ∷ []) (one_sorted only), weight-one only)
+  total-under = omega (arith, ap total as_node, total-node 0 (only ∷ []) (one_sorted only))
 
 -- ---- the graph of a showing
 -- A bag's graph has a path other than the root exactly if the bag has an entry there.

@@ -1,17 +1,18 @@
 -- Nodes are trees, and add up if their own sizes and their children do.
 use Rattle.std.proofs.Common.{◌≡◌, ℕ, ◌+◌, ◌<◌, ◌^◌, Bool, true, cond, List, [], ◌∷◌, ◌++◌, length, length-append, Some}
-use Rattle.std.proofs.Common.{refl, unwrap_or, sym, ap, subst, subst₂, ◌∙◌, arith}
+use Rattle.std.proofs.Common.{refl, get_or, unwrap_or, sym, ap, subst, subst₂, ◌∙◌, arith}
 use Rattle.allocative_graph.proofs.Common.{AllByRecursion, is_some, eq_by_cmp, get, contains_key, entries, len}
 use Rattle.allocative_graph.proofs.Common.{len-entries, Child, Key, Path, key_cmp, Graph, IsTree, size_at, sum_of}
-use Rattle.allocative_graph.proofs.Common.{total, under, node, rows_of, rows_of_child, AreChildren, IsNode, weight}
+use Rattle.allocative_graph.proofs.Common.{total, under, node, rows_of, rows_of_child, AreChildren, IsNode, total_of}
 use Rattle.allocative_graph.proofs.Common.{size_under, AddsUp, AddsUpInPart, Added, Merged, entries-node, len-child}
-use Rattle.allocative_graph.proofs.Common.{is_eq, Less, keys_of, tied_itself, nat_list_cmp_total}
+use Rattle.allocative_graph.proofs.Common.{All-from_recursion}
 use Rattle.allocative_graph.specs.Many.{ComesLast}
-use Rattle.allocative_graph.proofs.ChildMerged.{merged_last}
+use Rattle.allocative_graph.proofs.ChildMerged.{put_at_gap}
+use Rattle.std.proofs.lemmas.List.{take_all, drop_all}
 use Rattle.allocative_graph.proofs.Basics.{on_test}
+use Rattle.allocative_graph.proofs.Behind.{size_under-found}
 use Rattle.allocative_graph.proofs.ChildLookup.{get-root, get-under, node_each, node_of_one}
 use Rattle.allocative_graph.proofs.ChildOrder.{one_child, first_tree}
-use Rattle.allocative_graph.proofs.ChildRows.{weight-one}
 use Rattle.allocative_graph.proofs.ChildSizes.{part_of_sum}
 use Rattle.allocative_graph.proofs.Graphs.{is_sum_of, total-sum_of, total-under}
 use Rattle.allocative_graph.proofs.NodeSizes.{total-node}
@@ -59,24 +60,13 @@ added_under {all = all} {m = m} {cs = cs} {es = es} {g = g} c view a t h =
     (subst₂ (λ f n. Added all (node m cs) f (node n es)) (node_of_one c) no_more
     (added_node all m 0 cs (c ∷ []) es a.children (one_child c t) h))
 
--- What holds of each key below the root of a node holds of the keys of its children.
-each_child : (P : Key → Type 0) (cs : List Child) → AllByRecursion (λ (c : Child). IsTree c.graph) cs →
-    ((l : Key) → is_some (size_under cs l []) ≡ true → P l) → AllByRecursion P (keys_of cs)
-each_child P [] t f = tt
-each_child P (c ∷ cs) t f = (
-  f c.key (subst (λ (b : Bool). is_some (cond b (get c.graph []) (size_under cs c.key [])) ≡ true)
-      (sym (ap is_eq (tied_itself nat_list_cmp_total c.key))) t.0.root),
-  each_child P cs t.1 (λ l e. f l (on_test (λ b. is_some (cond b (get c.graph []) (size_under cs l [])) ≡ true)
-      (eq_by_cmp key_cmp l c.key) (λ s. t.0.root) (λ s. e))),
-)
-
 -- A node has one path more than its children have rows.
 pub rows_of_node : (n : ℕ) (cs : List Child) → AreChildren cs → len (node n cs) ≡ length (rows_of cs) + 1
 rows_of_node n cs h = omega (arith, len-entries (node n cs), ap length (entries-node n cs h.sorted))
 
 -- ---- what is known of the graph g of a node
 module _ {n s : ℕ} {cs : List Child} {g : Graph} (view : node n cs ≡ g) (h : IsNode cs s n) where
-  pub total_of_node : total g ≡ n + weight cs
+  pub total_of_node : total g ≡ n + total_of cs
   total_of_node = ap total (sym view) ∙ total-node n cs h.children.sorted
 
   pub own_of_node : size_at g [] ≡ n
@@ -102,28 +92,36 @@ module _ {n s : ℕ} {cs es : List Child} {g : Graph} {c : Child} (view : node n
   pub node_grown : {added : ℕ} → added ≡ total c.graph → total g + total c.graph < 2 ^ 64 → IsNode es (s + added) n
   node_grown is fits =
       let own = total_of_node view h in
-      let all : n + weight es ≡ total g + total c.graph =
+      let all : n + total_of es ≡ total g + total c.graph =
       sym (total-node n es m.children.sorted) ∙ ap total sum_grown ∙ total-sum_of g (under c.key c.graph)
       ∙ ap (λ k. total g + k) (total-under c.key c.graph) in
-      record { children = m.children; weighed = omega (arith, all, own, h.weighed); fits = omega (arith, all, own, h.weighed, fits) }
+      record { children = m.children; size = omega (arith, all, own, h.size); fits = omega (arith, all, own, h.size, fits) }
 
 -- A child that comes after all others is put at the end.
 pub pushed : {n s : ℕ} {cs : List Child} {g : Graph} (view : node n cs ≡ g) → IsNode cs s n → (c : Child) →
     IsTree c.graph → ComesLast g c.key → Merged true cs (c ∷ []) (cs ++ c ∷ [])
 pushed {n = n} {cs = cs} view h c t last =
-    merged_last cs c h.children t (each_child (λ l. key_cmp l c.key ≡ Less) cs h.children.trees
-    (λ l e. last l [] (subst (λ (x : Graph). contains_key x (l ∷ []) ≡ true) view
-    (ap is_some (get-under n cs l [] h.children.sorted) ∙ e))))
+    let o = h.children.sorted in
+    put_at_gap c refl (record {
+      within = omega arith;
+      between = (
+        (λ j d low w. last (get_or cs j d).key [] (subst (λ (x : Graph). contains_key x ((get_or cs j d).key ∷ []) ≡ true) view
+            (ap is_some (get-under n cs (get_or cs j d).key [] o ∙ size_under-found (get_or cs j d).key [] cs j d o w refl)
+            ∙ (All-from_recursion (λ (x : Child). IsTree x.graph) cs h.children.trees j d w).root))),
+        (λ j d high w. absurd (omega arith)),
+      );
+    })
+    (λ i. sym (take_all (length cs) cs (omega arith)) i ++ c ∷ sym (drop_all (length cs) cs (omega arith)) i) h.children t
 
 -- ---- two nodes with the graphs g and h, whose children merge to es, also if equal lists are named
 module _ {g h : Graph} {m n s t : ℕ} {cs ds : List Child} (mine : node m cs ≡ g) (a : IsNode cs s m)
     (theirs : node n ds ≡ h) (b : IsNode ds t n) where
-  pub total_of_both : total g + total h ≡ (m + n) + (weight cs + weight ds)
+  pub total_of_both : total g + total h ≡ (m + n) + (total_of cs + total_of ds)
   total_of_both = omega (arith, total_of_node mine a, total_of_node theirs b)
 
   pub merged_node : {all : Bool} {cs' ds' es : List Child} {size : ℕ} → cs' ≡ cs → ds' ≡ ds →
-      total g + total h < 2 ^ 64 → Merged all cs' ds' es → size ≡ weight es → IsNode es size (m + n)
-  merged_node e f fits k weighed = record { children = k.children; weighed = weighed; fits = omega (arith, total_of_both, k.at_most, ap weight e, ap weight f, weighed, fits) }
+      total g + total h < 2 ^ 64 → Merged all cs' ds' es → size ≡ total_of es → IsNode es size (m + n)
+  merged_node e f fits k is = record { children = k.children; size = is; fits = omega (arith, total_of_both, k.at_most, ap total_of e, ap total_of f, is, fits) }
 
   pub merged_graph : {all : Bool} {cs' ds' es : List Child} → cs' ≡ cs → ds' ≡ ds → Merged all cs' ds' es →
       Added all g h (node (m + n) es)
@@ -137,5 +135,5 @@ module _ {g h : Graph} {m n s t : ℕ} {cs ds : List Child} (mine : node m cs �
   child_of_one {c = c} one fits = (
     omega (arith, len_of_node theirs b, ap (λ l. length (rows_of l)) one, length-append (rows_of_child c) [], len-child c),
     first_tree c [] (subst AreChildren (sym one) b.children),
-    omega (arith, total_of_both, ap weight one, weight-one c, a.weighed, fits),
+    omega (arith, total_of_both, ap total_of one, a.size, fits),
   )

@@ -2,13 +2,12 @@
 use Rattle.std.proofs.Common.{◌≡◌, ℕ, ◌+◌, ◌<◌, ◌≤◌, ◌^◌, true, List, [], ◌∷◌, ◌++◌, length, get_or, set, refl, sym, ap}
 use Rattle.std.proofs.Common.{subst, subst₂, ◌∙◌, arith, zero-add, add-zero}
 use Rattle.allocative_graph.proofs.Common.{insert, Child, Key, Path, Graph, IsTree, total, default, add_self, sum_of}
-use Rattle.allocative_graph.proofs.Common.{node, AreChildren, IsNode, weight, Added, Merged, IsFound, get}
+use Rattle.allocative_graph.proofs.Common.{node, AreChildren, IsNode, total_of, Added, Merged, IsFound, get}
 use Rattle.allocative_graph.proofs.Common.{graph_of_path, child_of_path, All-from_recursion}
 use Rattle.std.proofs.lemmas.List.{set-get_or}
 use Rattle.allocative_graph.proofs.ChildLookup.{node_of_one}
-use Rattle.allocative_graph.proofs.ChildMerged.{merged_same, put_at_found, weights_found, with_graph}
+use Rattle.allocative_graph.proofs.ChildMerged.{merged_same, put_at_found, totals_found, with_graph}
 use Rattle.allocative_graph.proofs.ChildOrder.{no_children, one_child}
-use Rattle.allocative_graph.proofs.ChildRows.{weight-one}
 use Rattle.allocative_graph.proofs.ChildSizes.{part_of_sum}
 use Rattle.allocative_graph.proofs.Graphs.{size_at-default, size_at-sum_of, has-sum_of, total-sum_of, total-under}
 use Rattle.allocative_graph.proofs.NodeAdded.{added_node, added_sum, node_tree}
@@ -36,7 +35,7 @@ total-path (k ∷ p) n = total-under k (graph_of_path p n) ∙ total-path p n
 pub node_of_path : (k : Key) (p : Path) (n : ℕ) → n < 2 ^ 64 → IsNode (child_of_path k p n ∷ []) n 0
 node_of_path k p n fits = record {
   children = one_child (child_of_path k p n) (tree-path p n);
-  weighed = omega (arith, weight-one (child_of_path k p n), total-path p n);
+  size = omega (arith, total-path p n);
   fits = omega arith;
 }
 
@@ -71,8 +70,8 @@ module _ (k : Key) (p : Path) (n : ℕ) (x : Child) {cs ds : List Child} {i : �
       (added_trees x.graph c.graph tree (tree-path p n)))
 
   -- x has at most the bytes of all children.
-  pub fits_below : total x.graph ≤ weight cs
-  fits_below = (weights_found (child_of_path k p n) x x.graph same found there).1
+  pub fits_below : total x.graph ≤ total_of cs
+  fits_below = (totals_found (child_of_path k p n) x x.graph same found there).1
 
   -- If the graph of x did not change, the children did not change.
   pub nothing_merged : {g : Graph} → g ≡ x.graph → set cs i (with_graph x g) ≡ cs

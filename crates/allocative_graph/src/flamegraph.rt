@@ -8,8 +8,8 @@ ghost use Rattle.allocative_graph.specs.Format.{semicolon, AppendsText, ReturnsT
 ghost use Rattle.allocative_graph.specs.Graph.{add_self, total, text, default, sum_of, under, joined, ExceedWord, IsTree, IsPartOfSum};
 ghost use Rattle.allocative_graph.specs.Representation.PathRows.{size_text, lines_from, lines_below, HasRootAlone};
 ghost use Rattle.allocative_graph.specs.Rows.{AreChildren};
-ghost use Rattle.allocative_graph.specs.Representation.Node.{weight};
-ghost use Rattle.allocative_graph.specs.Representation.Children.{front_order, InOrder, IsFound, IsChildGap, Added, Merged, IsNext};
+ghost use Rattle.allocative_graph.specs.Many.{total_of};
+ghost use Rattle.allocative_graph.specs.Representation.Children.{front_order, InOrder, IsFound, IsChildGap, Added, Merged, MergesFirst};
 ghost use Rattle.allocative_graph.specs.declared.flamegraph.Child.{Child};
 
 use crate::key::Key;
@@ -367,14 +367,14 @@ fn place_by_halving(children: &[Child], key: &str) -> Result<usize, usize>
 
 // Adds a child: to the child with its key, or at its place among the others.
 #[cycle(merge)]
-#[tactic(auto, using(crate::proofs::ChildMerged::weight_at_gap))]
+#[tactic(auto, using(crate::proofs::ChildMerged::total_at_gap))]
 fn put_child(children: &mut Vec<Child>, size: &mut usize, child: Child) -> Result<(), AllocError>
     requires children { AreChildren children.old.items }
-    requires weighed { size.old ≡ weight children.old.items }
+    requires size { size.old ≡ total_of children.old.items }
     requires tree { IsTree child.graph }
     requires fits { size.old + total child.graph < 2 ^ 64 }
     ensures merged { Merged (is_ok result) children.old.items (child ∷ []) children.new.items }
-    ensures weighed { size.new ≡ weight children.new.items }
+    ensures size { size.new ≡ total_of children.new.items }
 {
     let Child { key, graph } = child;
     match place_of(children, &key) {
@@ -420,11 +420,11 @@ fn interleave(
     theirs: Vec<Child>,
 ) -> Result<(), AllocError>
     requires mine { AreChildren children.old.items }
-    requires weighed { size.old ≡ weight children.old.items }
+    requires size { size.old ≡ total_of children.old.items }
     requires theirs { AreChildren theirs.items }
-    requires fits { size.old + weight theirs.items < 2 ^ 64 }
+    requires fits { size.old + total_of theirs.items < 2 ^ 64 }
     ensures merged { Merged (is_ok result) children.old.items theirs.items children.new.items }
-    ensures weighed { size.new ≡ weight children.new.items }
+    ensures size { size.new ≡ total_of children.new.items }
 {
     let alloc = *children.allocator();
     let merged = Vec::with_capacity(alloc, children.len() + theirs.len())?;
@@ -450,9 +450,9 @@ fn take_next(
 ) -> Option<(Child, Result<(), AllocError>)>
     requires mine { AreChildren mine.old.items }
     requires theirs { AreChildren theirs.old.items }
-    requires fits { weight mine.old.items + weight theirs.old.items < 2 ^ 64 }
+    requires fits { total_of mine.old.items + total_of theirs.old.items < 2 ^ 64 }
     ensures next { IfSome result
-        (λ next. IsNext (is_ok next.1) mine.old.items theirs.old.items next.0 mine.new.items theirs.new.items) }
+        (λ next. MergesFirst (is_ok next.1) mine.old.items theirs.old.items (next.0 ∷ []) mine.new.items theirs.new.items) }
     ensures end { IfNone result ((mine.old.items ≡ []) × (theirs.old.items ≡ [])) }
 {
     match fronts(mine, theirs)? {

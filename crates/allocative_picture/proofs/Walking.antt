@@ -1,15 +1,16 @@
 -- The frames of a graph are that of its root and then those of its children, one child after another.
-use Rattle.std.proofs.Common.{◌≡◌, refl, ℕ, ◌+◌, ◌<◌, ◌≤◌, ◌++◌, [], ◌∷◌, List, Bor, get_or, take, drop, length}
-use Rattle.std.proofs.Common.{length-append, arith, ap, sym, ◌∙◌, take-append-drop}
+use Rattle.std.proofs.Common.{◌≡◌, refl, ℕ, ◌+◌, ◌<◌, ◌++◌, [], ◌∷◌, List, Bor, get_or, take, length}
+use Rattle.std.proofs.Common.{length-append, arith, ap, sym, ◌∙◌}
 use Rattle.allocative_picture.proofs.Common.{entries, len, Child, Path, Graph, total, total_at, Figures, figures_behind}
-use Rattle.allocative_picture.proofs.Common.{weight, Mark, FrameData, frame_of, frame_from, frames_from}
-use Rattle.std.proofs.lemmas.List.{map-append, take_more, length-map}
+use Rattle.allocative_picture.proofs.Common.{total_of, Mark, FrameData, frame_of, frame_from, frames_from}
+use Rattle.std.proofs.lemmas.List.{map-append, length-map}
+use Rattle.std.proofs.lemmas.List.Folds.{fold-map}
+use Rattle.std.proofs.lemmas.List.Sums.{sum_by_more}
 use Rattle.std.specs.FinMap.{len-entries}
 use Rattle.allocative_graph.specs.Rows.{node, rows_of}
 use Rattle.allocative_graph.specs.Representation.Children.{InOrder}
 use Rattle.allocative_graph.specs.Representation.NodeRows.{len-child}
-use Rattle.allocative_graph.specs.Representation.PathRows.{sum_of_rows}
-use Rattle.allocative_graph.proofs.ChildRows.{rows-more, weight-append, weight-one}
+use Rattle.allocative_graph.proofs.ChildRows.{rows-more, total_of-rows}
 use Rattle.allocative_graph.proofs.NodeText.{texts}
 use Rattle.allocative_graph.proofs.Rows.{child_read, figured, node_read}
 use Rattle.allocative_picture.specs.Frames as picture
@@ -29,19 +30,14 @@ frames_from-append M b (f ∷ fs) gs =
     ap (λ (s : List FrameData). frame_from M b f ∷ s)
     (frames_from-append M (b + f.self_size) fs gs ∙ ap (λ n. frames_from M (b + f.self_size) fs ++ frames_from M n gs) e)
 
--- The own bytes of the figures of some rows are the sum of the sizes of the rows.
-own-figured : (t : Path → ℕ) (ks : Path) (rs : List (Path × ℕ)) → own_bytes (figured t ks rs) ≡ sum_of_rows rs
-own-figured t ks [] = omega arith
-own-figured t ks (r ∷ rs) = omega (arith, own-cons (record { path = ks ++ r.0; self_size = r.1; total_size = t r.0 }) (figured t ks rs), own-figured t ks rs)
+-- The own bytes of the figures of some children's rows are their totals.
+own-figured : (t : Path → ℕ) (ks : Path) (cs : List Child) → own_bytes (figured t ks (rows_of cs)) ≡ total_of cs
+own-figured t ks cs = fold-map (λ n (f : Figures). n + f.self_size) _ 0 (rows_of cs) ∙ total_of-rows cs
 
 -- The bytes of the children up to a place, and of the child there.
-pub weight_more : (cs : List Child) (i : ℕ) (d : Child) → i < length cs → d ≡ get_or cs i d →
-    weight (take (i + 1) cs) ≡ weight (take i cs) + total d.graph
-weight_more cs i d h at = rw (take_more cs i d h, ← at, weight-append (take i cs) (d ∷ []), weight-one d) refl
-
--- The children up to a place have at most the bytes of all children.
-pub weight_within : (cs : List Child) (i : ℕ) → weight (take i cs) ≤ weight cs
-weight_within cs i = omega (arith, weight-append (take i cs) (drop i cs), ap weight (take-append-drop i cs))
+pub total_of_more : (cs : List Child) (i : ℕ) (d : Child) → i < length cs → d ≡ get_or cs i d →
+    total_of (take (i + 1) cs) ≡ total_of (take i cs) + total d.graph
+total_of_more cs i d h at = rw (sum_by_more (λ (c : Child). total c.graph) cs i d h, ← at) refl
 
 -- The frames of the children up to a place, and of the child there, are as many as its paths more.
 pub rows_more : (cs : List Child) (i : ℕ) (d : Child) → i < length cs → d ≡ get_or cs i d →
@@ -53,14 +49,14 @@ module _ (M : Path → Mark) (b n : ℕ) (g : Graph) (cs : List Child) (is : g �
   -- The frames of one child more.
   pub child_rows : (i : ℕ) (d : Child) → i < length cs → d ≡ get_or cs i d
       → frames_from M b (figured (total_at g) ks (rows_of (take i cs)))
-      ++ frames_from M (b + weight (take i cs)) (figures_behind (ks ++ d.key ∷ []) d.graph)
+      ++ frames_from M (b + total_of (take i cs)) (figures_behind (ks ++ d.key ∷ []) d.graph)
       ≡ frames_from M b (figured (total_at g) ks (rows_of (take (i + 1) cs)))
   child_rows i d w at =
       let t : Path → ℕ = total_at (node n cs) in
-      let before = rows_of (take i cs) in
+      let before = take i cs in
       rw is (
-      ap (λ (c : Child). frames_from M b (figured t ks before)
-      ++ frames_from M (b + weight (take i cs)) (figures_behind (ks ++ c.key ∷ []) c.graph)) at
+      ap (λ (c : Child). frames_from M b (figured t ks (rows_of before))
+      ++ frames_from M (b + total_of (take i cs)) (figures_behind (ks ++ c.key ∷ []) c.graph)) at
       ∙ rw (← own-figured t ks before, ← frames_from-append) (ap (frames_from M b) (child_read n cs i d ks o w))
       )
 

@@ -1,10 +1,10 @@
 -- Lists of children, as maps from a key and the path below it to a size, and what adding graphs and merging children
 -- leave, also if memory runs out on the way.
-use Rattle.std.specs.Prelude.{◌≡◌, ℕ, ◌+◌, ◌<◌, ◌≤◌, ◌||◌, ◌⊎◌, true, cond, List, [], ◌∷◌, Option, Some, None, is_some}
-use Rattle.std.specs.Prelude.{take, drop, length, slice_index_or, ◌&&◌, Bool}
+use Rattle.std.specs.Prelude.{◌≡◌, ℕ, ◌+◌, ◌<◌, ◌≤◌, ◌||◌, ◌⊎◌, true, cond, List, [], ◌∷◌, ◌++◌, Option, Some, None, is_some}
+use Rattle.std.specs.Prelude.{length, slice_index_or, ◌&&◌, Bool}
 use Rattle.std.specs.Option.{unwrap_or}
 use Rattle.std.specs.List.{AllByRecursion}
-use Rattle.std.specs.List.Sorted.{IsStrictlySortedBy}
+use Rattle.std.specs.List.Sorted.{IsStrictlySortedBy, IsPartitionPoint}
 use Rattle.std.specs.declared.cmp.Ordering.{Ordering}
 use Rattle.std.specs.declared.cmp.Ordering.TheVariants.{Less, Greater}
 use Rattle.std.specs.Ordering.{eq_by_cmp}
@@ -14,7 +14,7 @@ use Rattle.allocative_graph.specs.Path.{Key, Path, key_cmp}
 use Rattle.allocative_graph.specs.Rows.{keys_of, rows_of, AreChildren}
 use Rattle.allocative_graph.specs.Graph.{Graph, IsTree, total, IsPartOfSum}
 use Rattle.allocative_graph.specs.Representation.PathRows.{IsSumByPath, graph_of_path}
-use Rattle.allocative_graph.specs.Representation.Node.{weight}
+use Rattle.allocative_graph.specs.Many.{total_of}
 
 -- The size at the path p below the child with the key k, or None if there is no such path.
 abbrev pub size_under : List Child → Key → Path → Option ℕ
@@ -36,10 +36,6 @@ AddsUpInPart x y z =
 abbrev pub InOrder : List Child → Type 0
 InOrder cs = IsStrictlySortedBy key_cmp (keys_of cs)
 
--- Each key is below k.
-abbrev pub AllBelow : List Child → Key → Type 0
-AllBelow cs k = AllByRecursion (λ l. key_cmp l k ≡ Less) (keys_of cs)
-
 -- Each key is above k.
 abbrev pub AllAbove : List Child → Key → Type 0
 AllAbove cs k = AllByRecursion (λ l. key_cmp k l ≡ Less) (keys_of cs)
@@ -52,8 +48,7 @@ pub record IsFound (cs : List Child) (k : Key) (i : ℕ) : Type 0 where
 -- The key k is not there, and belongs at the place i.
 pub record IsChildGap (cs : List Child) (k : Key) (i : ℕ) : Type 0 where
   pub within : i ≤ length cs
-  pub below : AllBelow (take i cs) k
-  pub above : AllAbove (drop i cs) k
+  pub between : IsPartitionPoint (λ c. key_cmp c.key k ≡ Less) (λ c. key_cmp c.key k ≡ Greater) cs i
 
 -- The child that has the key k, n bytes at the path p below it, and nothing else.
 abbrev pub child_of_path : Key → Path → ℕ → Child
@@ -81,13 +76,13 @@ pub record Merged (all : Bool) (cs ds es : List Child) : Type 0 where
   pub above : (k : Key) → AllAbove cs k → AllAbove ds k → AllAbove es k
   pub part : (k : Key) (p : Path) → AddsUpInPart (size_under cs k p) (size_under ds k p) (size_under es k p)
   pub sum : all ≡ true → (k : Key) (p : Path) → AddsUp (size_under cs k p) (size_under ds k p) (size_under es k p)
-  pub at_most : weight es ≤ weight cs + weight ds
+  pub at_most : total_of es ≤ total_of cs + total_of ds
 
--- c is the next child in the merge of cs and ds, and cs' and ds' remain: c comes before whatever these merge to.
-pub record IsNext (all : Bool) (cs ds : List Child) (c : Child) (cs' ds' : List Child) : Type 0 where
-  pub goes_on : (b : Bool) (es : List Child) → Merged b cs' ds' es → Merged (all && b) cs ds (c ∷ es)
+-- Of cs and ds, cs' and ds' remain, and out is the merge of what comes before them.
+pub record MergesFirst (all : Bool) (cs ds out cs' ds' : List Child) : Type 0 where
+  pub goes_on : (b : Bool) (es : List Child) → Merged b cs' ds' es → Merged (all && b) cs ds (out ++ es)
   pub mine : AreChildren cs'
   pub theirs : AreChildren ds'
-  pub fewer : length cs' + length ds' < length cs + length ds
+  pub fewer : length out + (length cs' + length ds') ≤ length cs + length ds
   pub fewer_rows : length (rows_of ds') ≤ length (rows_of ds)
-  pub fits : total c.graph + (weight cs' + weight ds') ≤ weight cs + weight ds
+  pub fits : total_of out + (total_of cs' + total_of ds') ≤ total_of cs + total_of ds

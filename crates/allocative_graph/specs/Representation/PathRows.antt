@@ -1,15 +1,10 @@
--- Rows, which are paths with their sizes, the sum of two graphs path by path, and the graphs of paths and stacks.
+-- The lines of rows, the sum of two graphs path by path, and the graphs of paths and stacks.
 use Rattle.std.specs.Prelude.{◌≡◌, ℕ, ◌+◌, ◌||◌, ◌==◌, if◌then◌else◌, List, [], ◌∷◌, ◌++◌, flat_map, decimal, fold}
 use Rattle.std.specs.FinMap.{contains_key, entries}
 use Rattle.allocative_graph.specs.Path.{Path}
 use Rattle.allocative_graph.specs.Format.{semicolon, space, newline}
 use Rattle.allocative_graph.specs.Graph.{Graph, size_at, is_root, joined, default, sum_of, under, add_self}
 use Rattle.allocative_graph.specs.Read.{Stack}
-
--- The sum of the sizes of some rows.
-abbrev pub sum_of_rows : List (Path × ℕ) → ℕ
-sum_of_rows [] = 0
-sum_of_rows (r ∷ rs) = r.1 + sum_of_rows rs
 
 -- The keys, with a `;` before each.
 abbrev pub joined_on : Path → List ℕ

@@ -4,7 +4,7 @@ ghost use Rattle.std.specs.List.{insert};
 ghost use Rattle.allocative_graph.specs.Path.{texts};
 ghost use Rattle.allocative_graph.specs.Graph.{total, sum_of};
 ghost use Rattle.allocative_graph.specs.Rows.{AreChildren};
-ghost use Rattle.allocative_graph.specs.Representation.Node.{weight};
+ghost use Rattle.allocative_graph.specs.Many.{total_of};
 ghost use Rattle.allocative_graph.specs.Representation.Children.{Merged, child_of_path};
 ghost use Rattle.allocative_graph.specs.Representation.PathRows.{graph_of_path};
 
@@ -41,7 +41,7 @@ fn add_below(
     size: usize,
 ) -> Result<(), AllocError>
     requires children { AreChildren children.old.items }
-    requires fits { weight children.old.items + size < 2 ^ 64 }
+    requires fits { total_of children.old.items + size < 2 ^ 64 }
     ensures merged { OnOk result
         (Merged true children.old.items (child_of_path key (texts rest.now) size ∷ []) children.new.items) }
     ensures unchanged { OnErr result (children.new.items ≡ children.old.items) }

@@ -1,8 +1,9 @@
-use Rattle.std.proofs.Common.{◌≡◌, ℕ, ◌+◌, rules, [], Some, refl, sym, ap, ◌∙◌, arith, is_ok}
-use Rattle.allocative_graph.proofs.Common.{Child, nil_from_length}
-use Rattle.allocative_graph.proofs.ChildMerged.{going_next, going_end, is_ok-and, merged_same, next_less, next_greater}
+use Rattle.std.proofs.Common.{◌≡◌, rules, [], Some, refl, sym, ap, ◌∙◌, arith, is_ok}
+use Rattle.std.proofs.lemmas.List.Sums.{sum_by_push}
+use Rattle.allocative_graph.proofs.Common.{Child, nil_from_length, total, total_of}
+use Rattle.allocative_graph.proofs.ChildMerged.{merges_then, merges_all, is_ok-and, merged_same, next_less, next_greater}
 use Rattle.allocative_graph.proofs.ChildMerged.{next_equal, both_fit, rows_fit, front_is, one_of_length, put_at_found}
-use Rattle.allocative_graph.proofs.ChildMerged.{weights_found, put_at_gap}
+use Rattle.allocative_graph.proofs.ChildMerged.{totals_found, put_at_gap}
 use Rattle.allocative_graph.proofs.NodeAdded.{len_of_node, total_of_both, merged_node, merged_graph, child_of_one}
 use Rattle.allocative_graph.proofs.flamegraph.+merge.Goals as goal
 
@@ -18,7 +19,7 @@ FlameGraph::merge-put_child-requires t c =
     let one = one_of_length _ c.pop.new.self.items c.in-Some.child c.in-Some.ensures.items
     (omega (arith, c.len.ensures, c.other.inside.children.ok.0, c.if-len-lt2.true)) in
     let child = child_of_one c.self.view_is c.self.invariant c.other.view_is c.other.invariant (sym one) c.requires in
-    (omega (arith, c.decreases, child.0), (c.self.invariant.children, (c.self.invariant.weighed, (child.1, child.2))))
+    (omega (arith, c.decreases, child.0), (c.self.invariant.children, (c.self.invariant.size, (child.1, child.2))))
 
 pub FlameGraph::merge-returns-then-len-lt2 : goal.FlameGraph::merge-returns-then-len-lt2
 FlameGraph::merge-returns-then-len-lt2 t c =
@@ -32,13 +33,13 @@ FlameGraph::merge-invariant_of-self-then-len-lt2 t c =
     let one = one_of_length _ c.pop.new.self.items c.in-Some.child c.in-Some.ensures.items
     (omega (arith, c.len.ensures, c.other.inside.children.ok.0, c.if-len-lt2.true)) in
     merged_node c.self.view_is c.self.invariant c.other.view_is c.other.invariant refl (sym one) c.requires
-    c.put_child.ensures.merged c.put_child.ensures.weighed
+    c.put_child.ensures.merged c.put_child.ensures.size
 
 pub FlameGraph::merge-interleave-requires : goal.FlameGraph::merge-interleave-requires
 FlameGraph::merge-interleave-requires t c =
     let fits = total_of_both c.self.view_is c.self.invariant c.other.view_is c.other.invariant in
     let rows = len_of_node c.other.view_is c.other.invariant in
-    (omega (arith, c.decreases, rows), (c.self.invariant.children, (c.self.invariant.weighed, (c.other.invariant.children, omega (arith, fits, c.self.invariant.weighed, c.requires)))))
+    (omega (arith, c.decreases, rows), (c.self.invariant.children, (c.self.invariant.size, (c.other.invariant.children, omega (arith, fits, c.self.invariant.size, c.requires)))))
 
 pub FlameGraph::merge-returns : goal.FlameGraph::merge-returns
 FlameGraph::merge-returns t c =
@@ -50,15 +51,16 @@ interleave-loop-child-init t c =
 
 pub interleave-loop-child-preserved : goal.interleave-loop-child-preserved
 interleave-loop-child-preserved t c =
-    going_next c.loop-child.invariant c.in-Some.ensures.next
-    (ap (λ r. is_ok r) c.and-result.ensures ∙ is_ok-and c.loop-child.result c.in-Some.added)
-    c.in-Ok.ensures.items
-    (ap (λ (n : ℕ). c.loop-child.size + n) c.total_size.ensures.total)
-    c.in-Ok.ensures.capacity
+    record {
+      merged = merges_then c.loop-child.invariant.merged c.in-Some.ensures.next
+          (ap (λ r. is_ok r) c.and-result.ensures ∙ is_ok-and c.loop-child.result c.in-Some.added) c.in-Ok.ensures.items;
+      size = omega (arith, c.loop-child.invariant.size, c.total_size.ensures.total, ap total_of c.in-Ok.ensures.items, sum_by_push (λ (d : Child). total d.graph) c.loop-child.children.items c.in-Some.child);
+      has_room = omega (arith, c.loop-child.invariant.has_room, c.in-Ok.ensures.capacity);
+    }
 
 pub interleave-returns-clause-merged : goal.interleave-returns-clause-merged
 interleave-returns-clause-merged t c = let end = c.in_default.ensures.end in
-    going_end c.loop-child.invariant end.0 end.1
+    merges_all c.loop-child.invariant.merged end.0 end.1
 
 pub take_next-merge-added-requires : goal.take_next-merge-added-requires
 take_next-merge-added-requires t c =
@@ -86,29 +88,29 @@ take_next-returns-in-Equal-clause-next t c =
 pub put_child-merge-result-requires : goal.put_child-merge-result-requires
 put_child-merge-result-requires t c =
     let x : Child = c.index_mut-here.result.now in
-    let weights = weights_found c.args.child x x.graph c.deref.ensures.value c.in-Ok.ensures.found
+    let totals = totals_found c.args.child x x.graph c.deref.ensures.value c.in-Ok.ensures.found
     c.index_mut-here.ensures.value in
-    (omega (arith, c.decreases), omega (arith, weights.1, c.requires.weighed, c.requires.fits))
+    (omega (arith, c.decreases), omega (arith, totals.1, c.requires.size, c.requires.fits))
 
 pub put_child-overflow_sub-size : goal.put_child-overflow_sub-size
 put_child-overflow_sub-size t c =
     let x : Child = c.index_mut-here.result.now in
-    let weights = weights_found c.args.child x x.graph c.deref.ensures.value c.in-Ok.ensures.found
+    let totals = totals_found c.args.child x x.graph c.deref.ensures.value c.in-Ok.ensures.found
     c.index_mut-here.ensures.value in
-    omega (arith, weights.1, c.requires.weighed, c.total_size-before.ensures.total)
+    omega (arith, totals.1, c.requires.size, c.total_size-before.ensures.total)
 
 pub put_child-returns-in-Ok-clause-merged : goal.put_child-returns-in-Ok-clause-merged
 put_child-returns-in-Ok-clause-merged t c =
     put_at_found c.args.child c.index_mut-here.result.now _ c.deref.ensures.value c.in-Ok.ensures.found
     c.index_mut-here.ensures.value c.requires.children c.merge-result.ensures
 
-pub put_child-returns-in-Ok-clause-weighed : goal.put_child-returns-in-Ok-clause-weighed
-put_child-returns-in-Ok-clause-weighed t c =
+pub put_child-returns-in-Ok-clause-size : goal.put_child-returns-in-Ok-clause-size
+put_child-returns-in-Ok-clause-size t c =
     let x : Child = c.index_mut-here.result.now in
     let g = c.merge-result.new.self in
-    let weights = weights_found c.args.child x g c.deref.ensures.value c.in-Ok.ensures.found
+    let totals = totals_found c.args.child x g c.deref.ensures.value c.in-Ok.ensures.found
     c.index_mut-here.ensures.value in
-    omega (arith, weights.0, weights.1, c.requires.weighed, c.total_size-before.ensures.total, c.total_size.ensures.total)
+    omega (arith, totals.0, totals.1, c.requires.size, c.total_size-before.ensures.total, c.total_size.ensures.total)
 
 pub put_child-returns-in_ok-put_at-in-Err-clause-merged : goal.put_child-returns-in_ok-put_at-in-Err-clause-merged
 put_child-returns-in_ok-put_at-in-Err-clause-merged t c =

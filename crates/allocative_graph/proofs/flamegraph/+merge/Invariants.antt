@@ -1,6 +1,6 @@
-use Rattle.std.proofs.Common.{◌+◌, ◌*◌, length, is_ok}
-use Rattle.allocative_graph.proofs.Common.{vec_capacity, len, rows_of}
-use Rattle.allocative_graph.proofs.ChildMerged.{Going}
+use Rattle.std.proofs.Common.{◌≡◌, ◌+◌, ◌*◌, ◌≤◌, length, is_ok}
+use Rattle.allocative_graph.proofs.Common.{vec_capacity, len, rows_of, total_of}
+use Rattle.allocative_graph.specs.Representation.Children.{MergesFirst}
 use Rattle.allocative_graph.proofs.flamegraph.+merge.Given as goal
 
 -- A graph has more rows than its children.
@@ -19,7 +19,11 @@ decreases-put_child l = 3 * len l.child.graph + 1
 abbrev pub decreases-interleave-loop-child : goal.decreases-interleave-loop-child
 decreases-interleave-loop-child l = length l.mine.items + length l.theirs.items
 
--- What remains of both lists, merged and put after what was taken, is the merge of all.
+-- What was taken from both lists is merged. There is room for what remains.
 abbrev pub invariant-interleave-loop-child : goal.invariant-interleave-loop-child
-invariant-interleave-loop-child l = Going (is_ok l.result) l.fn.children.items l.fn.theirs.items l.children.items
-    l.mine.items l.theirs.items l.size (vec_capacity l.children)
+invariant-interleave-loop-child l = record {
+  merged : MergesFirst (is_ok l.result) l.fn.children.items l.fn.theirs.items l.children.items l.mine.items
+      l.theirs.items;
+  size : l.size ≡ total_of l.children.items;
+  has_room : length l.fn.children.items + length l.fn.theirs.items ≤ vec_capacity l.children;
+}

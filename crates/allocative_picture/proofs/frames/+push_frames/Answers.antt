@@ -1,6 +1,6 @@
 use Rattle.std.proofs.Common.{rules, ◌≡◌, refl, ◌+◌, ◌<◌, ◌++◌, [], ◌∷◌, List, map, arith, ap, sym, subst, append_assoc}
 use Rattle.std.proofs.Common.{append-nil, ◌∙◌, filter, length, take_all}
-use Rattle.allocative_picture.proofs.Common.{is_drawn, len, Child, Path, total, total_at, weight, FrameData, frame_data}
+use Rattle.allocative_picture.proofs.Common.{is_drawn, len, Child, Path, total, total_at, total_of, FrameData, frame_data}
 use Rattle.allocative_picture.proofs.Common.{frames_from, frame_from}
 use Rattle.std.proofs.lemmas.List.Elements.{filter-append}
 use Rattle.allocative_graph.proofs.NodeAdded.{rows_of_node}
@@ -9,8 +9,9 @@ use Rattle.allocative_graph.specs.Rows.{rows_of}
 use Rattle.allocative_graph.proofs.NodeSizes.{total-node}
 use Rattle.allocative_graph.proofs.NodeText.{texts, popped}
 use Rattle.allocative_graph.proofs.Rows.{figured}
+use Rattle.std.proofs.lemmas.List.Sums.{sum_by-take-le}
 use Rattle.allocative_picture.specs.Marks.{mark_by}
-use Rattle.allocative_picture.proofs.Walking.{pushed_key, weight_more, weight_within, rows_more, child_rows, node_rows}
+use Rattle.allocative_picture.proofs.Walking.{pushed_key, total_of_more, rows_more, child_rows, node_rows}
 use Rattle.allocative_picture.proofs.frames.+push_frames.Goals as goal
 
 -- The bytes before the children fit, since all bytes do.
@@ -36,7 +37,7 @@ push_frames-requires t c =
     let falls = c.decreases in (
       omega (arith, small, falls),
       (
-        omega (arith, ap total c.children-children.ensures.whole, total-node (size_at g []) cs c.children-children.ensures.children.sorted, c.self_size.ensures, c.requires.fits, c.loop-child.invariant.before, weight_more cs i d (omega arith) c.child-item.is, weight_within cs (i + 1)),
+        omega (arith, ap total c.children-children.ensures.whole, total-node (size_at g []) cs c.children-children.ensures.children.sorted, c.self_size.ensures, c.requires.fits, c.loop-child.invariant.before, total_of_more cs i d (omega arith) c.child-item.is, sum_by-take-le (λ (x : Child). total x.graph) cs (i + 1)),
         λ p. ap (λ (q : Path). M (q ++ p)) behind_it ∙ ap M (append_assoc ks (d.key ∷ []) p)
             ∙ c.requires.other (d.key ∷ p) ∙ c.below-below.ensures c.args.shown.now.marks p,
       ),
@@ -63,7 +64,7 @@ loop-child-preserved t c =
     record {
       path = popped _ _ _ c.as_str.result _ c.pop.ensures.rest c.push_frames.new.path.ok.0
           (c.in_ok-push_frames.ensures.path ∙ pushed);
-      before = omega (arith, c.in_ok-push_frames.ensures.before, c.loop-child.invariant.before, weight_more cs i d (omega arith) c.child-item.is);
+      before = omega (arith, c.in_ok-push_frames.ensures.before, c.loop-child.invariant.before, total_of_more cs i d (omega arith) c.child-item.is);
       paths = omega (arith, c.in_ok-push_frames.ensures.paths, c.loop-child.invariant.paths, rows_more cs i d (omega arith) c.child-item.is);
       frames = rw (← came, filter-append, ← append_assoc, ← c.loop-child.invariant.frames, ← c.loop-child.invariant.before, ← behind_it) c.in_ok-push_frames.ensures.frames;
     }
@@ -72,7 +73,7 @@ loop-child-preserved t c =
 pub returns-clause-before : goal.returns-clause-before
 returns-clause-before t c =
     let cs = c.children-children.result.now in
-    omega (arith, c.loop-child.invariant.before, ap weight (take_all c.loop-child.child-index cs (omega arith)), ap total c.children-children.ensures.whole, total-node (size_at c.args.graph.now []) cs c.children-children.ensures.children.sorted, c.self_size.ensures)
+    omega (arith, c.loop-child.invariant.before, ap total_of (take_all c.loop-child.child-index cs (omega arith)), ap total c.children-children.ensures.whole, total-node (size_at c.args.graph.now []) cs c.children-children.ensures.children.sorted, c.self_size.ensures)
 
 -- After the last child all paths of the graph are counted.
 pub returns-clause-paths : goal.returns-clause-paths

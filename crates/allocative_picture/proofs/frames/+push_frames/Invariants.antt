@@ -1,5 +1,5 @@
 use Rattle.std.proofs.Common.{◌≡◌, ◌+◌, ◌++◌, map, take, length, filter}
-use Rattle.allocative_picture.proofs.Common.{len, total_at, weight, frame_data, frames_from, is_drawn}
+use Rattle.allocative_picture.proofs.Common.{len, total_at, total_of, frame_data, frames_from, is_drawn}
 use Rattle.allocative_graph.specs.Rows.{rows_of}
 use Rattle.allocative_graph.proofs.Rows.{figured}
 use Rattle.allocative_picture.specs.Marks.{mark_by}
@@ -13,7 +13,7 @@ decreases-push_frames l = len l.graph.now
 abbrev pub invariant-loop-child : goal.invariant-loop-child
 invariant-loop-child l = record {
   path : l.path.items ≡ l.initial.path.items;
-  before : l.before ≡ l.initial.before + weight (take l.child-index l.children);
+  before : l.before ≡ l.initial.before + total_of (take l.child-index l.children);
   paths : l.paths ≡ l.initial.paths + length (rows_of (take l.child-index l.children));
   frames : map frame_data l.frames.items ≡ map frame_data l.initial.frames.items
       ++ filter (is_drawn l.shown.least l.shown.all)

@@ -15,8 +15,8 @@ add_at-overflow_add-graph t c = omega (arith, total_of_node c.graph.view_is c.gr
 pub add_at-invariant_of-graph : goal.add_at-invariant_of-graph
 add_at-invariant_of-graph t c = record {
   children = c.graph.invariant.children;
-  weighed = c.graph.invariant.weighed;
-  fits = omega (arith, total_of_node c.graph.view_is c.graph.invariant, c.graph.invariant.weighed, c.requires.fits);
+  size = c.graph.invariant.size;
+  fits = omega (arith, total_of_node c.graph.view_is c.graph.invariant, c.graph.invariant.size, c.requires.fits);
 }
 
 pub add_at-returns-in_default-clause-sum : goal.add_at-returns-in_default-clause-sum
@@ -33,7 +33,7 @@ add_at-add_below-requires t c = (
 
 pub add_at-overflow_add-graph-2 : goal.add_at-overflow_add-graph-2
 add_at-overflow_add-graph-2 t c = omega
-    (arith, total_of_node c.graph.view_is c.graph.invariant, c.graph.invariant.weighed, c.requires.fits)
+    (arith, total_of_node c.graph.view_is c.graph.invariant, c.graph.invariant.size, c.requires.fits)
 
 pub add_at-invariant_of-graph-2 : goal.add_at-invariant_of-graph-2
 add_at-invariant_of-graph-2 t c =

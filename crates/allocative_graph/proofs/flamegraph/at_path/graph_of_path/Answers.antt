@@ -12,7 +12,7 @@ use Rattle.allocative_graph.proofs.flamegraph.at_path.graph_of_path.Goals as goa
 pub invariant_of-graph : goal.invariant_of-graph
 invariant_of-graph c =
     subst (λ (cs : List Child). IsNode cs 0 c.args.size) (sym c.new.ensures.items)
-    (record { children = no_children; weighed = refl; fits = omega arith })
+    (record { children = no_children; size = refl; fits = omega arith })
 
 pub loop-key-init : goal.loop-key-init
 loop-key-init c = ap (node c.args.size) c.new.ensures.items ∙ node_leaf c.args.size

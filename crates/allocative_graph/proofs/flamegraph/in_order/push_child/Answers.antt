@@ -5,7 +5,7 @@ use Rattle.allocative_graph.proofs.NodeAdded.{total_of_node, pushed, node_grown,
 use Rattle.allocative_graph.proofs.flamegraph.in_order.push_child.Goals as goal
 
 pub overflow_add-graph : goal.overflow_add-graph
-overflow_add-graph c = omega (arith, total_of_node c.graph.view_is c.graph.invariant, c.graph.invariant.weighed, c.requires.fits, c.total_size-added.ensures.total)
+overflow_add-graph c = omega (arith, total_of_node c.graph.view_is c.graph.invariant, c.graph.invariant.size, c.requires.fits, c.total_size-added.ensures.total)
 
 pub invariant_of-graph-2 : goal.invariant_of-graph-2
 invariant_of-graph-2 c =
