@@ -32,14 +32,17 @@ class Counted(NamedTuple):
 class Counting:
     """Finds what counts for types in the layouts of a scope."""
 
-    def __init__(self, scope: Scope) -> None:
+    def __init__(self, scope: Scope, layouts: dict[str, str]) -> None:
         self.scope = scope
+        # The layouts that count for the types which hold the type that is written.
+        self.layouts = layouts
 
     def of(self, kind: Type, parameters: tuple[str, ...]) -> Counted | None:
         """What counts for a type with these parameters, which are described; nothing if that is not known."""
         kind = self.scope.real(kind)
         found = self.composed(kind, parameters)
-        return found._replace(text=kind.text) if found and not self.scope.reason(kind, ()) else found
+        is_described = not self.scope.reason(kind, ()) and not self.scope.holds(kind, self.layouts)
+        return found._replace(text=kind.text) if found and is_described else found
 
     def composed(self, kind: Type, parameters: tuple[str, ...]) -> Counted | None:
         name, path = kind.name, "::".join(kind.path)
@@ -55,6 +58,8 @@ class Counting:
             return Counted(path + (f"<{', '.join(['()'] * count)}>" if count else ""), size, align)
         if kind.form in ("tuple", "array") or name in COMPOSED:
             return self.of_parts(kind, path, [self.of(part, parameters) for part in kind.parts])
+        if self.scope.holds(kind, self.layouts):
+            return None if kind.parts else Counted(self.layouts[name], None, 8)
         return None if self.scope.reason(kind, ()) else Counted(kind.text, None, 8)
 
     def of_parts(self, kind: Type, path: str, parts: list[Counted | None]) -> Counted | None:

@@ -4,7 +4,7 @@ from __future__ import annotations
 
 import re
 from functools import cache
-from typing import Callable, Iterable
+from typing import Callable, Container, Iterable
 
 from .types import Definition, Module, Type
 
@@ -49,6 +49,10 @@ class Scope:
         """The definition of a type of the module itself."""
         is_own = len(kind.path) == 1 or (len(kind.path) == 2 and kind.path[0] == "self")
         return self.module.types.get(kind.name) if is_own else None
+
+    def holds(self, kind: Type, names: Container[str]) -> bool:
+        """Whether a type names one of some types of the module."""
+        return any(each.name in names and self.own(each) for each in self.real(kind).all())
 
     def real(self, kind: Type) -> Type:
         """The type itself, if a name of the module stands for it."""

@@ -92,10 +92,11 @@ class Source:
         self.taken = {name.lower() for name in (*self.module.types, *self.module.names, *self.module.uses)}
         wanted = self.wanted_types()
         self.scope = Scope(self.module, [each.name for each in wanted], self.crate.reason)
-        self.counting = Counting(self.scope)
+        self.counting = Counting(self.scope, {})
         self.passed_over: list[int | None] = []
         self.wanted = {each.name: self.judged(each) for each in wanted}
         self.module.types.update(self.wanted)
+        self.layouts = {name: self.free(name, "Layout") for name in self.wanted}
         self.scope.find_strict()
         self.untallied = find_tallied(self) if chosen.counted else {}
 
@@ -193,6 +194,8 @@ class Source:
         elif len(cycle) > 2 or (len(cycle) == 2 and any(each.is_enum for each in cycle)):
             names = ", ".join(each.name for each in cycle)
             what = f"the types {names} hold each other, and only two structs that do are written: {BY_HAND}"
+        elif len(cycle) == 2 and cycle[1].name in self.reached(cycle[1].name, cycle[0].name):
+            what = f"{cycle[1].name} holds itself and {cycle[0].name}, which holds it: {BY_HAND}"
         elif len(cycle) == 2 and not definition.cycle:
             what = "it holds a type that holds it: write `#[cycle(NAME)]` above both, with one name"
         if what:
@@ -222,15 +225,15 @@ class Source:
                 self.fault(fault.at, f"{name}: {fault.what}")
         return found
 
-    def reached(self, name: str) -> set[str]:
-        """The types of the module that a type holds, at any depth."""
+    def reached(self, name: str, closed: str = "") -> set[str]:
+        """The types of the module that a type holds, at any depth, but not those that only a closed one leads to."""
         found: set[str] = set()
         waiting = [name]
         while waiting:
             definition = self.module.types.get(waiting.pop())
             for member in definition.members if definition else ():
                 kinds = self.scope.real(member.type).all()
-                more = {kind.name for kind in kinds if self.scope.own(kind)} - found
+                more = {kind.name for kind in kinds if self.scope.own(kind)} - found - {closed}
                 found |= more
                 waiting += more
         return found

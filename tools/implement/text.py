@@ -5,6 +5,7 @@ from __future__ import annotations
 import re
 from typing import TYPE_CHECKING, Any, Callable, Iterator
 
+from .counted import Counting
 from .tokens import Fault
 from .types import Definition, Member, Type, Variant, split, type_of
 
@@ -26,7 +27,6 @@ LETTERS = [*"abcdefghijklmnopqrstuvw"]
 MARK = "-- Written by bin/implement."
 NAME = re.compile(r"[A-Za-z_]\w*")
 WORD = re.compile(r"[\w-]+")
-OWN = re.compile(r"(?:\bself::)?\b([A-Za-z_]\w*)")
 CONTAINERS = {("Vec", 1): "vec_in", ("Option", 1): "option_in", ("Box", 1): "box_of"}
 CONTAINERS |= {("BTreeMap", 2): "btree_map_of", ("HashMap", 2): "hash_map_of"}
 LEVELS = {*CONTAINERS.values(), "both", "child", "field", "level_shows", "opened", "pair_in", "plain", "recursive"}
@@ -94,11 +94,6 @@ def size_of(kind: str) -> str:
     return f"⟦<{kind} as Described>⟧.size"
 
 
-def renamed(kind: Type, names: dict[str, str]) -> str:
-    """The text of a type with other names for some types."""
-    return OWN.sub(lambda found: names.get(found[1], found[0]), kind.text) if names else kind.text
-
-
 class Writer:
     """Writes the implementations of one type. Of types that hold themselves the first shows levels.
 
@@ -119,7 +114,8 @@ class Writer:
         self.is_borrowed = bool(definition.names("lifetime"))
         # Whether the entry of a value is of a size that the visit asks for.
         self.is_sized = self.is_borrowed or bool(cycle)
-        self.layout = self.record = source.free(self.name, "Layout")
+        self.record = source.layouts[self.name]
+        self.counting = Counting(self.scope, {name: source.layouts[name] for name in self.cycle})
         self.declared_at = f"{source.declared_at}.{self.name}"
         self.used = {"Allocative", "Described", "Part", "Record", "Refusal", "Visitor", "codes"}
         self.answers: dict[str, str] = {}
@@ -173,7 +169,7 @@ class Writer:
         pairs = list(zip(self.definition.variants, lists))
         if self.definition.is_enum:
             lists = [nested([type_of("u8"), greatest(lists)])]
-        self.record, text = self.alias(self.layout, lists[0])
+        self.record, text = self.alias(self.record, lists[0])
         for variant, fields in pairs:
             if self.definition.is_enum and variant.is_entry:
                 name = self.source.free(self.name + variant.name, "Fields")
@@ -200,14 +196,17 @@ class Writer:
         return joined([nested([*group, EMPTY]) for group in groups], lambda lists: nested(lists, "And"))
 
     def entries(self, variant: Variant) -> Iterator[Type]:
-        """The types that count for a variant's fields, with `()` in place of the types that hold this one."""
-        nothing = dict.fromkeys(self.cycle, "()")
+        """The types that count for a variant's fields. For one that holds this type its layout counts."""
         for member in variant.members:
-            if member.is_whole:
-                kinds = [member.type] if member.type.name != "PhantomData" else []
-            else:
-                kinds = [type_of(each.text) for each in self.source.counting.member(member, self.types) or ()]
-            yield from (type_of(renamed(kind, nothing)) for kind in kinds)
+            is_of_cycle = self.holds_cycle(member.type)
+            if not member.is_whole or is_of_cycle:
+                counted = self.counting.member(member, self.types)
+                if counted is None and is_of_cycle:
+                    what = "holds the type itself in a way whose size is not known: write above it `// allocative: size N`"
+                    raise Fault(member.at, f"`{member.type.text}` {what}")
+                yield from (type_of(each.text) for each in counted or ())
+            elif member.type.name != "PhantomData":
+                yield member.type
 
     def described(self) -> str:
         """The implementation of `Described`."""
@@ -284,13 +283,12 @@ class Writer:
     # ---- levels of a type that holds itself
     def holds_cycle(self, kind: Type) -> bool:
         """Whether a type names one of the cycle."""
-        kinds = self.scope.real(kind).all() if self.cycle else ()
-        return any(each.name in self.cycle and self.scope.own(each) for each in kinds)
+        return bool(self.cycle) and self.scope.holds(kind, self.cycle)
 
     def size_in(self, kind: Type) -> str:
-        """The declared size of a type, with the layout in place of each type of the cycle."""
-        ending = self.layout.removeprefix(self.name)
-        return size_of(renamed(kind, {name: name + ending for name in self.cycle}))
+        """The declared size of a type that holds one of the cycle, by what counts for it."""
+        counted = self.counting.of(kind, self.types)
+        return size_of(counted.text if counted else kind.text)
 
     def level(self, member: Member, kind: Type, value: str) -> str:
         """The level of a value of a type, which stands in a field."""

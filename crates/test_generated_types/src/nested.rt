@@ -26,7 +26,7 @@ use allocative::{
     Allocative, Declared, Described, Field, Or, Part, Record, Refusal, Visitor, Whole,
 };
 
-type CategoryLayout = Record<(String, (Vec<()>, (Option<u64>, (HashMap<String, ()>, ()))))>;
+type CategoryLayout = Record<(String, (Vec<()>, (Option<u64>, (HashMap<(), ()>, ()))))>;
 
 impl Described for Category {
     ghost name = { codes "Category" };
@@ -58,9 +58,9 @@ impl Described for Category {
 impl Allocative for Category {
     ghost may_show = { recursive (λ x. field (codes "Category") ⟦<CategoryLayout as Described>⟧.size (both
         (plain (shows.Field (codes "name") ⟦<String as Described>⟧.size (⟦<String as Allocative>⟧.may_show (out-Category x).name))) (both
-        (field (codes "children") ⟦<Vec<CategoryLayout> as Described>⟧.size (vec_in ⟦<CategoryLayout as Described>⟧.size child (out-Category x).children)) (both
+        (field (codes "children") ⟦<Vec<()> as Described>⟧.size (vec_in ⟦<CategoryLayout as Described>⟧.size child (out-Category x).children)) (both
         (plain (shows.Field (codes "rank") ⟦<Option<u64> as Described>⟧.size (⟦<Option<u64> as Allocative>⟧.may_show (out-Category x).rank)))
-        (field (codes "by_name") ⟦<HashMap<String, CategoryLayout> as Described>⟧.size (hash_map_of (pair_in ⟦<String as Described>⟧.size ⟦<String as Allocative>⟧.may_show ⟦<CategoryLayout as Described>⟧.size child) (out-Category x).by_name.entries)))))) };
+        (field (codes "by_name") ⟦<HashMap<(), ()> as Described>⟧.size (hash_map_of (pair_in ⟦<String as Described>⟧.size ⟦<String as Allocative>⟧.may_show ⟦<CategoryLayout as Described>⟧.size child) (out-Category x).by_name.entries)))))) };
 
     ghost is_strict = { true };
 
@@ -118,7 +118,7 @@ impl Described for Chain {
 impl Allocative for Chain {
     ghost may_show = { recursive (λ x. field (codes "Chain") ⟦<ChainLayout as Described>⟧.size (both
         (plain (shows.Field (codes "text") ⟦<String as Described>⟧.size (⟦<String as Allocative>⟧.may_show (out-Chain x).text)))
-        (field (codes "next") ⟦<Option<Box<ChainLayout>> as Described>⟧.size (option_in ⟦<Option<Box<ChainLayout>> as Described>⟧.size ⟦<Box<ChainLayout> as Described>⟧.size (λ y. box_of (child y.value)) (out-Chain x).next)))) };
+        (field (codes "next") ⟦<Option<Box<()>> as Described>⟧.size (option_in ⟦<Option<Box<()>> as Described>⟧.size ⟦<Box<()> as Described>⟧.size (λ y. box_of (child y.value)) (out-Chain x).next)))) };
 
     ghost is_strict = { true };
 
@@ -174,8 +174,8 @@ impl Allocative for Tree {
     ghost may_show = { recursive (opened out-Tree (λ x. field (codes "Tree") ⟦<TreeLayout as Described>⟧.size (elim x [
       | Tree-F.Leaf a ↦ plain (shows.Field (codes "Leaf") ⟦<u64 as Described>⟧.size (⟦<u64 as Allocative>⟧.may_show a))
       | Tree-F.Fork a b ↦ field (codes "Fork") ⟦<TreeForkFields as Described>⟧.size (both
-          (field (codes "0") ⟦<Box<TreeLayout> as Described>⟧.size (box_of (child a.value)))
-          (field (codes "1") ⟦<Box<TreeLayout> as Described>⟧.size (box_of (child b.value))))
+          (field (codes "0") ⟦<Box<()> as Described>⟧.size (box_of (child a.value)))
+          (field (codes "1") ⟦<Box<()> as Described>⟧.size (box_of (child b.value))))
     ]))) };
 
     ghost is_strict = { true };
@@ -220,7 +220,7 @@ type JsonLayout = Record<
         Or<
             Or<(bool, ()), Or<(String, ()), (u64, (String, (u64, (u64, (String, ())))))>>,
             Or<
-                Or<(Vec<()>, ()), (BTreeMap<String, ()>, ())>,
+                Or<(Vec<()>, ()), (BTreeMap<(), ()>, ())>,
                 Or<(Box<()>, ()), (Option<Box<()>>, (u32, ()))>,
             >,
         >,
@@ -271,12 +271,12 @@ impl Allocative for Json {
           (plain (shows.Field (codes "2") ⟦<u64 as Described>⟧.size (⟦<u64 as Allocative>⟧.may_show c))) (both
           (plain (shows.Field (codes "3") ⟦<u64 as Described>⟧.size (⟦<u64 as Allocative>⟧.may_show d)))
           (plain (shows.Field (codes "4") ⟦<String as Described>⟧.size (⟦<String as Allocative>⟧.may_show e)))))))
-      | Json-F.List a ↦ field (codes "List") ⟦<Vec<JsonLayout> as Described>⟧.size (vec_in ⟦<JsonLayout as Described>⟧.size child a)
-      | Json-F.Table a ↦ field (codes "Table") ⟦<BTreeMap<String, JsonLayout> as Described>⟧.size (btree_map_of (pair_in ⟦<String as Described>⟧.size ⟦<String as Allocative>⟧.may_show ⟦<JsonLayout as Described>⟧.size child) a.entries)
+      | Json-F.List a ↦ field (codes "List") ⟦<Vec<()> as Described>⟧.size (vec_in ⟦<JsonLayout as Described>⟧.size child a)
+      | Json-F.Table a ↦ field (codes "Table") ⟦<BTreeMap<(), ()> as Described>⟧.size (btree_map_of (pair_in ⟦<String as Described>⟧.size ⟦<String as Allocative>⟧.may_show ⟦<JsonLayout as Described>⟧.size child) a.entries)
       | Json-F.Stop ↦ plain shows.Nothing
-      | Json-F.Boxed a ↦ field (codes "Boxed") ⟦<Box<JsonLayout> as Described>⟧.size (box_of (child a.value))
+      | Json-F.Boxed a ↦ field (codes "Boxed") ⟦<Box<()> as Described>⟧.size (box_of (child a.value))
       | Json-F.Maybe a b ↦ field (codes "Maybe") ⟦<JsonMaybeFields as Described>⟧.size (both
-          (field (codes "first") ⟦<Option<Box<JsonLayout>> as Described>⟧.size (option_in ⟦<Option<Box<JsonLayout>> as Described>⟧.size ⟦<Box<JsonLayout> as Described>⟧.size (λ y. box_of (child y.value)) a))
+          (field (codes "first") ⟦<Option<Box<()>> as Described>⟧.size (option_in ⟦<Option<Box<()>> as Described>⟧.size ⟦<Box<()> as Described>⟧.size (λ y. box_of (child y.value)) a))
           (plain (shows.Field (codes "number") ⟦<u32 as Described>⟧.size (⟦<u32 as Allocative>⟧.may_show b))))
     ]))) };
 
@@ -326,15 +326,16 @@ impl Allocative for Json {
 }
 // allocative: end
 
-/// A chapter, and the notes on it.
+/// A chapter, with its first note and the others.
 #[cycle(chapters)]
 #[derive(Drop)]
 pub struct Chapter {
     pub title: String,
+    pub first: Note,
     pub notes: Vec<Note>,
 }
 // allocative: begin
-type ChapterLayout = Record<(String, (Vec<()>, ()))>;
+type ChapterLayout = Record<(String, (NoteLayout, (Vec<()>, ())))>;
 
 impl Described for Chapter {
     ghost name = { codes "Chapter" };
@@ -365,18 +366,27 @@ impl Described for Chapter {
 #[tactic(auto, using(allocative::proofs::Parts::parts))]
 impl Allocative for Chapter {
     ghost may_show = { recursive (λ x. field (codes "Chapter") ⟦<ChapterLayout as Described>⟧.size (both
-        (plain (shows.Field (codes "title") ⟦<String as Described>⟧.size (⟦<String as Allocative>⟧.may_show (out-Chapter x).title)))
-        (field (codes "notes") ⟦<Vec<NoteLayout> as Described>⟧.size (vec_in ⟦<NoteLayout as Described>⟧.size (λ y. field (codes "Note") ⟦<NoteLayout as Described>⟧.size (both
-        (field (codes "chapters") ⟦<Vec<ChapterLayout> as Described>⟧.size (vec_in ⟦<ChapterLayout as Described>⟧.size child (out-Note y).chapters))
-        (plain (shows.Field (codes "is_long") ⟦<bool as Described>⟧.size (⟦<bool as Allocative>⟧.may_show (out-Note y).is_long))))) (out-Chapter x).notes)))) };
+        (plain (shows.Field (codes "title") ⟦<String as Described>⟧.size (⟦<String as Allocative>⟧.may_show (out-Chapter x).title))) (both
+        (field (codes "first") ⟦<NoteLayout as Described>⟧.size (field (codes "Note") ⟦<NoteLayout as Described>⟧.size (both
+        (field (codes "chapters") ⟦<Vec<()> as Described>⟧.size (vec_in ⟦<ChapterLayout as Described>⟧.size child (out-Note (out-Chapter x).first).chapters))
+        (plain (shows.Field (codes "is_long") ⟦<bool as Described>⟧.size (⟦<bool as Allocative>⟧.may_show (out-Note (out-Chapter x).first).is_long))))))
+        (field (codes "notes") ⟦<Vec<()> as Described>⟧.size (vec_in ⟦<NoteLayout as Described>⟧.size (λ y. field (codes "Note") ⟦<NoteLayout as Described>⟧.size (both
+        (field (codes "chapters") ⟦<Vec<()> as Described>⟧.size (vec_in ⟦<ChapterLayout as Described>⟧.size child (out-Note y).chapters))
+        (plain (shows.Field (codes "is_long") ⟦<bool as Described>⟧.size (⟦<bool as Allocative>⟧.may_show (out-Note y).is_long))))) (out-Chapter x).notes))))) };
 
     ghost is_strict = { true };
 
     #[cycle(chapters)]
     fn visit(&self, visitor: &mut Visitor<'_>) -> Result<(), Refusal> {
         let title = Field("title", &self.title);
+        let first = Field("first", &self.first);
         let notes = Field("notes", &self.notes);
-        Declared("Chapter", <Self as Described>::size(), (title, notes)).enter(visitor)
+        Declared(
+            "Chapter",
+            <Self as Described>::size(),
+            (title, first, notes),
+        )
+        .enter(visitor)
     }
 }
 // allocative: end
@@ -420,7 +430,7 @@ impl Described for Note {
 #[tactic(auto, using(allocative::proofs::Parts::parts))]
 impl Allocative for Note {
     ghost may_show = { λ x. shows.Field (codes "Note") ⟦<NoteLayout as Described>⟧.size (shows.Both
-        (shows.Field (codes "chapters") ⟦<Vec<ChapterLayout> as Described>⟧.size (level_shows ⟦<Chapter as Allocative>⟧.may_show (vec_in ⟦<ChapterLayout as Described>⟧.size child (out-Note x).chapters)))
+        (shows.Field (codes "chapters") ⟦<Vec<()> as Described>⟧.size (level_shows ⟦<Chapter as Allocative>⟧.may_show (vec_in ⟦<ChapterLayout as Described>⟧.size child (out-Note x).chapters)))
         (shows.Field (codes "is_long") ⟦<bool as Described>⟧.size (⟦<bool as Allocative>⟧.may_show (out-Note x).is_long))) };
 
     ghost is_strict = { true };
@@ -476,7 +486,7 @@ impl Allocative for Rope {
 
     ghost may_show = { recursive (opened out-Rope (λ x. field (codes "Rope") ⟦<RopeLayout as Described>⟧.size (elim x [
       | Rope-F.Of a b ↦ field (codes "Of") ⟦<RopeOfFields as Described>⟧.size (both
-          (field (codes "0") ⟦<Vec<RopeLayout> as Described>⟧.size (vec_in ⟦<RopeLayout as Described>⟧.size child a))
+          (field (codes "0") ⟦<Vec<()> as Described>⟧.size (vec_in ⟦<RopeLayout as Described>⟧.size child a))
           (plain (shows.Field (codes "1") ⟦<String as Described>⟧.size (⟦<String as Allocative>⟧.may_show b))))
     ]))) };
 

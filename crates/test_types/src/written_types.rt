@@ -193,10 +193,15 @@ fn structs_that_hold_each_other(rt: HostRuntime) -> Result<(), Fail> {
     let alloc = rt.alloc();
     let chapter = Chapter {
         title: String::new(alloc),
+        first: Note {
+            chapters: Vec::new(alloc),
+            is_long: false,
+        },
         notes: Vec::new(alloc),
     };
-    let text = "Chapter;notes;Vec 24\nChapter;title;String 16\nChapter;title;String;ptr 8\n";
-    expect(&rt, &chapter, text, 48)?;
+    let text =
+        "Chapter;first;Note 7\nChapter;first;Note;chapters;Vec 24\nChapter;first;Note;is_long;bool 1\nChapter;notes;Vec 24\nChapter;title;String 16\nChapter;title;String;ptr 8\n";
+    expect(&rt, &chapter, text, 80)?;
     let note = Note {
         chapters: Vec::new(alloc),
         is_long: true,

@@ -194,8 +194,31 @@ class CommandTest(unittest.TestCase):
             types = f"{held}#[derive(Drop)]\nstruct A(Vec<A>, {names});\n"
             self.assertEqual(self.run_it(types)[0], status)
         self.assertIn("A: it holds itself, and the 44 types that it reaches have too many fields", self.run_it(types)[2][0])
+        both = "#[cycle(m)]\n" + two.replace("a: Vec<A>,", "a: Vec<A>,\n    b: Vec<B>,").replace("}\n#", "}\n#[cycle(m)]\n#")
+        self.assertIn("B holds itself and A, which holds it", self.run_it(both)[2][0])
         queue = "use std::collections::*;\n#[derive(Drop)]\nstruct A {\n    a: VecDeque<A>,\n}\n"
         self.assertIn("holds the type itself in a way", self.run_it(queue)[2][0])
+
+    def test_a_type_held_by_value_counts_by_its_layout(self) -> None:
+        """`()` counts for a type that holds the written one only behind a pointer."""
+        outer, inner = "#[cycle(m)]\n#[derive(Drop)]\nstruct Outer {\n", "#[cycle(m)]\n#[derive(Drop)]\nstruct Inner {\n    list: Vec<Outer>,\n}\n"
+        head = "use std::collections::*;\nuse crate::other::Inner as Far;\ntype Held = Inner;\nstruct InnerLayout;\n"
+        for field, counted in (
+            ("    a: Inner,\n", "InnerLayoutOf"),
+            ("    a: Held,\n", "InnerLayoutOf"),
+            ("    a: Option<Inner>,\n", "Option<InnerLayoutOf>"),
+            ("    a: Vec<Option<Inner>>,\n", "Vec<()>"),
+            ("    a: Option<Box<Inner>>,\n", "Option<Box<()>>"),
+            ("    a: HashMap<u8, Inner>,\n", "HashMap<(), ()>"),
+            ("    // allocative: skip\n    a: (self::Inner, u8),\n", "(InnerLayoutOf, u8)"),
+            ("    // allocative: skip\n    a: [Option<Inner>; 2],\n", "[Option<InnerLayoutOf>; 2]"),
+            ("    // allocative: skip\n    a: Rc<Inner>,\n", "Box<()>"),
+        ):
+            output = self.run_it(f"{head}{outer}{field}    n: u64,\n}}\n{inner}", "Outer", "Inner")[1]
+            self.assertIn(f"type OuterLayout = Record<({counted}, (u64, ()))>;\n", output)
+            self.assertIn("type InnerLayoutOf = Record<(Vec<()>, ())>;\n", output)
+        text = f"{head}{outer}    // allocative: skip\n    a: Wrap<Inner>,\n}}\n{inner}#[derive(Drop)]\nstruct Wrap<T>(T);\n"
+        self.assertIn("`Wrap<Inner>` holds the type itself in a way whose size is not known", self.run_it(text)[2][-1])
 
     def test_large_values(self) -> None:
         fields = ["u8", *(", ".join([f"B{each}"] * 3) for each in range(6))]
