@@ -48,7 +48,10 @@ def arguments(words: list[str]) -> argparse.Namespace:
     parser.add_argument("--module", metavar="PATH", default="", help=what)
     for flag, what in FLAGS.items():
         parser.add_argument(flag, action="store_true", help=what)
-    return parser.parse_args(words)
+    chosen = parser.parse_args(words)
+    if chosen.in_place and chosen.module:
+        parser.error("--in-place: a module in braces cannot have the imports of clauses; leave out --in-place")
+    return chosen
 
 
 def run(chosen: argparse.Namespace) -> int:

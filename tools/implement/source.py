@@ -76,7 +76,7 @@ class Source:
         folder, inside = crate_of(chosen.file)
         self.crate = Crate(folder)
         self.text = text
-        self.pieces = pieces_of(text, len(self.inner))
+        self.pieces = pieces_of(text)
         blanks = [(*piece, LETTER.sub(" ", text[slice(*piece)])) for piece in self.pieces]
         self.module = self.find(spliced(text, blanks))
         if self.pieces and not is_inline:
@@ -273,8 +273,7 @@ class Source:
         edits, imports = [(*piece, "") for piece in self.pieces], self.imports(found)
         for each, written in zip(found, texts):
             end = self.line_end(each.definition)
-            piece = f"{BEGIN}\n{imports}{imports and chr(10)}{written}{END}"
-            edits.append((end, end, "\n" + textwrap.indent(piece, "    " * len(self.inner))))
+            edits.append((end, end, f"\n{BEGIN}\n{imports}{imports and chr(10)}{written}{END}"))
             imports = ""
         return spliced(self.text, sorted(edits))
 
@@ -297,10 +296,10 @@ def crate_of(path: str) -> tuple[str, list[str]]:
     return os.sep.join(parts[:at]), [] if inside in (["lib"], ["main"]) else inside
 
 
-def pieces_of(text: str, depth: int) -> list[tuple[int, int]]:
+def pieces_of(text: str) -> list[tuple[int, int]]:
     """The pieces between marks, each from the end of the line before it to the end of its last mark."""
     said = Tokens(text).directives if BEGIN in text or END in text else []
-    marks = [each for each in said if each.says in ("begin", "end") and each.depth == depth and each.is_line]
+    marks = [each for each in said if each.says in ("begin", "end") and each.depth == 0 and each.is_line]
     pieces = []
     for first, last in zip(marks[::2], [*marks[1::2], None]):
         if last is None or (first.says, last.says) != ("begin", "end"):

@@ -66,7 +66,7 @@ def find_tallied(source: Source) -> dict[str, str]:
     found: dict[str, str] = {}
     while True:
         source.scope.tallied = source.wanted.keys() - found.keys()
-        more = {name: reason_of(source, source.wanted[name]) for name in source.scope.tallied}
+        more = {name: reason_of(source, each) for name, each in source.wanted.items() if name not in found}
         more = {name: why for name, why in more.items() if why}
         if not more:
             return found

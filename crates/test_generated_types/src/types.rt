@@ -1,118 +1,24 @@
-//! Types of many forms, for which `bin/implement` wrote the module `shown`.
+//! Types for which `bin/implement --counted` wrote the module `shown`: each form that it writes, once.
 
 mod shown;
 
-use allocative::{Allocative, Field, Part, Refusal, Visitor};
 use std::collections::{BTreeMap, HashMap};
 use std::hash::Hash;
 
-/// A struct of 1 field.
+/// Fields by number: six that are shown, one that is passed over, and one that is shown by its size.
 #[derive(Drop)]
-pub struct OfOne {
-    pub number: u64,
-}
-
-/// A struct of 25 fields, of a type that is known only where it is used.
-#[derive(Drop)]
-pub struct OfTwentyFive<T> {
-    pub first: T,
-    pub second: Vec<T>,
-    pub name: String,
-    pub third: T,
-    pub is_open: bool,
-    pub limit: Option<u64>,
-    pub fourth: T,
-    pub width: u16,
-    pub fifth: Vec<T>,
-    pub sixth: T,
-    pub label: String,
-    pub marks: Vec<u32>,
-    pub seventh: T,
-    pub price: Option<u64>,
-    pub place: (u32, u32),
-    pub eighth: Vec<T>,
-    pub number: u64,
-    pub count: u32,
-    pub ninth: T,
-    pub sizes: Vec<u32>,
-    pub is_paid: bool,
-    pub tenth: T,
-    pub eleventh: Vec<T>,
-    pub colour: u16,
-    pub last: T,
-}
-
-/// A type with nothing in it.
-#[derive(Drop)]
-pub struct Nowhere;
-
-/// A place on a grid.
-#[derive(Drop)]
-pub struct Point(pub u32, pub u32);
-
-/// Six numbers, by number.
-#[derive(Drop)]
-pub struct Sextet(pub u8, pub u8, pub u8, pub u8, pub u8, pub u16);
-
-/// A point, and what the source says of its fields in between.
-#[derive(Drop)]
-#[allow(dead_code)]
-pub struct Mark {
-    /// Where it is. /* not a comment */
-    pub point: Point, // the type above
-    /* A comment /* in a comment */ with `struct Other { x: f64 }`. */
-    #[allow(dead_code)]
-    pub(crate) name: String,
+pub struct Sextet(
+    pub u8,
+    pub u8,
+    pub u8,
+    pub u8,
+    pub u8,
+    pub u16,
     // allocative: skip
-    pub warmth: f64,
+    pub f64,
     // allocative: size 8
-    pub mean: f64,
-    later: bool,
-}
-
-impl Mark {
-    /// A mark that stands at a place.
-    pub fn new(point: Point, name: String) -> Mark {
-        Mark {
-            point,
-            name,
-            warmth: 0.5,
-            mean: 1.5,
-            later: '"' == 'a',
-        }
-    }
-
-    /// Whether it comes later.
-    pub fn is_later(&self) -> bool {
-        self.later
-    }
-}
-
-/// What a client asks of a store.
-#[derive(Drop)]
-pub enum Request {
-    /// Nothing.
-    Ping,
-    Find(String),
-    Move(u32, u32),
-    Put {
-        name: String,
-        value: u64,
-    },
-    Mix {
-        first: u32,
-        second: u32,
-        is_deep: bool,
-    },
-    Draw(u16, u16, u16, u16, String),
-    // The second is passed over.
-    Wait(
-        u64,
-        // allocative: skip
-        f64,
-    ),
-    Stop,
-}
+    pub f64,
+);
 
 /// Values by their names, and the last of them.
 #[derive(Drop)]
@@ -125,11 +31,16 @@ where
     pub spare: Option<V>,
 }
 
-/// A value with its name.
+/// A value with its name, or with its place, which is passed over.
 #[derive(Drop)]
 pub enum Named<T> {
     Nobody,
     Somebody(String, T),
+    Somewhere(
+        T,
+        // allocative: skip
+        f64,
+    ),
 }
 
 /// A text that stands elsewhere, and where it was found.
@@ -138,44 +49,66 @@ pub struct Found<'a, const N: usize> {
     // allocative: skip
     pub text: &'a str,
     pub places: [u32; N],
-    pub counts: BTreeMap<u64, Vec<Request>>,
+    pub counts: BTreeMap<u64, Vec<Event>>,
 }
 
-/// A share, of which the only variant shows nothing of the value.
+/// What happened in a store.
 #[derive(Drop)]
-pub enum Share {
-    Part(f64),
+pub enum Event {
+    Quiet,
+    Note(String),
+    Sale { shelf: u64, prices: Vec<u64> },
 }
 
-/// Values of two types in the only variant.
+/// What a cart holds, which is always bought.
 #[derive(Drop)]
-pub enum Framed<K, V> {
-    Both { left: K, inside: Vec<V>, width: u16 },
+pub enum Cart {
+    BoughtItems { count: u64, names: Vec<String> },
 }
 
-/// What is written by hand is left alone.
+/// A category, and those below it.
 #[derive(Drop)]
-pub struct ByHand {
-    pub count: u64,
+pub struct Category {
+    pub name: String,
+    pub children: Vec<Category>,
+    pub rank: Option<u64>,
+    pub by_name: HashMap<String, Category>,
 }
 
-impl Allocative for ByHand {
-    ghost use Rattle.std.specs.Prelude.{codes, Some};
-    ghost use Rattle.allocative.specs.Shows.{Field};
-
-    ghost may_show = { λ b. Field (codes "count") (Some 8) (⟦<u64 as Allocative>⟧.may_show b.count) };
-
-    #[tactic(auto, using(allocative::proofs::Parts::parts))]
-    fn visit(&self, visitor: &mut Visitor<'_>) -> Result<(), Refusal> {
-        Field("count", &self.count).enter(visitor)
-    }
+/// A value of a document.
+#[derive(Drop)]
+pub enum Json {
+    Null,
+    Bool(bool),
+    Pair(u64, String, u64, u64, String),
+    List(Vec<Json>),
+    Table(BTreeMap<String, Json>),
+    Boxed(Box<Json>),
+    Maybe {
+        first: Option<Box<Json>>,
+        number: u32,
+    },
 }
 
-/// What stands in a module is left alone.
-pub mod inner {
-    /// A number that nothing shows.
-    #[derive(Drop)]
-    pub struct Hidden {
-        pub number: u64,
-    }
+/// A rope of other ropes, always with a text.
+#[derive(Drop)]
+pub enum Rope {
+    Of(Vec<Rope>, String),
+}
+
+/// A chapter, with its first note and the others.
+#[cycle(chapters)]
+#[derive(Drop)]
+pub struct Chapter {
+    pub title: String,
+    pub first: Note,
+    pub notes: Vec<Note>,
+}
+
+/// A note, and the chapters in it.
+#[cycle(chapters)]
+#[derive(Drop)]
+pub struct Note {
+    pub chapters: Vec<Chapter>,
+    pub is_long: bool,
 }

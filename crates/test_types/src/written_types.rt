@@ -2,10 +2,9 @@
 use crate::profiles::{expect, expect_holding};
 use std::collections::{BTreeMap, HashMap};
 use std::test::Fail;
-use test_generated_types::nested::{Category, Chain, Chapter, Json, Note, Page, Tree};
-use test_generated_types::placed::{Letter, Pair, Parcel, Post};
+use test_generated_types::placed::{Nowhere, OfOne};
 use test_generated_types::types::{
-    Found, Mark, Named, Nowhere, OfOne, Point, Request, Sextet, Table,
+    Category, Chapter, Event, Found, Json, Named, Note, Sextet, Table,
 };
 
 #[test]
@@ -16,54 +15,27 @@ fn one_field_and_none(rt: HostRuntime) -> Result<(), Fail> {
 
 #[test]
 fn fields_by_number_passed_over_and_by_size(rt: HostRuntime) -> Result<(), Fail> {
-    let mark = Mark::new(Point(1, 2), String::new(rt.alloc()));
     let text =
-        "Mark 15\nMark;later;bool 1\nMark;mean 8\nMark;name;String 16\nMark;name;String;ptr 8\nMark;point;Point;0;u32 4\nMark;point;Point;1;u32 4\n";
-    expect(&rt, &mark, text, 56)
-}
-
-#[test]
-fn six_fields_by_number(rt: HostRuntime) -> Result<(), Fail> {
-    let text =
-        "Sextet 1\nSextet;0;u8 1\nSextet;1;u8 1\nSextet;2;u8 1\nSextet;3;u8 1\nSextet;4;u8 1\nSextet;5;u16 2\n";
-    expect(&rt, &Sextet(1, 2, 3, 4, 5, 6), text, 8)
+        "Sextet 9\nSextet;0;u8 1\nSextet;1;u8 1\nSextet;2;u8 1\nSextet;3;u8 1\nSextet;4;u8 1\nSextet;5;u16 2\nSextet;7 8\n";
+    expect(&rt, &Sextet(1, 2, 3, 4, 5, 6, 0.5, 1.5), text, 24)
 }
 
 #[test]
 fn variants_of_none_and_one(rt: HostRuntime) -> Result<(), Fail> {
-    expect(&rt, &Request::Ping, "Request 40\n", 40)?;
-    let find = Request::Find(String::new(rt.alloc()));
-    let text = "Request 16\nRequest;Find;String 16\nRequest;Find;String;ptr 8\n";
-    expect(&rt, &find, text, 40)?;
-    let text = "Request 24\nRequest;Wait 8\nRequest;Wait;0;u64 8\n";
-    expect(&rt, &Request::Wait(3, 0.5), text, 40)
+    expect(&rt, &Event::Quiet, "Event 40\n", 40)?;
+    let note = Event::Note(String::new(rt.alloc()));
+    let text = "Event 16\nEvent;Note;String 16\nEvent;Note;String;ptr 8\n";
+    expect(&rt, &note, text, 40)
 }
 
 #[test]
-fn variants_of_named_fields(rt: HostRuntime) -> Result<(), Fail> {
-    let put = Request::Put {
-        name: String::new(rt.alloc()),
-        value: 3,
+fn a_variant_of_named_fields(rt: HostRuntime) -> Result<(), Fail> {
+    let sale = Event::Sale {
+        shelf: 3,
+        prices: Vec::new(rt.alloc()),
     };
-    let text =
-        "Request 8\nRequest;Put;name;String 16\nRequest;Put;name;String;ptr 8\nRequest;Put;value;u64 8\n";
-    expect(&rt, &put, text, 40)?;
-    let mix = Request::Mix {
-        first: 1,
-        second: 2,
-        is_deep: true,
-    };
-    let text =
-        "Request 28\nRequest;Mix 3\nRequest;Mix;first;u32 4\nRequest;Mix;is_deep;bool 1\nRequest;Mix;second;u32 4\n";
-    expect(&rt, &mix, text, 40)
-}
-
-#[test]
-fn a_variant_of_five_fields(rt: HostRuntime) -> Result<(), Fail> {
-    let draw = Request::Draw(1, 2, 3, 4, String::new(rt.alloc()));
-    let text =
-        "Request 8\nRequest;Draw;0;u16 2\nRequest;Draw;1;u16 2\nRequest;Draw;2;u16 2\nRequest;Draw;3;u16 2\nRequest;Draw;4;String 16\nRequest;Draw;4;String;ptr 8\n";
-    expect(&rt, &draw, text, 40)
+    let text = "Event 8\nEvent;Sale;prices;Vec 24\nEvent;Sale;shelf;u64 8\n";
+    expect(&rt, &sale, text, 40)
 }
 
 #[test]
@@ -75,14 +47,7 @@ fn a_size_follows_from_the_parameters(rt: HostRuntime) -> Result<(), Fail> {
     };
     let text =
         "Table 2\nTable;last;u16 2\nTable;spare;Option 4\nTable;values;HashMap 40\nTable;values;HashMap;data 8\n";
-    expect(&rt, &table, text, 56)?;
-    let page: Page<u64> = Page {
-        items: Vec::new(rt.alloc()),
-        first: None,
-        total: 1,
-    };
-    let text = "Page;first;Option 16\nPage;items;Vec 24\nPage;total;u64 8\n";
-    expect(&rt, &page, text, 48)
+    expect(&rt, &table, text, 56)
 }
 
 #[test]
@@ -90,7 +55,9 @@ fn a_parameter_of_an_enum(rt: HostRuntime) -> Result<(), Fail> {
     let named = Named::Somebody(String::new(rt.alloc()), 5u16);
     let text =
         "Named;Somebody 6\nNamed;Somebody;0;String 16\nNamed;Somebody;0;String;ptr 8\nNamed;Somebody;1;u16 2\n";
-    expect(&rt, &named, text, 32)
+    expect(&rt, &named, text, 32)?;
+    let text = "Named 16\nNamed;Somewhere 14\nNamed;Somewhere;0;u16 2\n";
+    expect(&rt, &Named::Somewhere(5u16, 0.5), text, 32)
 }
 
 #[test]
@@ -103,36 +70,6 @@ fn a_lifetime_and_a_number(rt: HostRuntime) -> Result<(), Fail> {
     let text =
         "Found 16\nFound;counts;BTreeMap 16\nFound;counts;BTreeMap;data 8\nFound;places;u32;data;u32 8\n";
     expect(&rt, &found, text, 48)
-}
-
-#[test]
-fn implementations_in_place(rt: HostRuntime) -> Result<(), Fail> {
-    let alloc = rt.alloc();
-    let (first, second) = (1u32, 2u32);
-    let text = "Pair;first;u32 4\nPair;second;u32 4\n";
-    expect(&rt, &Pair { first, second }, text, 8)?;
-    let post = Post::Sent {
-        number: 7,
-        name: String::new(alloc),
-    };
-    let text =
-        "Post 16\nPost;Sent;name;String 16\nPost;Sent;name;String;ptr 8\nPost;Sent;number;u64 8\n";
-    expect(&rt, &post, text, 48)?;
-    let parcel = Parcel {
-        number: 1,
-        from: Letter {
-            number: 2,
-            name: String::new(alloc),
-            reads: 3,
-        },
-        count: 4,
-        marks: Vec::new(alloc),
-        is_open: true,
-        limit: None,
-    };
-    let text =
-        "Parcel 3\nParcel;count;u32 4\nParcel;from;Letter 8\nParcel;from;Letter;name;String 16\nParcel;from;Letter;name;String;ptr 8\nParcel;from;Letter;number;u64 8\nParcel;is_open;bool 1\nParcel;limit;Option 16\nParcel;marks;Vec 24\nParcel;number;u64 8\n";
-    expect(&rt, &parcel, text, 96)
 }
 
 #[test]
@@ -154,12 +91,6 @@ fn values_in_boxes(rt: HostRuntime) -> Result<(), Fail> {
     let text =
         "Json 72\nJson;Boxed;Box;ptr 8\nJson;Boxed;Box;ptr;Json 79\nJson;Boxed;Box;ptr;Json;Bool;bool 1\n";
     expect_holding(&rt, &boxed, text, 160, 80)?;
-    let left = Box::new(alloc, Tree::Leaf(1))?;
-    let right = Box::new(alloc, Tree::Leaf(2))?;
-    let fork = Tree::Fork(left, right);
-    let text =
-        "Tree 8\nTree;Fork;0;Box;ptr 8\nTree;Fork;0;Box;ptr;Tree 16\nTree;Fork;0;Box;ptr;Tree;Leaf;u64 8\nTree;Fork;1;Box;ptr 8\nTree;Fork;1;Box;ptr;Tree 16\nTree;Fork;1;Box;ptr;Tree;Leaf;u64 8\n";
-    expect_holding(&rt, &fork, text, 72, 48)?;
     let maybe = Json::Maybe {
         first: None,
         number: 5,
@@ -169,7 +100,7 @@ fn values_in_boxes(rt: HostRuntime) -> Result<(), Fail> {
 }
 
 #[test]
-fn structs_that_hold_themselves(rt: HostRuntime) -> Result<(), Fail> {
+fn a_struct_that_holds_itself(rt: HostRuntime) -> Result<(), Fail> {
     let alloc = rt.alloc();
     let category = Category {
         name: String::new(alloc),
@@ -179,13 +110,7 @@ fn structs_that_hold_themselves(rt: HostRuntime) -> Result<(), Fail> {
     };
     let text =
         "Category;by_name;HashMap 40\nCategory;by_name;HashMap;data 8\nCategory;children;Vec 24\nCategory;name;String 16\nCategory;name;String;ptr 8\nCategory;rank;Option 16\n";
-    expect(&rt, &category, text, 112)?;
-    let chain = Chain {
-        text: String::new(alloc),
-        next: None,
-    };
-    let text = "Chain;next;Option 16\nChain;text;String 16\nChain;text;String;ptr 8\n";
-    expect(&rt, &chain, text, 40)
+    expect(&rt, &category, text, 112)
 }
 
 #[test]

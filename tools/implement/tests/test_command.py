@@ -72,7 +72,7 @@ class CommandTest(unittest.TestCase):
 
     def test_what_is_proved_is_what_is_written(self) -> None:
         for name in SOURCES:
-            words = ["--counted"] if name == "tallied.rt" else []
+            words = ["--counted"] if name == "types.rt" else []
             self.assertEqual(run(os.path.join(TYPES, name), "--check", *words), (0, "", ""))
         command = [os.path.join(TOP, "bin/implement"), os.path.join(TYPES, "placed.rt"), "--check", "--in-place"]
         ran = subprocess.run(command, capture_output=True, text=True)
@@ -247,11 +247,13 @@ class CommandTest(unittest.TestCase):
         for _ in range(2):
             self.assertEqual((run(path, "--in-place")[:2], read(path)), ((0, ""), written))
         self.assertEqual((run(path, "--check"), os.stat(path).st_mode & 0o777), ((0, "", ""), 0o640))
-        self.assertEqual(run(self.put("src/placed.rt", written.replace("String", "u64", 1)), "--check")[0], 1)
-        told = run(self.put("src/placed.rt", written.replace("Drop)]\npub enum", "Copy2)]\npub enum")), "--in-place")[2]
-        self.assertIn(f"placed.rt:{written[: written.index('enum Post')].count(chr(10)) + 1}: Post: what is shown", told)
+        self.assertEqual(run(self.put("src/placed.rt", written.replace("u64", "u32", 1)), "--check")[0], 1)
+        told = run(self.put("src/placed.rt", written.replace("Drop)]\npub struct No", "Copy2)]\npub struct No")), "--in-place")[2]
+        self.assertIn(f"placed.rt:{written[: written.index('struct Nowhere')].count(chr(10)) + 1}: Nowhere: what is shown", told)
 
     def test_what_is_left_alone(self) -> None:
+        text = POINT + 'const TEXT: &str = "\n// allocative: begin\n";\nstruct B;\nimpl Allocative for B {}\n'
+        self.assertEqual((self.run_it(text, "--in-place")[0], self.get("src/a.rt").count("for B {")), (0, 1))
         unions, two = "pub union Both {\n    pub a: u8,\n}\n", "#[derive(Drop)]\npub struct A; pub struct B;\n"
         for text in ("{\n", "// allocative: begin\n", unions, two):
             path = self.put("src/a.rt", POINT + text)
@@ -264,9 +266,10 @@ class CommandTest(unittest.TestCase):
 
     def test_a_nested_module(self) -> None:
         text = "mod inner {\n    #[derive(Drop)]\n    pub struct Point {\n        pub x: u32,\n    }\n}\n"
-        status, _, _ = self.run_it(text, "--in-place", "--module", "inner")
-        self.assertEqual(status, 0)
-        self.assertIn("\n    // allocative: begin\n", self.get("src/a.rt"))
+        status, output, _ = self.run_it(text, "--module", "inner")
+        self.assertEqual((status, "What the types of `inner` show" in output), (0, True))
+        with self.assertRaises(SystemExit), contextlib.redirect_stderr(io.StringIO()):
+            self.run_it(text, "--in-place", "--module", "inner")
         self.assertEqual(self.run_it(text, "--module", "outer")[0], 4)
 
     def test_types_without_a_tally(self) -> None:

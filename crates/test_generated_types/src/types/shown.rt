@@ -3,251 +3,22 @@
 
 ghost use Rattle.std.specs.Prelude.{codes, true, ◌&&◌};
 ghost use Rattle.allocative.specs.Shows as shows;
+ghost use Rattle.allocative.specs.Levels.{both, box_of, btree_map_of, child, field, hash_map_of, level_shows, opened, option_in, pair_in, plain, recursive, vec_in};
+ghost use Rattle.allocative_tally.specs.Shapes.{Beside, EntryAt, Wide};
+ghost use Rattle.test_generated_types.specs.declared.types.Category.{out-Category};
+ghost use Rattle.test_generated_types.specs.declared.types.Chapter.{out-Chapter};
+ghost use Rattle.test_generated_types.specs.declared.types.Json.{out-Json};
+ghost use Rattle.test_generated_types.specs.declared.types.Note.{out-Note};
+ghost use Rattle.test_generated_types.specs.declared.types.Rope.{out-Rope};
 
 use super::*;
 use allocative::{
     Allocative, And, Declared, Described, Field, Inside, Or, Part, Record, Refusal, Visitor, Whole,
 };
+use allocative_tally::field::{CountedField, FieldSum, FieldTally, count, count_own};
+use allocative_tally::tally::{CountError, Entries, InlineSum, Sum, Tallied, Tally};
 
-type OfOneLayout = Record<(u64, ())>;
-
-impl Described for OfOne {
-    ghost name = { codes "OfOne" };
-
-    ghost align = { ⟦<OfOneLayout as Described>⟧.align };
-
-    ghost needs_drop = { ⟦<OfOneLayout as Described>⟧.needs_drop };
-
-    ghost size = { ⟦<OfOneLayout as Described>⟧.size };
-
-    fn name() -> &'static str {
-        "OfOne"
-    }
-
-    fn align() -> usize {
-        <OfOneLayout>::align()
-    }
-
-    fn needs_drop() -> bool {
-        <OfOneLayout>::needs_drop()
-    }
-
-    fn size() -> Option<usize> {
-        <OfOneLayout>::size()
-    }
-}
-
-impl Allocative for OfOne {
-    ghost may_show = { λ x. shows.Field (codes "OfOne") ⟦<OfOneLayout as Described>⟧.size
-        (shows.Field (codes "number") ⟦<u64 as Described>⟧.size (⟦<u64 as Allocative>⟧.may_show x.number)) };
-
-    ghost is_strict = { true };
-
-    fn visit(&self, visitor: &mut Visitor<'_>) -> Result<(), Refusal> {
-        let number = Field("number", &self.number);
-        Whole(self, number).enter(visitor)
-    }
-}
-
-type OfTwentyFiveLayout<T> = Record<
-    And<
-        (T, (Vec<T>, (String, (T, (bool, ()))))),
-        And<
-            (Option<u64>, (T, (u16, (Vec<T>, (T, ()))))),
-            And<
-                (String, (Vec<u32>, (T, (Option<u64>, ((u32, u32), ()))))),
-                And<
-                    (Vec<T>, (u64, (u32, (T, (Vec<u32>, ()))))),
-                    (bool, (T, (Vec<T>, (u16, (T, ()))))),
-                >,
-            >,
-        >,
-    >,
->;
-
-impl<T: Allocative + Described> Described for OfTwentyFive<T> {
-    ghost name = { codes "OfTwentyFive" };
-
-    ghost align = { ⟦<OfTwentyFiveLayout<T> as Described>⟧.align };
-
-    ghost needs_drop = { ⟦<OfTwentyFiveLayout<T> as Described>⟧.needs_drop };
-
-    ghost size = { ⟦<OfTwentyFiveLayout<T> as Described>⟧.size };
-
-    fn name() -> &'static str {
-        "OfTwentyFive"
-    }
-
-    fn align() -> usize {
-        <OfTwentyFiveLayout<T>>::align()
-    }
-
-    fn needs_drop() -> bool {
-        <OfTwentyFiveLayout<T>>::needs_drop()
-    }
-
-    fn size() -> Option<usize> {
-        <OfTwentyFiveLayout<T>>::size()
-    }
-}
-
-impl<T: Allocative + Described> Allocative for OfTwentyFive<T> {
-    ghost may_show = { λ x. shows.Field (codes "OfTwentyFive") ⟦<OfTwentyFiveLayout<T> as Described>⟧.size (shows.Both
-        (shows.Both
-        (shows.Field (codes "first") ⟦<T as Described>⟧.size (⟦<T as Allocative>⟧.may_show x.first)) (shows.Both
-        (shows.Field (codes "second") ⟦<Vec<T> as Described>⟧.size (⟦<Vec<T> as Allocative>⟧.may_show x.second)) (shows.Both
-        (shows.Field (codes "name") ⟦<String as Described>⟧.size (⟦<String as Allocative>⟧.may_show x.name)) (shows.Both
-        (shows.Field (codes "third") ⟦<T as Described>⟧.size (⟦<T as Allocative>⟧.may_show x.third))
-        (shows.Field (codes "is_open") ⟦<bool as Described>⟧.size (⟦<bool as Allocative>⟧.may_show x.is_open)))))) (shows.Both
-        (shows.Both
-        (shows.Field (codes "limit") ⟦<Option<u64> as Described>⟧.size (⟦<Option<u64> as Allocative>⟧.may_show x.limit)) (shows.Both
-        (shows.Field (codes "fourth") ⟦<T as Described>⟧.size (⟦<T as Allocative>⟧.may_show x.fourth)) (shows.Both
-        (shows.Field (codes "width") ⟦<u16 as Described>⟧.size (⟦<u16 as Allocative>⟧.may_show x.width)) (shows.Both
-        (shows.Field (codes "fifth") ⟦<Vec<T> as Described>⟧.size (⟦<Vec<T> as Allocative>⟧.may_show x.fifth))
-        (shows.Field (codes "sixth") ⟦<T as Described>⟧.size (⟦<T as Allocative>⟧.may_show x.sixth)))))) (shows.Both
-        (shows.Both
-        (shows.Field (codes "label") ⟦<String as Described>⟧.size (⟦<String as Allocative>⟧.may_show x.label)) (shows.Both
-        (shows.Field (codes "marks") ⟦<Vec<u32> as Described>⟧.size (⟦<Vec<u32> as Allocative>⟧.may_show x.marks)) (shows.Both
-        (shows.Field (codes "seventh") ⟦<T as Described>⟧.size (⟦<T as Allocative>⟧.may_show x.seventh)) (shows.Both
-        (shows.Field (codes "price") ⟦<Option<u64> as Described>⟧.size (⟦<Option<u64> as Allocative>⟧.may_show x.price))
-        (shows.Field (codes "place") ⟦<(u32, u32) as Described>⟧.size (⟦<(u32, u32) as Allocative>⟧.may_show x.place)))))) (shows.Both
-        (shows.Both
-        (shows.Field (codes "eighth") ⟦<Vec<T> as Described>⟧.size (⟦<Vec<T> as Allocative>⟧.may_show x.eighth)) (shows.Both
-        (shows.Field (codes "number") ⟦<u64 as Described>⟧.size (⟦<u64 as Allocative>⟧.may_show x.number)) (shows.Both
-        (shows.Field (codes "count") ⟦<u32 as Described>⟧.size (⟦<u32 as Allocative>⟧.may_show x.count)) (shows.Both
-        (shows.Field (codes "ninth") ⟦<T as Described>⟧.size (⟦<T as Allocative>⟧.may_show x.ninth))
-        (shows.Field (codes "sizes") ⟦<Vec<u32> as Described>⟧.size (⟦<Vec<u32> as Allocative>⟧.may_show x.sizes))))))
-        (shows.Both
-        (shows.Field (codes "is_paid") ⟦<bool as Described>⟧.size (⟦<bool as Allocative>⟧.may_show x.is_paid)) (shows.Both
-        (shows.Field (codes "tenth") ⟦<T as Described>⟧.size (⟦<T as Allocative>⟧.may_show x.tenth)) (shows.Both
-        (shows.Field (codes "eleventh") ⟦<Vec<T> as Described>⟧.size (⟦<Vec<T> as Allocative>⟧.may_show x.eleventh)) (shows.Both
-        (shows.Field (codes "colour") ⟦<u16 as Described>⟧.size (⟦<u16 as Allocative>⟧.may_show x.colour))
-        (shows.Field (codes "last") ⟦<T as Described>⟧.size (⟦<T as Allocative>⟧.may_show x.last)))))))))) };
-
-    ghost is_strict = { (⟦<T as Allocative>⟧.is_strict && (⟦<Vec<T> as Allocative>⟧.is_strict && (⟦<String as Allocative>⟧.is_strict && (⟦<T as Allocative>⟧.is_strict && (⟦<bool as Allocative>⟧.is_strict))))) && ((⟦<Option<u64> as Allocative>⟧.is_strict && (⟦<T as Allocative>⟧.is_strict && (⟦<u16 as Allocative>⟧.is_strict && (⟦<Vec<T> as Allocative>⟧.is_strict && (⟦<T as Allocative>⟧.is_strict))))) && ((⟦<String as Allocative>⟧.is_strict && (⟦<Vec<u32> as Allocative>⟧.is_strict && (⟦<T as Allocative>⟧.is_strict && (⟦<Option<u64> as Allocative>⟧.is_strict && (⟦<(u32, u32) as Allocative>⟧.is_strict))))) && ((⟦<Vec<T> as Allocative>⟧.is_strict && (⟦<u64 as Allocative>⟧.is_strict && (⟦<u32 as Allocative>⟧.is_strict && (⟦<T as Allocative>⟧.is_strict && (⟦<Vec<u32> as Allocative>⟧.is_strict))))) && ((⟦<bool as Allocative>⟧.is_strict && (⟦<T as Allocative>⟧.is_strict && (⟦<Vec<T> as Allocative>⟧.is_strict && (⟦<u16 as Allocative>⟧.is_strict && (⟦<T as Allocative>⟧.is_strict))))))))) };
-
-    fn visit(&self, visitor: &mut Visitor<'_>) -> Result<(), Refusal> {
-        let a = Field("first", &self.first);
-        let b = Field("second", &self.second);
-        let c = Field("name", &self.name);
-        let d = Field("third", &self.third);
-        let e = Field("is_open", &self.is_open);
-        let f = Field("limit", &self.limit);
-        let g = Field("fourth", &self.fourth);
-        let h = Field("width", &self.width);
-        let i = Field("fifth", &self.fifth);
-        let j = Field("sixth", &self.sixth);
-        let k = Field("label", &self.label);
-        let l = Field("marks", &self.marks);
-        let m = Field("seventh", &self.seventh);
-        let n = Field("price", &self.price);
-        let o = Field("place", &self.place);
-        let p = Field("eighth", &self.eighth);
-        let q = Field("number", &self.number);
-        let r = Field("count", &self.count);
-        let s = Field("ninth", &self.ninth);
-        let t = Field("sizes", &self.sizes);
-        let u = Field("is_paid", &self.is_paid);
-        let v = Field("tenth", &self.tenth);
-        let w = Field("eleventh", &self.eleventh);
-        let a23 = Field("colour", &self.colour);
-        let a24 = Field("last", &self.last);
-        Whole(
-            self,
-            (
-                (a, b, c, d, e),
-                (f, g, h, i, j),
-                (k, l, m, n, o),
-                (p, q, r, s, t),
-                (u, v, w, a23, a24),
-            ),
-        )
-        .enter(visitor)
-    }
-}
-
-type NowhereLayout = Record<()>;
-
-impl Described for Nowhere {
-    ghost name = { codes "Nowhere" };
-
-    ghost align = { ⟦<NowhereLayout as Described>⟧.align };
-
-    ghost needs_drop = { ⟦<NowhereLayout as Described>⟧.needs_drop };
-
-    ghost size = { ⟦<NowhereLayout as Described>⟧.size };
-
-    fn name() -> &'static str {
-        "Nowhere"
-    }
-
-    fn align() -> usize {
-        <NowhereLayout>::align()
-    }
-
-    fn needs_drop() -> bool {
-        <NowhereLayout>::needs_drop()
-    }
-
-    fn size() -> Option<usize> {
-        <NowhereLayout>::size()
-    }
-}
-
-impl Allocative for Nowhere {
-    ghost may_show = { λ x. shows.Field (codes "Nowhere") ⟦<NowhereLayout as Described>⟧.size
-        shows.Nothing };
-
-    ghost is_strict = { true };
-
-    fn visit(&self, visitor: &mut Visitor<'_>) -> Result<(), Refusal> {
-        Whole(self, ()).enter(visitor)
-    }
-}
-
-type PointLayout = Record<(u32, (u32, ()))>;
-
-impl Described for Point {
-    ghost name = { codes "Point" };
-
-    ghost align = { ⟦<PointLayout as Described>⟧.align };
-
-    ghost needs_drop = { ⟦<PointLayout as Described>⟧.needs_drop };
-
-    ghost size = { ⟦<PointLayout as Described>⟧.size };
-
-    fn name() -> &'static str {
-        "Point"
-    }
-
-    fn align() -> usize {
-        <PointLayout>::align()
-    }
-
-    fn needs_drop() -> bool {
-        <PointLayout>::needs_drop()
-    }
-
-    fn size() -> Option<usize> {
-        <PointLayout>::size()
-    }
-}
-
-impl Allocative for Point {
-    ghost may_show = { λ x. shows.Field (codes "Point") ⟦<PointLayout as Described>⟧.size (shows.Both
-        (shows.Field (codes "0") ⟦<u32 as Described>⟧.size (⟦<u32 as Allocative>⟧.may_show x.0))
-        (shows.Field (codes "1") ⟦<u32 as Described>⟧.size (⟦<u32 as Allocative>⟧.may_show x.1))) };
-
-    ghost is_strict = { true };
-
-    fn visit(&self, visitor: &mut Visitor<'_>) -> Result<(), Refusal> {
-        let a = Field("0", &self.0);
-        let b = Field("1", &self.1);
-        Whole(self, (a, b)).enter(visitor)
-    }
-}
-
-type SextetLayout = Record<And<(u8, (u8, (u8, (u8, (u8, ()))))), (u16, ())>>;
+type SextetLayout = Record<And<(u8, (u8, (u8, (u8, (u8, ()))))), (u16, (f64, (f64, ())))>>;
 
 impl Described for Sextet {
     ghost name = { codes "Sextet" };
@@ -283,7 +54,9 @@ impl Allocative for Sextet {
         (shows.Field (codes "2") ⟦<u8 as Described>⟧.size (⟦<u8 as Allocative>⟧.may_show x.2)) (shows.Both
         (shows.Field (codes "3") ⟦<u8 as Described>⟧.size (⟦<u8 as Allocative>⟧.may_show x.3))
         (shows.Field (codes "4") ⟦<u8 as Described>⟧.size (⟦<u8 as Allocative>⟧.may_show x.4))))))
-        (shows.Field (codes "5") ⟦<u16 as Described>⟧.size (⟦<u16 as Allocative>⟧.may_show x.5))) };
+        (shows.Both
+        (shows.Field (codes "5") ⟦<u16 as Described>⟧.size (⟦<u16 as Allocative>⟧.may_show x.5))
+        (shows.Inside (codes "7") 8 shows.Nothing))) };
 
     ghost is_strict = { true };
 
@@ -294,180 +67,8 @@ impl Allocative for Sextet {
         let d = Field("3", &self.3);
         let e = Field("4", &self.4);
         let f = Field("5", &self.5);
-        Whole(self, ((a, b, c, d, e), f)).enter(visitor)
-    }
-}
-
-type MarkLayout = Record<(Point, (String, (f64, (f64, (bool, ())))))>;
-
-impl Described for Mark {
-    ghost name = { codes "Mark" };
-
-    ghost align = { ⟦<MarkLayout as Described>⟧.align };
-
-    ghost needs_drop = { ⟦<MarkLayout as Described>⟧.needs_drop };
-
-    ghost size = { ⟦<MarkLayout as Described>⟧.size };
-
-    fn name() -> &'static str {
-        "Mark"
-    }
-
-    fn align() -> usize {
-        <MarkLayout>::align()
-    }
-
-    fn needs_drop() -> bool {
-        <MarkLayout>::needs_drop()
-    }
-
-    fn size() -> Option<usize> {
-        <MarkLayout>::size()
-    }
-}
-
-impl Allocative for Mark {
-    ghost may_show = { λ x. shows.Field (codes "Mark") ⟦<MarkLayout as Described>⟧.size (shows.Both
-        (shows.Field (codes "point") ⟦<Point as Described>⟧.size (⟦<Point as Allocative>⟧.may_show x.point)) (shows.Both
-        (shows.Field (codes "name") ⟦<String as Described>⟧.size (⟦<String as Allocative>⟧.may_show x.name)) (shows.Both
-        (shows.Inside (codes "mean") 8 shows.Nothing)
-        (shows.Field (codes "later") ⟦<bool as Described>⟧.size (⟦<bool as Allocative>⟧.may_show x.later))))) };
-
-    ghost is_strict = { true };
-
-    fn visit(&self, visitor: &mut Visitor<'_>) -> Result<(), Refusal> {
-        let point = Field("point", &self.point);
-        let name = Field("name", &self.name);
-        let mean = Inside("mean", 8, ());
-        let later = Field("later", &self.later);
-        Whole(self, (point, name, mean, later)).enter(visitor)
-    }
-}
-
-type RequestLayout = Record<
-    (
-        u8,
-        Or<
-            Or<(String, ()), Or<(u32, (u32, ())), (String, (u64, ()))>>,
-            Or<
-                (u32, (u32, (bool, ()))),
-                Or<(u16, (u16, (u16, (u16, (String, ()))))), (u64, (f64, ()))>,
-            >,
-        >,
-    ),
->;
-
-type RequestMoveFields = Record<(u32, (u32, ()))>;
-
-type RequestPutFields = Record<(String, (u64, ()))>;
-
-type RequestMixFields = Record<(u32, (u32, (bool, ())))>;
-
-type RequestDrawFields = Record<(u16, (u16, (u16, (u16, (String, ())))))>;
-
-type RequestWaitFields = Record<(u64, (f64, ()))>;
-
-impl Described for Request {
-    ghost name = { codes "Request" };
-
-    ghost align = { ⟦<RequestLayout as Described>⟧.align };
-
-    ghost needs_drop = { ⟦<RequestLayout as Described>⟧.needs_drop };
-
-    ghost size = { ⟦<RequestLayout as Described>⟧.size };
-
-    fn name() -> &'static str {
-        "Request"
-    }
-
-    fn align() -> usize {
-        <RequestLayout>::align()
-    }
-
-    fn needs_drop() -> bool {
-        <RequestLayout>::needs_drop()
-    }
-
-    fn size() -> Option<usize> {
-        <RequestLayout>::size()
-    }
-}
-
-impl Allocative for Request {
-    ghost use Rattle.test_generated_types.specs.declared.types.Request.TheVariants.{Ping, Find, Move, Put, Mix, Draw, Wait, Stop};
-
-    ghost may_show = { λ x. shows.Field (codes "Request") ⟦<RequestLayout as Described>⟧.size (elim x [
-      | Ping ↦ shows.Nothing
-      | Find a ↦ shows.Field (codes "Find") ⟦<String as Described>⟧.size (⟦<String as Allocative>⟧.may_show a)
-      | Move a b ↦ shows.Field (codes "Move") ⟦<RequestMoveFields as Described>⟧.size (shows.Both
-          (shows.Field (codes "0") ⟦<u32 as Described>⟧.size (⟦<u32 as Allocative>⟧.may_show a))
-          (shows.Field (codes "1") ⟦<u32 as Described>⟧.size (⟦<u32 as Allocative>⟧.may_show b)))
-      | Put a b ↦ shows.Field (codes "Put") ⟦<RequestPutFields as Described>⟧.size (shows.Both
-          (shows.Field (codes "name") ⟦<String as Described>⟧.size (⟦<String as Allocative>⟧.may_show a))
-          (shows.Field (codes "value") ⟦<u64 as Described>⟧.size (⟦<u64 as Allocative>⟧.may_show b)))
-      | Mix a b c ↦ shows.Field (codes "Mix") ⟦<RequestMixFields as Described>⟧.size (shows.Both
-          (shows.Field (codes "first") ⟦<u32 as Described>⟧.size (⟦<u32 as Allocative>⟧.may_show a)) (shows.Both
-          (shows.Field (codes "second") ⟦<u32 as Described>⟧.size (⟦<u32 as Allocative>⟧.may_show b))
-          (shows.Field (codes "is_deep") ⟦<bool as Described>⟧.size (⟦<bool as Allocative>⟧.may_show c))))
-      | Draw a b c d e ↦ shows.Field (codes "Draw") ⟦<RequestDrawFields as Described>⟧.size (shows.Both
-          (shows.Field (codes "0") ⟦<u16 as Described>⟧.size (⟦<u16 as Allocative>⟧.may_show a)) (shows.Both
-          (shows.Field (codes "1") ⟦<u16 as Described>⟧.size (⟦<u16 as Allocative>⟧.may_show b)) (shows.Both
-          (shows.Field (codes "2") ⟦<u16 as Described>⟧.size (⟦<u16 as Allocative>⟧.may_show c)) (shows.Both
-          (shows.Field (codes "3") ⟦<u16 as Described>⟧.size (⟦<u16 as Allocative>⟧.may_show d))
-          (shows.Field (codes "4") ⟦<String as Described>⟧.size (⟦<String as Allocative>⟧.may_show e))))))
-      | Wait a b ↦ shows.Field (codes "Wait") ⟦<RequestWaitFields as Described>⟧.size
-          (shows.Field (codes "0") ⟦<u64 as Described>⟧.size (⟦<u64 as Allocative>⟧.may_show a))
-      | Stop ↦ shows.Nothing
-    ]) };
-
-    ghost is_strict = { true };
-
-    fn visit(&self, visitor: &mut Visitor<'_>) -> Result<(), Refusal> {
-        match self {
-            Request::Ping => Whole(self, ()).enter(visitor),
-            Request::Find(a) => {
-                let a = Field("Find", a);
-                Whole(self, a).enter(visitor)
-            }
-            Request::Move(a, b) => {
-                let a = Field("0", a);
-                let b = Field("1", b);
-                let inside = Declared("Move", <RequestMoveFields>::size(), (a, b));
-                Whole(self, inside).enter(visitor)
-            }
-            Request::Put { name, value } => {
-                let name = Field("name", name);
-                let value = Field("value", value);
-                let inside = Declared("Put", <RequestPutFields>::size(), (name, value));
-                Whole(self, inside).enter(visitor)
-            }
-            Request::Mix {
-                first,
-                second,
-                is_deep,
-            } => {
-                let first = Field("first", first);
-                let second = Field("second", second);
-                let is_deep = Field("is_deep", is_deep);
-                let inside = Declared("Mix", <RequestMixFields>::size(), (first, second, is_deep));
-                Whole(self, inside).enter(visitor)
-            }
-            Request::Draw(a, b, c, d, e) => {
-                let a = Field("0", a);
-                let b = Field("1", b);
-                let c = Field("2", c);
-                let d = Field("3", d);
-                let e = Field("4", e);
-                let inside = Declared("Draw", <RequestDrawFields>::size(), (a, b, c, d, e));
-                Whole(self, inside).enter(visitor)
-            }
-            Request::Wait(a, _) => {
-                let a = Field("0", a);
-                let inside = Declared("Wait", <RequestWaitFields>::size(), a);
-                Whole(self, inside).enter(visitor)
-            }
-            Request::Stop => Whole(self, ()).enter(visitor),
-        }
+        let g = Inside("7", 8, ());
+        Whole(self, ((a, b, c, d, e), (f, g))).enter(visitor)
     }
 }
 
@@ -521,9 +122,64 @@ where
     }
 }
 
-type NamedLayout<T> = Record<(u8, (String, (T, ())))>;
+/// Values of `Table`, counted.
+#[derive(Drop)]
+pub struct TableTally<S1, S2, S3> {
+    own: Sum,
+    values: FieldTally<S1>,
+    last: FieldTally<S2>,
+    spare: FieldTally<S3>,
+}
+
+#[tactic(auto)]
+impl<S1: Tally, S2: Tally, S3: Tally> Tally for TableTally<S1, S2, S3> {
+    ghost shape = { λ t. EntryAt Wide (codes "Table") t.own
+        (Beside (EntryAt Wide (codes "values") t.values.own (S1.shape t.values.value))
+        (Beside (EntryAt Wide (codes "last") t.last.own (S2.shape t.last.value))
+        (EntryAt Wide (codes "spare") t.spare.own (S3.shape t.spare.value)))) };
+
+    fn none() -> Self {
+        TableTally {
+            own: Sum::none(),
+            values: FieldTally::none(),
+            last: FieldTally::none(),
+            spare: FieldTally::none(),
+        }
+    }
+
+    fn enter(&self, visitor: &mut Visitor<'_>) -> Result<(), Refusal> {
+        let values = FieldSum("values", &self.values);
+        let last = FieldSum("last", &self.last);
+        let spare = FieldSum("spare", &self.spare);
+        InlineSum("Table", self.own, (values, (last, spare))).enter(visitor)
+    }
+}
+
+#[tactic(auto)]
+impl<K: Tallied, V: Tallied> Tallied for Table<K, V>
+where
+    K: Eq + Hash,
+{
+    type Tally = TableTally<
+        <HashMap<K, V> as Tallied>::Tally,
+        <V as Tallied>::Tally,
+        <Option<V> as Tallied>::Tally,
+    >;
+
+    fn tally(&self, tally: &mut Self::Tally) -> Result<(), CountError> {
+        count_own(&mut tally.own, <Table<K, V>>::size())?;
+        count(&mut tally.values, &self.values)?;
+        count(&mut tally.last, &self.last)?;
+        count(&mut tally.spare, &self.spare)?;
+        Ok(())
+    }
+}
+
+type NamedLayout<T> = Record<(u8, Or<(String, (T, ())), (T, (f64, ()))>)>;
 
 type NamedSomebodyFields<T> = Record<(String, (T, ()))>;
+
+type NamedSomewhereFields<T> = Record<(T, (f64, ()))>;
 
 impl<T: Allocative + Described> Described for Named<T> {
     ghost name = { codes "Named" };
@@ -552,13 +208,15 @@ impl<T: Allocative + Described> Described for Named<T> {
 }
 
 impl<T: Allocative + Described> Allocative for Named<T> {
-    ghost use Rattle.test_generated_types.specs.declared.types.Named.TheVariants.{Nobody, Somebody};
+    ghost use Rattle.test_generated_types.specs.declared.types.Named.TheVariants.{Nobody, Somebody, Somewhere};
 
     ghost may_show = { λ x. shows.Field (codes "Named") ⟦<NamedLayout<T> as Described>⟧.size (elim x [
       | Nobody ↦ shows.Nothing
       | Somebody a b ↦ shows.Field (codes "Somebody") ⟦<NamedSomebodyFields<T> as Described>⟧.size (shows.Both
           (shows.Field (codes "0") ⟦<String as Described>⟧.size (⟦<String as Allocative>⟧.may_show a))
           (shows.Field (codes "1") ⟦<T as Described>⟧.size (⟦<T as Allocative>⟧.may_show b)))
+      | Somewhere a b ↦ shows.Field (codes "Somewhere") ⟦<NamedSomewhereFields<T> as Described>⟧.size
+          (shows.Field (codes "0") ⟦<T as Described>⟧.size (⟦<T as Allocative>⟧.may_show a))
     ]) };
 
     ghost is_strict = { T.is_strict };
@@ -572,134 +230,556 @@ impl<T: Allocative + Described> Allocative for Named<T> {
                 let inside = Declared("Somebody", <NamedSomebodyFields<T>>::size(), (a, b));
                 Whole(self, inside).enter(visitor)
             }
+            Named::Somewhere(a, _) => {
+                let a = Field("0", a);
+                let inside = Declared("Somewhere", <NamedSomewhereFields<T>>::size(), a);
+                Whole(self, inside).enter(visitor)
+            }
         }
     }
 }
 
 type FoundLayout<const N: usize> = Record<
-    ((u64, u64), ([u32; N], (BTreeMap<u64, Vec<Request>>, ()))),
+    ((u64, u64), ([u32; N], (BTreeMap<u64, Vec<Event>>, ()))),
 >;
 
 impl<'a, const N: usize> Allocative for Found<'a, N> {
     ghost may_show = { λ x. shows.Field (codes "Found") ⟦<FoundLayout<N> as Described>⟧.size (shows.Both
         (shows.Field (codes "places") ⟦<[u32; N] as Described>⟧.size (⟦<[u32; N] as Allocative>⟧.may_show x.places))
-        (shows.Field (codes "counts") ⟦<BTreeMap<u64, Vec<Request>> as Described>⟧.size (⟦<BTreeMap<u64, Vec<Request>> as Allocative>⟧.may_show x.counts))) };
+        (shows.Field (codes "counts") ⟦<BTreeMap<u64, Vec<Event>> as Described>⟧.size (⟦<BTreeMap<u64, Vec<Event>> as Allocative>⟧.may_show x.counts))) };
 
     ghost is_strict = { true };
 
     fn visit(&self, visitor: &mut Visitor<'_>) -> Result<(), Refusal> {
         let places = Field("places", &self.places);
-        let counts = Field("counts", &self.counts);
+        let counts = CountedField("counts", &self.counts);
         Declared("Found", <FoundLayout<N>>::size(), (places, counts)).enter(visitor)
     }
 }
 
-type ShareLayout = Record<(u8, (f64, ()))>;
+type EventLayout = Record<(u8, Or<(String, ()), (u64, (Vec<u64>, ()))>)>;
 
-impl Described for Share {
-    ghost name = { codes "Share" };
+type EventSaleFields = Record<(u64, (Vec<u64>, ()))>;
 
-    ghost align = { ⟦<ShareLayout as Described>⟧.align };
+impl Described for Event {
+    ghost name = { codes "Event" };
 
-    ghost needs_drop = { ⟦<ShareLayout as Described>⟧.needs_drop };
+    ghost align = { ⟦<EventLayout as Described>⟧.align };
 
-    ghost size = { ⟦<ShareLayout as Described>⟧.size };
+    ghost needs_drop = { ⟦<EventLayout as Described>⟧.needs_drop };
+
+    ghost size = { ⟦<EventLayout as Described>⟧.size };
 
     fn name() -> &'static str {
-        "Share"
+        "Event"
     }
 
     fn align() -> usize {
-        <ShareLayout>::align()
+        <EventLayout>::align()
     }
 
     fn needs_drop() -> bool {
-        <ShareLayout>::needs_drop()
+        <EventLayout>::needs_drop()
     }
 
     fn size() -> Option<usize> {
-        <ShareLayout>::size()
+        <EventLayout>::size()
     }
 }
 
-impl Allocative for Share {
-    ghost use Rattle.test_generated_types.specs.declared.types.Share.TheVariants.{Part};
+impl Allocative for Event {
+    ghost use Rattle.test_generated_types.specs.declared.types.Event.TheVariants.{Quiet, Note, Sale};
 
-    ghost may_show = { λ x. shows.Field (codes "Share") ⟦<ShareLayout as Described>⟧.size (elim x [
-      | Part a ↦ shows.Field (codes "Part") ⟦<f64 as Described>⟧.size (⟦<f64 as Allocative>⟧.may_show a)
+    ghost may_show = { λ x. shows.Field (codes "Event") ⟦<EventLayout as Described>⟧.size (elim x [
+      | Quiet ↦ shows.Nothing
+      | Note a ↦ shows.Field (codes "Note") ⟦<String as Described>⟧.size (⟦<String as Allocative>⟧.may_show a)
+      | Sale a b ↦ shows.Field (codes "Sale") ⟦<EventSaleFields as Described>⟧.size (shows.Both
+          (shows.Field (codes "shelf") ⟦<u64 as Described>⟧.size (⟦<u64 as Allocative>⟧.may_show a))
+          (shows.Field (codes "prices") ⟦<Vec<u64> as Described>⟧.size (⟦<Vec<u64> as Allocative>⟧.may_show b)))
     ]) };
 
     ghost is_strict = { true };
 
     fn visit(&self, visitor: &mut Visitor<'_>) -> Result<(), Refusal> {
         match self {
-            Share::Part(a) => {
-                let a = Field("Part", a);
+            Event::Quiet => Whole(self, ()).enter(visitor),
+            Event::Note(a) => {
+                let a = Field("Note", a);
                 Whole(self, a).enter(visitor)
+            }
+            Event::Sale { shelf, prices } => {
+                let shelf = Field("shelf", shelf);
+                let prices = CountedField("prices", prices);
+                let inside = Declared("Sale", <EventSaleFields>::size(), (shelf, prices));
+                Whole(self, inside).enter(visitor)
             }
         }
     }
 }
 
-type FramedLayout<K, V> = Record<(u8, (K, (Vec<V>, (u16, ()))))>;
+/// Values of `Event`, counted.
+#[derive(Drop)]
+pub struct EventTally {
+    own: Sum,
+    note_value: FieldTally<<String as Tallied>::Tally>,
+    sale_own: Sum,
+    sale_shelf: FieldTally<<u64 as Tallied>::Tally>,
+    sale_prices: FieldTally<<Vec<u64> as Tallied>::Tally>,
+}
 
-type FramedBothFields<K, V> = Record<(K, (Vec<V>, (u16, ())))>;
+#[tactic(auto)]
+impl Tally for EventTally {
+    ghost shape = { λ t. EntryAt Wide (codes "Event") t.own
+        (Beside (EntryAt Wide (codes "Note") t.note_value.own (⟦<<String as Tallied>::Tally as Tally>⟧.shape t.note_value.value))
+        (EntryAt Wide (codes "Sale") t.sale_own
+        (Beside (EntryAt Wide (codes "shelf") t.sale_shelf.own (⟦<<u64 as Tallied>::Tally as Tally>⟧.shape t.sale_shelf.value))
+        (EntryAt Wide (codes "prices") t.sale_prices.own (⟦<<Vec<u64> as Tallied>::Tally as Tally>⟧.shape t.sale_prices.value))))) };
 
-impl<K: Allocative + Described, V: Allocative + Described> Described for Framed<K, V> {
-    ghost name = { codes "Framed" };
-
-    ghost align = { ⟦<FramedLayout<K, V> as Described>⟧.align };
-
-    ghost needs_drop = { ⟦<FramedLayout<K, V> as Described>⟧.needs_drop };
-
-    ghost size = { ⟦<FramedLayout<K, V> as Described>⟧.size };
-
-    fn name() -> &'static str {
-        "Framed"
+    fn none() -> Self {
+        EventTally {
+            own: Sum::none(),
+            note_value: FieldTally::none(),
+            sale_own: Sum::none(),
+            sale_shelf: FieldTally::none(),
+            sale_prices: FieldTally::none(),
+        }
     }
 
-    fn align() -> usize {
-        <FramedLayout<K, V>>::align()
-    }
-
-    fn needs_drop() -> bool {
-        <FramedLayout<K, V>>::needs_drop()
-    }
-
-    fn size() -> Option<usize> {
-        <FramedLayout<K, V>>::size()
+    fn enter(&self, visitor: &mut Visitor<'_>) -> Result<(), Refusal> {
+        let note_value = FieldSum("Note", &self.note_value);
+        let sale_shelf = FieldSum("shelf", &self.sale_shelf);
+        let sale_prices = FieldSum("prices", &self.sale_prices);
+        let sale_own = InlineSum("Sale", self.sale_own, (sale_shelf, sale_prices));
+        InlineSum("Event", self.own, (note_value, sale_own)).enter(visitor)
     }
 }
 
-impl<K: Allocative + Described, V: Allocative + Described> Allocative for Framed<K, V> {
-    ghost use Rattle.test_generated_types.specs.declared.types.Framed.TheVariants.{Both};
+#[tactic(auto)]
+impl Tallied for Event {
+    type Tally = EventTally;
 
-    ghost may_show = { λ x. shows.Field (codes "Framed") ⟦<FramedLayout<K, V> as Described>⟧.size (elim x [
-      | Both a b c ↦ shows.Field (codes "Both") ⟦<FramedBothFields<K, V> as Described>⟧.size (shows.Both
-          (shows.Field (codes "left") ⟦<K as Described>⟧.size (⟦<K as Allocative>⟧.may_show a)) (shows.Both
-          (shows.Field (codes "inside") ⟦<Vec<V> as Described>⟧.size (⟦<Vec<V> as Allocative>⟧.may_show b))
-          (shows.Field (codes "width") ⟦<u16 as Described>⟧.size (⟦<u16 as Allocative>⟧.may_show c))))
+    fn tally(&self, tally: &mut Self::Tally) -> Result<(), CountError> {
+        count_own(&mut tally.own, <Event>::size())?;
+        match self {
+            Event::Quiet => Ok(()),
+            Event::Note(a) => {
+                count(&mut tally.note_value, a)?;
+                Ok(())
+            }
+            Event::Sale { shelf, prices } => {
+                count_own(&mut tally.sale_own, <EventSaleFields>::size())?;
+                count(&mut tally.sale_shelf, shelf)?;
+                count(&mut tally.sale_prices, prices)?;
+                Ok(())
+            }
+        }
+    }
+}
+
+type CartLayout = Record<(u8, (u64, (Vec<String>, ())))>;
+
+type CartBoughtItemsFields = Record<(u64, (Vec<String>, ()))>;
+
+impl Described for Cart {
+    ghost name = { codes "Cart" };
+
+    ghost align = { ⟦<CartLayout as Described>⟧.align };
+
+    ghost needs_drop = { ⟦<CartLayout as Described>⟧.needs_drop };
+
+    ghost size = { ⟦<CartLayout as Described>⟧.size };
+
+    fn name() -> &'static str {
+        "Cart"
+    }
+
+    fn align() -> usize {
+        <CartLayout>::align()
+    }
+
+    fn needs_drop() -> bool {
+        <CartLayout>::needs_drop()
+    }
+
+    fn size() -> Option<usize> {
+        <CartLayout>::size()
+    }
+}
+
+impl Allocative for Cart {
+    ghost use Rattle.test_generated_types.specs.declared.types.Cart.TheVariants.{BoughtItems};
+
+    ghost may_show = { λ x. shows.Field (codes "Cart") ⟦<CartLayout as Described>⟧.size (elim x [
+      | BoughtItems a b ↦ shows.Field (codes "BoughtItems") ⟦<CartBoughtItemsFields as Described>⟧.size (shows.Both
+          (shows.Field (codes "count") ⟦<u64 as Described>⟧.size (⟦<u64 as Allocative>⟧.may_show a))
+          (shows.Field (codes "names") ⟦<Vec<String> as Described>⟧.size (⟦<Vec<String> as Allocative>⟧.may_show b)))
     ]) };
 
-    ghost is_strict = { K.is_strict && (V.is_strict) };
+    ghost is_strict = { true };
 
     fn visit(&self, visitor: &mut Visitor<'_>) -> Result<(), Refusal> {
         match self {
-            Framed::Both {
-                left,
-                inside,
-                width,
-            } => {
-                let left = Field("left", left);
-                let inside = Field("inside", inside);
-                let width = Field("width", width);
+            Cart::BoughtItems { count, names } => {
+                let count = Field("count", count);
+                let names = CountedField("names", names);
                 let inside = Declared(
-                    "Both",
-                    <FramedBothFields<K, V>>::size(),
-                    (left, inside, width),
+                    "BoughtItems",
+                    <CartBoughtItemsFields>::size(),
+                    (count, names),
                 );
                 Whole(self, inside).enter(visitor)
             }
         }
+    }
+}
+
+/// Values of `Cart`, counted.
+#[derive(Drop)]
+pub struct CartTally {
+    own: Sum,
+    bought_items_own: Sum,
+    bought_items_count: FieldTally<<u64 as Tallied>::Tally>,
+    bought_items_names: FieldTally<<Vec<String> as Tallied>::Tally>,
+}
+
+#[tactic(auto)]
+impl Tally for CartTally {
+    ghost shape = { λ t. EntryAt Wide (codes "Cart") t.own
+        (EntryAt Wide (codes "BoughtItems") t.bought_items_own
+        (Beside (EntryAt Wide (codes "count") t.bought_items_count.own (⟦<<u64 as Tallied>::Tally as Tally>⟧.shape t.bought_items_count.value))
+        (EntryAt Wide (codes "names") t.bought_items_names.own (⟦<<Vec<String> as Tallied>::Tally as Tally>⟧.shape t.bought_items_names.value)))) };
+
+    fn none() -> Self {
+        CartTally {
+            own: Sum::none(),
+            bought_items_own: Sum::none(),
+            bought_items_count: FieldTally::none(),
+            bought_items_names: FieldTally::none(),
+        }
+    }
+
+    fn enter(&self, visitor: &mut Visitor<'_>) -> Result<(), Refusal> {
+        let b = FieldSum("count", &self.bought_items_count);
+        let c = FieldSum("names", &self.bought_items_names);
+        let a = InlineSum("BoughtItems", self.bought_items_own, (b, c));
+        InlineSum("Cart", self.own, a).enter(visitor)
+    }
+}
+
+#[tactic(auto)]
+impl Tallied for Cart {
+    type Tally = CartTally;
+
+    fn tally(&self, tally: &mut Self::Tally) -> Result<(), CountError> {
+        count_own(&mut tally.own, <Cart>::size())?;
+        match self {
+            Cart::BoughtItems { count: a, names: b } => {
+                count_own(&mut tally.bought_items_own, <CartBoughtItemsFields>::size())?;
+                count(&mut tally.bought_items_count, a)?;
+                count(&mut tally.bought_items_names, b)?;
+                Ok(())
+            }
+        }
+    }
+}
+
+type CategoryLayout = Record<(String, (Vec<()>, (Option<u64>, (HashMap<(), ()>, ()))))>;
+
+impl Described for Category {
+    ghost name = { codes "Category" };
+
+    ghost align = { ⟦<CategoryLayout as Described>⟧.align };
+
+    ghost needs_drop = { ⟦<CategoryLayout as Described>⟧.needs_drop };
+
+    ghost size = { ⟦<CategoryLayout as Described>⟧.size };
+
+    fn name() -> &'static str {
+        "Category"
+    }
+
+    fn align() -> usize {
+        <CategoryLayout>::align()
+    }
+
+    fn needs_drop() -> bool {
+        <CategoryLayout>::needs_drop()
+    }
+
+    fn size() -> Option<usize> {
+        <CategoryLayout>::size()
+    }
+}
+
+impl Allocative for Category {
+    ghost may_show = { recursive (λ x. field (codes "Category") ⟦<CategoryLayout as Described>⟧.size (both
+        (plain (shows.Field (codes "name") ⟦<String as Described>⟧.size (⟦<String as Allocative>⟧.may_show (out-Category x).name))) (both
+        (field (codes "children") ⟦<Vec<()> as Described>⟧.size (vec_in ⟦<CategoryLayout as Described>⟧.size child (out-Category x).children)) (both
+        (plain (shows.Field (codes "rank") ⟦<Option<u64> as Described>⟧.size (⟦<Option<u64> as Allocative>⟧.may_show (out-Category x).rank)))
+        (field (codes "by_name") ⟦<HashMap<(), ()> as Described>⟧.size (hash_map_of (pair_in ⟦<String as Described>⟧.size ⟦<String as Allocative>⟧.may_show ⟦<CategoryLayout as Described>⟧.size child) (out-Category x).by_name.entries)))))) };
+
+    ghost is_strict = { true };
+
+    fn visit(&self, visitor: &mut Visitor<'_>) -> Result<(), Refusal> {
+        let name = Field("name", &self.name);
+        let children = Field("children", &self.children);
+        let rank = Field("rank", &self.rank);
+        let by_name = Field("by_name", &self.by_name);
+        Declared(
+            "Category",
+            <Self as Described>::size(),
+            (name, children, rank, by_name),
+        )
+        .enter(visitor)
+    }
+}
+
+type JsonLayout = Record<
+    (
+        u8,
+        Or<
+            Or<(bool, ()), Or<(u64, (String, (u64, (u64, (String, ()))))), (Vec<()>, ())>>,
+            Or<(BTreeMap<(), ()>, ()), Or<(Box<()>, ()), (Option<Box<()>>, (u32, ()))>>,
+        >,
+    ),
+>;
+
+type JsonPairFields = Record<(u64, (String, (u64, (u64, (String, ())))))>;
+
+type JsonMaybeFields = Record<(Option<Box<()>>, (u32, ()))>;
+
+impl Described for Json {
+    ghost name = { codes "Json" };
+
+    ghost align = { ⟦<JsonLayout as Described>⟧.align };
+
+    ghost needs_drop = { ⟦<JsonLayout as Described>⟧.needs_drop };
+
+    ghost size = { ⟦<JsonLayout as Described>⟧.size };
+
+    fn name() -> &'static str {
+        "Json"
+    }
+
+    fn align() -> usize {
+        <JsonLayout>::align()
+    }
+
+    fn needs_drop() -> bool {
+        <JsonLayout>::needs_drop()
+    }
+
+    fn size() -> Option<usize> {
+        <JsonLayout>::size()
+    }
+}
+
+impl Allocative for Json {
+    ghost use Rattle.test_generated_types.specs.declared.types.Json.TheOpen.{Json-F};
+
+    ghost may_show = { recursive (opened out-Json (λ x. field (codes "Json") ⟦<JsonLayout as Described>⟧.size (elim x [
+      | Json-F.Null ↦ plain shows.Nothing
+      | Json-F.Bool a ↦ plain (shows.Field (codes "Bool") ⟦<bool as Described>⟧.size (⟦<bool as Allocative>⟧.may_show a))
+      | Json-F.Pair a b c d e ↦ field (codes "Pair") ⟦<JsonPairFields as Described>⟧.size (both
+          (plain (shows.Field (codes "0") ⟦<u64 as Described>⟧.size (⟦<u64 as Allocative>⟧.may_show a))) (both
+          (plain (shows.Field (codes "1") ⟦<String as Described>⟧.size (⟦<String as Allocative>⟧.may_show b))) (both
+          (plain (shows.Field (codes "2") ⟦<u64 as Described>⟧.size (⟦<u64 as Allocative>⟧.may_show c))) (both
+          (plain (shows.Field (codes "3") ⟦<u64 as Described>⟧.size (⟦<u64 as Allocative>⟧.may_show d)))
+          (plain (shows.Field (codes "4") ⟦<String as Described>⟧.size (⟦<String as Allocative>⟧.may_show e)))))))
+      | Json-F.List a ↦ field (codes "List") ⟦<Vec<()> as Described>⟧.size (vec_in ⟦<JsonLayout as Described>⟧.size child a)
+      | Json-F.Table a ↦ field (codes "Table") ⟦<BTreeMap<(), ()> as Described>⟧.size (btree_map_of (pair_in ⟦<String as Described>⟧.size ⟦<String as Allocative>⟧.may_show ⟦<JsonLayout as Described>⟧.size child) a.entries)
+      | Json-F.Boxed a ↦ field (codes "Boxed") ⟦<Box<()> as Described>⟧.size (box_of (child a.value))
+      | Json-F.Maybe a b ↦ field (codes "Maybe") ⟦<JsonMaybeFields as Described>⟧.size (both
+          (field (codes "first") ⟦<Option<Box<()>> as Described>⟧.size (option_in ⟦<Option<Box<()>> as Described>⟧.size ⟦<Box<()> as Described>⟧.size (λ y. box_of (child y.value)) a))
+          (plain (shows.Field (codes "number") ⟦<u32 as Described>⟧.size (⟦<u32 as Allocative>⟧.may_show b))))
+    ]))) };
+
+    ghost is_strict = { true };
+
+    fn visit(&self, visitor: &mut Visitor<'_>) -> Result<(), Refusal> {
+        match self {
+            Json::Null => Declared("Json", <Self as Described>::size(), ()).enter(visitor),
+            Json::Bool(a) => {
+                let a = Field("Bool", a);
+                Declared("Json", <Self as Described>::size(), a).enter(visitor)
+            }
+            Json::Pair(a, b, c, d, e) => {
+                let a = Field("0", a);
+                let b = Field("1", b);
+                let c = Field("2", c);
+                let d = Field("3", d);
+                let e = Field("4", e);
+                let inside = Declared("Pair", <JsonPairFields>::size(), (a, b, c, d, e));
+                Declared("Json", <Self as Described>::size(), inside).enter(visitor)
+            }
+            Json::List(a) => {
+                let a = Field("List", a);
+                Declared("Json", <Self as Described>::size(), a).enter(visitor)
+            }
+            Json::Table(a) => {
+                let a = Field("Table", a);
+                Declared("Json", <Self as Described>::size(), a).enter(visitor)
+            }
+            Json::Boxed(a) => {
+                let a = Field("Boxed", a);
+                Declared("Json", <Self as Described>::size(), a).enter(visitor)
+            }
+            Json::Maybe { first, number } => {
+                let first = Field("first", first);
+                let number = Field("number", number);
+                let inside = Declared("Maybe", <JsonMaybeFields>::size(), (first, number));
+                Declared("Json", <Self as Described>::size(), inside).enter(visitor)
+            }
+        }
+    }
+}
+
+type RopeLayout = Record<(u8, (Vec<()>, (String, ())))>;
+
+type RopeOfFields = Record<(Vec<()>, (String, ()))>;
+
+impl Described for Rope {
+    ghost name = { codes "Rope" };
+
+    ghost align = { ⟦<RopeLayout as Described>⟧.align };
+
+    ghost needs_drop = { ⟦<RopeLayout as Described>⟧.needs_drop };
+
+    ghost size = { ⟦<RopeLayout as Described>⟧.size };
+
+    fn name() -> &'static str {
+        "Rope"
+    }
+
+    fn align() -> usize {
+        <RopeLayout>::align()
+    }
+
+    fn needs_drop() -> bool {
+        <RopeLayout>::needs_drop()
+    }
+
+    fn size() -> Option<usize> {
+        <RopeLayout>::size()
+    }
+}
+
+impl Allocative for Rope {
+    ghost use Rattle.test_generated_types.specs.declared.types.Rope.TheOpen.{Rope-F};
+
+    ghost may_show = { recursive (opened out-Rope (λ x. field (codes "Rope") ⟦<RopeLayout as Described>⟧.size (elim x [
+      | Rope-F.Of a b ↦ field (codes "Of") ⟦<RopeOfFields as Described>⟧.size (both
+          (field (codes "0") ⟦<Vec<()> as Described>⟧.size (vec_in ⟦<RopeLayout as Described>⟧.size child a))
+          (plain (shows.Field (codes "1") ⟦<String as Described>⟧.size (⟦<String as Allocative>⟧.may_show b))))
+    ]))) };
+
+    ghost is_strict = { true };
+
+    fn visit(&self, visitor: &mut Visitor<'_>) -> Result<(), Refusal> {
+        match self {
+            Rope::Of(a, b) => {
+                let a = Field("0", a);
+                let b = Field("1", b);
+                let inside = Declared("Of", <RopeOfFields>::size(), (a, b));
+                Declared("Rope", <Self as Described>::size(), inside).enter(visitor)
+            }
+        }
+    }
+}
+
+type ChapterLayout = Record<(String, (NoteLayout, (Vec<()>, ())))>;
+
+impl Described for Chapter {
+    ghost name = { codes "Chapter" };
+
+    ghost align = { ⟦<ChapterLayout as Described>⟧.align };
+
+    ghost needs_drop = { ⟦<ChapterLayout as Described>⟧.needs_drop };
+
+    ghost size = { ⟦<ChapterLayout as Described>⟧.size };
+
+    fn name() -> &'static str {
+        "Chapter"
+    }
+
+    fn align() -> usize {
+        <ChapterLayout>::align()
+    }
+
+    fn needs_drop() -> bool {
+        <ChapterLayout>::needs_drop()
+    }
+
+    fn size() -> Option<usize> {
+        <ChapterLayout>::size()
+    }
+}
+
+impl Allocative for Chapter {
+    ghost may_show = { recursive (λ x. field (codes "Chapter") ⟦<ChapterLayout as Described>⟧.size (both
+        (plain (shows.Field (codes "title") ⟦<String as Described>⟧.size (⟦<String as Allocative>⟧.may_show (out-Chapter x).title))) (both
+        (field (codes "first") ⟦<NoteLayout as Described>⟧.size (field (codes "Note") ⟦<NoteLayout as Described>⟧.size (both
+        (field (codes "chapters") ⟦<Vec<()> as Described>⟧.size (vec_in ⟦<ChapterLayout as Described>⟧.size child (out-Note (out-Chapter x).first).chapters))
+        (plain (shows.Field (codes "is_long") ⟦<bool as Described>⟧.size (⟦<bool as Allocative>⟧.may_show (out-Note (out-Chapter x).first).is_long))))))
+        (field (codes "notes") ⟦<Vec<()> as Described>⟧.size (vec_in ⟦<NoteLayout as Described>⟧.size (λ y. field (codes "Note") ⟦<NoteLayout as Described>⟧.size (both
+        (field (codes "chapters") ⟦<Vec<()> as Described>⟧.size (vec_in ⟦<ChapterLayout as Described>⟧.size child (out-Note y).chapters))
+        (plain (shows.Field (codes "is_long") ⟦<bool as Described>⟧.size (⟦<bool as Allocative>⟧.may_show (out-Note y).is_long))))) (out-Chapter x).notes))))) };
+
+    ghost is_strict = { true };
+
+    #[cycle(chapters)]
+    fn visit(&self, visitor: &mut Visitor<'_>) -> Result<(), Refusal> {
+        let title = Field("title", &self.title);
+        let first = Field("first", &self.first);
+        let notes = Field("notes", &self.notes);
+        Declared(
+            "Chapter",
+            <Self as Described>::size(),
+            (title, first, notes),
+        )
+        .enter(visitor)
+    }
+}
+
+type NoteLayout = Record<(Vec<()>, (bool, ()))>;
+
+impl Described for Note {
+    ghost name = { codes "Note" };
+
+    ghost align = { ⟦<NoteLayout as Described>⟧.align };
+
+    ghost needs_drop = { ⟦<NoteLayout as Described>⟧.needs_drop };
+
+    ghost size = { ⟦<NoteLayout as Described>⟧.size };
+
+    fn name() -> &'static str {
+        "Note"
+    }
+
+    fn align() -> usize {
+        <NoteLayout>::align()
+    }
+
+    fn needs_drop() -> bool {
+        <NoteLayout>::needs_drop()
+    }
+
+    fn size() -> Option<usize> {
+        <NoteLayout>::size()
+    }
+}
+
+impl Allocative for Note {
+    ghost may_show = { λ x. shows.Field (codes "Note") ⟦<NoteLayout as Described>⟧.size (shows.Both
+        (shows.Field (codes "chapters") ⟦<Vec<()> as Described>⟧.size (level_shows ⟦<Chapter as Allocative>⟧.may_show (vec_in ⟦<ChapterLayout as Described>⟧.size child (out-Note x).chapters)))
+        (shows.Field (codes "is_long") ⟦<bool as Described>⟧.size (⟦<bool as Allocative>⟧.may_show (out-Note x).is_long))) };
+
+    ghost is_strict = { true };
+
+    #[cycle(chapters)]
+    fn visit(&self, visitor: &mut Visitor<'_>) -> Result<(), Refusal> {
+        let chapters = Field("chapters", &self.chapters);
+        let is_long = Field("is_long", &self.is_long);
+        Declared("Note", <Self as Described>::size(), (chapters, is_long)).enter(visitor)
     }
 }

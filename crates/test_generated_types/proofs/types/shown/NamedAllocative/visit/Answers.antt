@@ -15,3 +15,9 @@ returns-in-Somebody g c =
     visited_if c.enter-in-Somebody.ensures (search (rules, strict))
     (rw c.in-Somebody.is
     (means_field refl refl (means_field refl c.size.ensures means_same)))
+
+pub returns-in-Somewhere : goal.returns-in-Somewhere
+returns-in-Somewhere g c =
+    visited_if c.enter-in-Somewhere.ensures (search (rules, strict))
+    (rw c.in-Somewhere.is
+    (means_field refl refl (means_field refl c.size-in-Somewhere.ensures means_same)))
