@@ -10,8 +10,8 @@ import re
 import shutil
 import sys
 
-from .source import Source
-from .text import MARK
+from .source import Source, crate_of
+from .text import MARK, Writer
 from .tokens import Fault
 
 STALE, ARGUMENTS, FILES, FAULTS = 1, 2, 3, 4
@@ -19,8 +19,9 @@ STALE, ARGUMENTS, FILES, FAULTS = 1, 2, 3, 4
 ANSWERS = ("+*", "*Allocative/*visit", "*Tallied/tally", "*TallyTally/none")
 HEAD = re.compile(r"(?:(?://!|#!\[).*\n|\s*\n)*")
 ABOUT = """Writes the implementations of Described and Allocative for the structs and enums of a source file:
-of the types that are named, or of all that have none. They go to standard output, as the text of a module
-`shown` of the file. The answers that their proofs need go into the folder proofs of the crate.
+of the types that are named, or of all that have none. They are the text of a module `shown` of the file. The
+answers that their proofs need go into the folder proofs. With --output . in the crate's folder all goes to its
+place; without it the text goes to standard output, and nothing changes but if that is the file of `shown`.
 
 A comment `// allocative: skip` above a field passes it over, and `// allocative: size 8` shows it as one
 entry of 8 bytes.
@@ -46,6 +47,8 @@ def arguments(words: list[str]) -> argparse.Namespace:
     parser.add_argument("types", metavar="TYPE", nargs="*", help="the types to write for")
     what = "read the module PATH in the file, as inner::deep"
     parser.add_argument("--module", metavar="PATH", default="", help=what)
+    what = "write below FOLDER, as src/order/shown.rt and proofs; `.` in the folder of the crate is the crate itself"
+    parser.add_argument("--output", metavar="FOLDER", default="", help=what)
     for flag, what in FLAGS.items():
         parser.add_argument(flag, action="store_true", help=what)
     chosen = parser.parse_args(words)
@@ -57,9 +60,10 @@ def arguments(words: list[str]) -> argparse.Namespace:
 def run(chosen: argparse.Namespace) -> int:
     """Reads the file, and writes or compares what belongs to it."""
     path, text = chosen.file, read(chosen.file)
-    shown = shown_path(path, chosen.module)
-    is_inline = chosen.in_place or (chosen.check and not os.path.exists(shown))
     try:
+        folder = crate_of(path)[0]
+        shown = placed(chosen, folder, shown_path(path, chosen.module))
+        is_inline = chosen.in_place or (chosen.check and not os.path.exists(shown))
         source = Source(text, chosen, is_inline)
         found = source.writers()
         new = source.new_text(found) if not source.faults else ""
@@ -67,26 +71,41 @@ def run(chosen: argparse.Namespace) -> int:
         return tell(path, text, [fault])
     if source.faults:
         return tell(path, text, source.faults)
-    files: dict[str, str | None] = {path: new} if is_inline else {shown: new} if chosen.check else {}
-    proofs = os.path.join(source.crate.folder, "proofs")
-    pairs = [pair for each in found for pair in each.answers.items()]
-    answers = {os.path.join(proofs, folder, "Answers.antt"): answer for folder, answer in pairs}
-    old = old_answers(os.path.join(proofs, *source.text_at))
-    files |= {path: None for path in old if path not in answers}
-    files |= {path: answer for path, answer in answers.items() if path in old or not os.path.exists(path)}
+    is_printed = not (is_inline or chosen.check or chosen.output)
+    target = placed(chosen, folder, path) if is_inline else shown
+    files = answers(os.path.join(chosen.output or folder, "proofs"), source, found) | ({} if is_printed else {target: new})
     if chosen.check:
         return STALE if sum(is_stale(path, text) for path, text in files.items()) else 0
-    if not is_inline:
-        sys.stdout.write(new)
-    for each, answer in files.items():
-        put(each, answer)
-    if chosen.add_lines:
-        add_lines(path, text, source, is_inline)
+    if is_printed:
+        print(new, end="", flush=True)
+    if not is_printed or is_output(shown):
+        put(files | (added_lines(path, text, source, is_inline) if chosen.add_lines else {}))
     for name, why in source.untallied.items():
         say(f"{name} has no tally, as {why}")
     if source.passed_over:
         say(source.passed_line())
     return 0
+
+
+def placed(chosen: argparse.Namespace, folder: str, path: str) -> str:
+    """A file of the crate in a folder, or its copy in the folder that is asked for."""
+    return os.path.join(chosen.output, os.path.relpath(os.path.realpath(path), folder)) if chosen.output else path
+
+
+def answers(folder: str, source: Source, found: list[Writer]) -> dict[str, str | None]:
+    """The answers by their files in a folder, with nothing for those that are not wanted any more."""
+    pairs = [pair for each in found for pair in each.answers.items()]
+    new = {os.path.join(folder, name, "Answers.antt"): answer for name, answer in pairs}
+    old = old_answers(os.path.join(folder, *source.text_at))
+    files: dict[str, str | None] = {path: None for path in old if path not in new}
+    return files | {path: answer for path, answer in new.items() if path in old or not os.path.exists(path)}
+
+
+def is_output(path: str) -> bool:
+    """Whether standard output is a file."""
+    with contextlib.suppress(OSError):
+        return os.path.samestat(os.fstat(1), os.stat(path))
+    return False
 
 
 def shown_path(path: str, module: str) -> str:
@@ -106,41 +125,56 @@ def tell(path: str, text: str, faults: list[Fault]) -> int:
 
 def is_stale(path: str, text: str | None) -> bool:
     """Whether a file is not as it would be written, which is told."""
-    if (read(path) if os.path.exists(path) else None) == text:
+    if is_same(path, text) if text is not None else not os.path.exists(path):
         return False
     say(f"{path} is {'stale' if text is not None else 'not wanted any more'}: run implement again")
     return True
 
 
-def put(path: str, text: str | None) -> None:
-    """Writes a file in one step, with the rights that it had, or removes it with the folders it leaves."""
-    if text is None:
+def put(files: dict[str, str | None]) -> None:
+    """Writes files, with the rights that they had, and removes those without a text. If one cannot be written, all stay."""
+    new = {path: text for path, text in files.items() if text is not None and not is_same(path, text)}
+    written: list[str] = []
+    try:
+        for path, text in new.items():
+            os.makedirs(os.path.dirname(os.path.realpath(path)), exist_ok=True)
+            with open(f"{path}.new", "x", encoding="utf-8", newline="") as file:
+                written.append(path)
+                file.write(text)
+            if os.path.exists(path):
+                shutil.copymode(path, f"{path}.new")
+    except OSError:
+        for path in written:
+            os.remove(f"{path}.new")
+        raise
+    for path in new:
+        os.replace(f"{path}.new", os.path.realpath(path))
+    for path in (path for path, text in files.items() if text is None):
         os.remove(path)
         with contextlib.suppress(OSError):
             os.removedirs(os.path.dirname(path))
-    elif not os.path.exists(path) or read(path) != text:
-        os.makedirs(os.path.dirname(os.path.realpath(path)), exist_ok=True)
-        with open(f"{path}.new", "x", encoding="utf-8", newline="") as file:
-            file.write(text)
-        if os.path.exists(path):
-            shutil.copymode(path, f"{path}.new")
-        os.replace(f"{path}.new", os.path.realpath(path))
 
 
-def add_lines(path: str, text: str, source: Source, is_inline: bool) -> None:
-    """Adds the line of the module, and the crate's dependency."""
+def is_same(path: str, text: str) -> bool:
+    """Whether a file has a text."""
+    return os.path.exists(path) and read(path) == text
+
+
+def added_lines(path: str, text: str, source: Source, is_inline: bool) -> dict[str, str | None]:
+    """The file with the line of the module, and `crates.txt` with the crate's dependency."""
+    files: dict[str, str | None] = {}
     if not is_inline and not source.inner and "shown" not in source.module.names:
         head = HEAD.match(text).end()
-        put(path, f"{text[:head]}mod shown;\n\n{text[head:]}")
+        files[path] = f"{text[:head]}mod shown;\n\n{text[head:]}"
     crates = os.path.join(os.path.dirname(source.crate.folder), "..", "crates.txt")
-    if not os.path.exists(crates):
-        return
-    lines = read(crates).splitlines(keepends=True)
-    for number, line in enumerate(lines):
-        name, _, words = line.partition(":")
-        if name.split()[:1] == [source.crate.name] and "allocative" not in words.split():
-            lines[number] = f"{line.rstrip()} allocative\n"
-    put(crates, "".join(lines))
+    if os.path.exists(crates):
+        lines = read(crates).splitlines(keepends=True)
+        for number, line in enumerate(lines):
+            name, _, words = line.partition(":")
+            if name.split()[:1] == [source.crate.name] and "allocative" not in words.split():
+                lines[number] = f"{line.rstrip()} allocative\n"
+        files[crates] = "".join(lines)
+    return files
 
 
 def old_answers(folder: str) -> list[str]:

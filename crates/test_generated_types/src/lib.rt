@@ -1,5 +1,6 @@
 //! Types whose implementations `bin/implement` wrote.
 #![tactic(auto)]
 
+pub mod order;
 pub mod placed;
 pub mod types;

@@ -12,6 +12,8 @@ import unittest
 from ..command import main, read
 
 POINT = "#[derive(Drop)]\npub struct Point {\n    pub x: u32,\n}\n"
+CASES = "#[derive(Drop)]\nenum E {\n    A,\n    B(u8),\n}\n"
+ANSWERS = "proofs/a/shown/EAllocative/visit/Answers.antt"
 TOP = os.path.realpath(os.path.join(os.path.dirname(__file__), "../../.."))
 TYPES = os.path.join(TOP, "crates/test_generated_types/src")
 SOURCES = [name for name in sorted(os.listdir(TYPES)) if name.endswith(".rt") and name != "lib.rt"]
@@ -235,8 +237,44 @@ class CommandTest(unittest.TestCase):
     def test_answers_that_are_not_wanted_go(self) -> None:
         self.put("proofs/a/shown/GoneAllocative/visit/Answers.antt", "-- Written by bin/implement.\n")
         self.put("proofs/a/shown/MineAllocative/visit/Answers.antt", "-- Mine.\n")
-        self.run_it("#[derive(Drop)]\nenum E {\n    A,\n    B(u8),\n}\n")
+        self.run_it(CASES, "--output", self.crate)
         self.assertEqual(sorted(os.listdir(self.path("proofs/a/shown"))), ["EAllocative", "MineAllocative"])
+
+    def files(self) -> dict[str, str]:
+        """The text of each file, by its path."""
+        paths = [os.path.join(folder, name) for folder, _, names in os.walk(self.top) for name in names]
+        return {os.path.relpath(path, self.top): read(path) for path in paths}
+
+    def test_a_preview_changes_nothing(self) -> None:
+        self.put("../../crates.txt", "page:\n")
+        path = self.put("src/a.rt", CASES)
+        before = self.files()
+        output = run(path, "--add-lines")[1]
+        self.assertEqual((self.files(), "impl Allocative for E" in output), (before, True))
+        for words in ([], ["--in-place"], ["--check"], ["--add-lines", "--output", self.crate]):
+            self.assertEqual((run(path, "F", *words)[0], self.files()), (4, before))
+        self.put(f"{ANSWERS}.new", "mine")
+        before = self.files()
+        self.assertEqual((run(path, "--output", self.crate)[0], self.files()), (3, before))
+
+    def test_a_folder_for_what_is_written(self) -> None:
+        path = self.put("src/a.rt", CASES)
+        before, output = self.files(), run(path)[1]
+        other = os.path.join(self.top, "other")
+        self.assertEqual(run(path, "--output", other), (0, "", ""))
+        new = {name: text for name, text in self.files().items() if name not in before}
+        self.assertEqual(sorted(new), [f"other/{ANSWERS}", "other/src/a/shown.rt"])
+        self.assertEqual((new["other/src/a/shown.rt"], run(path, "--output", other, "--check")[0]), (output, 0))
+        self.assertEqual((run(path, "--output", self.crate)[1], self.get("src/a/shown.rt")), ("", output))
+        self.assertEqual((self.get(ANSWERS), run(path, "--check")[0]), (new[f"other/{ANSWERS}"], 0))
+
+    def test_answers_go_with_the_file_of_the_module(self) -> None:
+        self.put("src/a.rt", CASES)
+        for name, is_there in (("src/b.rt", False), ("src/a/shown.rt", True)):
+            with open(self.put(name, ""), "w", encoding="utf-8") as file:
+                command = [os.path.join(TOP, "bin/implement"), "src/a.rt"]
+                self.assertEqual(subprocess.run(command, cwd=self.crate, stdout=file).returncode, 0)
+            self.assertEqual(os.path.exists(self.path(ANSWERS)), is_there)
 
     def test_in_place_and_check(self) -> None:
         placed = read(os.path.join(TYPES, "placed.rt"))
@@ -293,7 +331,7 @@ class CommandTest(unittest.TestCase):
 
     def test_lines_that_are_asked_for(self) -> None:
         self.put("../../crates.txt", "page: thiserror\nother: page\n")
-        self.run_it("//! A page.\n\nuse std::fmt;\n\n" + POINT, "--add-lines")
+        self.run_it("//! A page.\n\nuse std::fmt;\n\n" + POINT, "--add-lines", "--output", self.crate)
         self.assertEqual(self.get("src/a.rt").splitlines()[2], "mod shown;")
         self.assertEqual(self.get("../../crates.txt"), "page: thiserror allocative\nother: page\n")
 
