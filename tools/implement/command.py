@@ -82,6 +82,8 @@ def run(chosen: argparse.Namespace) -> int:
         put(files | (added_lines(path, text, source, is_inline) if chosen.add_lines else {}))
     for name, why in source.untallied.items():
         say(f"{name} has no tally, as {why}")
+    for what in source.uncounted:
+        say(what)
     if source.passed_over:
         say(source.passed_line())
     return 0

@@ -5,6 +5,7 @@ from __future__ import annotations
 from typing import NamedTuple
 
 from .known import NUMBERS, Scope
+from .rust_sizes import POINTERS, is_unsized, layout_of
 from .types import Member, Type
 
 # Bytes, alignment, and how many parameters of a type whose size does not depend on them.
@@ -16,7 +17,6 @@ FIXED |= {"IpAddr": (17, 1, 0), "Ipv4Addr": (4, 1, 0), "Ipv6Addr": (16, 1, 0), "
 FIXED |= dict.fromkeys("Duration Instant SystemTime Number".split(), (16, 8, 0)) | {"Value": (32, 8, 0)}
 CELLS = ("Cell", "UnsafeCell")
 COMPOSED = ("Option", "Result", "Either", "ManuallyDrop", *CELLS)
-POINTERS = ("Rc", "Arc", "Weak", "Box")
 # A type of no bytes whose alignment and drop are those of what is not known.
 UNKNOWN = "[String; 0]"
 
@@ -82,10 +82,13 @@ class Counting:
         if member.type.name == "PhantomData":
             return []
         found = self.of(member.type, parameters if member.size is None else ())
-        if member.size is None or (found and found.size == member.size):
+        size = member.size
+        if size is None and found is None:
+            size = (layout_of(self.scope, member.type) or (None,))[0]
+        if size is None or (found and found.size == size):
             return [found] if found else None
         empty = f"[{found.text}; 0]" if found else UNKNOWN
-        return [Counted(f"[u8; {member.size}]", member.size, 1), Counted(empty, 0, found.align if found else 8)]
+        return [Counted(f"[u8; {size}]", size, 1), Counted(empty, 0, found.align if found else 8)]
 
 
 def laid_out(parts: list[Counted], tag: int | None = None) -> tuple[int | None, int]:
@@ -93,8 +96,3 @@ def laid_out(parts: list[Counted], tag: int | None = None) -> tuple[int | None, 
     sizes, align = [part.size for part in parts if part.size is not None], max([1, *(part.align for part in parts)])
     size = sum(sizes) if tag is None else tag + max(sizes, default=0)
     return (-(-size // align) * align if len(sizes) == len(parts) else None), align
-
-
-def is_unsized(kind: Type) -> bool:
-    """Whether a pointer to a type has two words."""
-    return kind.name in ("str", "Path", "OsStr", "CStr") or kind.text.startswith(("dyn ", "["))

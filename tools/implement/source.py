@@ -8,7 +8,7 @@ import textwrap
 from argparse import Namespace
 from functools import cached_property
 
-from .counted import Counting
+from .counted import Counted, Counting
 from .known import Scope
 from .tally import HOMES, MANY, SHAPES, Tally, find_tallied, reason
 from .text import LEVELS, WIDTH, Writer
@@ -94,6 +94,7 @@ class Source:
         self.scope = Scope(self.module, [each.name for each in wanted], self.crate.reason)
         self.counting = Counting(self.scope, {})
         self.passed_over: list[int | None] = []
+        self.uncounted: list[str] = []
         self.wanted = {each.name: self.judged(each) for each in wanted}
         self.module.types.update(self.wanted)
         self.layouts = {name: self.free(name, "Layout") for name in self.wanted}
@@ -159,16 +160,16 @@ class Source:
         reason = self.scope.reason(member.type, types) if member.is_whole else ""
         counted = self.counting.member(member._replace(size=None), types)
         is_passed = member.is_skipped or bool(reason and self.chosen.skip_unknown)
-        if is_passed and counted is not None:
-            self.passed_over += [each.size for each in counted]
+        advice = size_advice(member, counted)
+        if is_passed and (counted is not None or self.chosen.skip_unknown):
+            self.passed_over += [each.size for each in counted or ()]
+            if counted is None:
+                self.uncounted.append(f"{where} is passed over and counts no bytes: {advice}")
             note = f"// `{member.name}` is passed over: {reason}.\n" if reason else ""
             self.notes[definition.name] = self.notes.get(definition.name, "") + note
             return member._replace(is_skipped=True)
         if reason or is_passed:
-            what = reason or f"the size of `{member.type.text}` is not known"
-            size = counted[0].size if counted and counted[0].size is not None else "N"
-            what += f": write above it `// allocative: size {size}`, for one entry of so many bytes"
-            self.fault(member.at, f"{where}: {what}" + (", or `// allocative: skip`" if counted else ""))
+            self.fault(member.at, f"{where}: {reason or 'its size is not known'}: {advice}")
         return member
 
     def passed_line(self) -> str:
@@ -294,6 +295,14 @@ def crate_of(path: str) -> tuple[str, list[str]]:
     at = len(parts) - 2 - parts[-2::-1].index("src")
     inside = parts[at + 1 :]
     return os.sep.join(parts[:at]), [] if inside in (["lib"], ["main"]) else inside
+
+
+def size_advice(member: Member, counted: list[Counted] | None) -> str:
+    """What to write above a field that cannot be shown, from what counts for it."""
+    size, kind = counted[0].size if counted else None, member.type.text
+    what = f"N`, where N is what `size_of::<{kind}>()` gives in Rust" if size is None else f"{size}`"
+    skip = ", or `// allocative: skip`" if counted is not None else ""
+    return f"write above it `// allocative: size {what}, for one entry of so many bytes{skip}"
 
 
 def pieces_of(text: str) -> list[tuple[int, int]]:

@@ -21,7 +21,7 @@ PIECE = re.compile(r"\n// allocative: begin\n(?!// allocative: end).*?\n// alloc
 TOKEN = re.compile(r"\w+|\s+|[^\w\s]")
 # What a run tells: its faults with their lines, or only of what is passed over or has no tally.
 TOLD = {4: re.compile(r"(implement: [^\n]*\.rt:[0-9]+: [^\n]+\n)+")}
-TOLD[0] = re.compile(r"(implement: (\w+ has no tally, as|[0-9]+ fields? (is|are) passed over:) [^\n]+\n)*")
+TOLD[0] = re.compile(r"(implement: (.+ is passed over and counts no bytes:|\w+ has no tally, as|[0-9]+ fields? (is|are) passed over:) [^\n]+\n)*")
 
 
 def run(path: str, *words: str) -> tuple[int, str, str]:
@@ -139,15 +139,50 @@ class CommandTest(unittest.TestCase):
         self.assertEqual((status, output), (4, ""))
         self.assertEqual([line.split(":")[0] for line in told], ["3", "4", "5", "7", "11", "14"])
         self.assertIn("A.a: `Rc` of `std` has no implementation: write above it `// allocative: size 8`", told[1])
-        self.assertIn("size N", told[2])
+        self.assertIn("size 8`", told[2])
         self.assertIn("B::C.0", told[4])
-        self.assertIn("B::D.0: the size of `Option<Mutex<u8>>` is not known: write above it `// allocative: size N`", told[5])
+        self.assertIn("B::D.0: its size is not known: write above it `// allocative: size N`, where N is what `size_of::<Option<Mutex<u8>>>()`", told[5])
 
     def test_unknown_fields_are_passed_over_where_asked(self) -> None:
         status, output, _ = self.run_it("#[derive(Drop)]\nstruct A {\n    a: *const u8,\n    b: u8,\n}\n", "--skip-unknown")
         self.assertEqual(status, 0)
         self.assertIn("// `a` is passed over: `*const u8` is no type that is read.\n", output)
         self.assertNotIn('Field("a"', output)
+        text = "use tokio::sync::Notify;\n#[derive(Drop)]\nstruct A {\n    a: u8,\n    b: Notify,\n    // allocative: skip\n    c: Option<Notify>,\n}\n"
+        self.assertEqual([line.split(":")[0] for line in self.run_it(text)[2]], ["5", "7"])
+        status, output, told = self.run_it(text, "--skip-unknown")
+        self.assertIn("type ALayout = Record<(u8, ())>;", output)
+        advice = "is passed over and counts no bytes: write above it `// allocative: size N`, where N is what `size_of"
+        what = [f"implement: A.{field} {advice}::<{kind}>()`" for field, kind in (("b", "Notify"), ("c", "Option<Notify>"))]
+        self.assertEqual((status, [line.split(" gives")[0] for line in told]), (0, what))
+
+    def test_sizes_in_rust(self) -> None:
+        """The sizes are those of rustc 1.95 on x86-64."""
+        head = "use std::sync::*;\nuse std::cell::*;\nuse std::rc::Rc;\nuse std::fs::File;\nuse std::net::SocketAddr;\nuse std::collections::HashMap;\n"
+        for kind, size in (
+            ("std::sync::Mutex<()>", 8),
+            ("std::sync::Mutex<u8>", 8),
+            ("std::sync::Mutex<u32>", 12),
+            ("std::sync::Mutex<u128>", 32),
+            ("std::sync::RwLock<u8>", 12),
+            ("std::sync::RwLock<u64>", 24),
+            ("std::sync::RwLock<HashMap<String, u64>>", 64),
+            ("std::cell::RefCell<Option<String>>", 32),
+            ("std::cell::RefCell<Option<u64>>", 24),
+            ("std::cell::RefCell<(u8, u16, u8)>", 16),
+            ("std::cell::RefCell<[u16; 5]>", 24),
+            ("std::cell::RefCell<Rc<str>>", 24),
+            ("File", 4),
+            ("SocketAddr", 32),
+            ("&'static str", 16),
+            ("parking_lot::Mutex<u16>", 4),
+        ):
+            with self.subTest(kind):
+                told = self.run_it(f"{head}#[derive(Drop)]\nstruct A {{\n    a: {kind},\n}}\n")[2]
+                self.assertIn(f"write above it `// allocative: size {size}`,", told[0])
+        for kind in ("Mutex<Own>", "Mutex<Option<(u8, bool)>>", "Mutex<[u8; N]>"):
+            told = self.run_it(f"{head}#[derive(Drop)]\nstruct A {{\n    a: {kind},\n}}\n#[derive(Drop)]\nstruct Own;\n")[2]
+            self.assertIn("// allocative: size N`, where N is what `size_of::<", told[0])
 
     def test_what_the_checker_refuses_is_refused_first(self) -> None:
         head = "use std::collections::*;\ntype Call = fn(u8) -> u8;\n#[derive(Drop)]\nstruct K(u8);\n#[derive(Drop)]\nstruct A<T, U: Ord + Clone> "
