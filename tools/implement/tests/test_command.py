@@ -5,6 +5,7 @@ import io
 import os
 import random
 import re
+import shutil
 import subprocess
 import tempfile
 import unittest
@@ -310,6 +311,19 @@ class CommandTest(unittest.TestCase):
                 command = [os.path.join(TOP, "bin/implement"), "src/a.rt"]
                 self.assertEqual(subprocess.run(command, cwd=self.crate, stdout=file).returncode, 0)
             self.assertEqual(os.path.exists(self.path(ANSWERS)), is_there)
+
+    def test_a_repository_of_ones_own(self) -> None:
+        self.put("src/a.rt", CASES)
+        self.put("../../crates.txt", "page:\n")
+        script = os.path.join(TOP, "bin/implement")
+        os.symlink(script, self.path("linked"))
+        for name in (script, "./linked"):
+            ran = subprocess.run([name, "--output", ".", "--add-lines", "src/a.rt"], cwd=self.crate, capture_output=True, text=True)
+            self.assertEqual((ran.returncode, ran.stdout, ran.stderr), (0, "", ""))
+        self.assertEqual((os.path.exists(self.path(ANSWERS)), self.get("../../crates.txt")), (True, "page: allocative\n"))
+        shutil.copy(script, self.path("copied"))
+        ran = subprocess.run(["./copied", "src/a.rt"], cwd=self.crate, capture_output=True, text=True)
+        self.assertEqual((ran.returncode, ran.stderr.startswith("implement: run bin/implement by its path")), (3, True))
 
     def test_in_place_and_check(self) -> None:
         placed = read(os.path.join(TYPES, "placed.rt"))
