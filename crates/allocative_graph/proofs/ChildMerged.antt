@@ -11,8 +11,9 @@ use Rattle.std.specs.Result.{result_and}
 use Rattle.std.specs.Option.{option_to_list}
 use Rattle.allocative_graph.specs.Representation.Children.{front_order, MergesFirst}
 use Rattle.allocative_graph.proofs.Basics.{on_test, and_assoc, and-true, and_parts}
-use Rattle.allocative_graph.proofs.ChildOrder.{first_below, first_tree, others, with_first, no_children, above_all}
-use Rattle.allocative_graph.proofs.ChildOrder.{key_same, key_turn, rises}
+use Rattle.allocative_graph.proofs.ChildOrder.{first_below, others, with_first, no_children, one_child, above_all}
+use Rattle.allocative_graph.proofs.ChildOrder.{key_turn, rises}
+use Rattle.std.proofs.lemmas.Map.Lookups.{exact_bytes}
 use Rattle.allocative_graph.proofs.ChildRows.{total_of-cons}
 use Rattle.allocative_graph.proofs.ChildSizes.{none_above, AddsUp-first, AddsUp-second, part_of_sum, part_of_none}
 use Rattle.std.proofs.lemmas.List.Sums.{sum_by-append, sum_by-set, sum_by-insert, get_or-le-sum_by}
@@ -59,32 +60,32 @@ module _ (P : Option ℕ → Option ℕ → Option ℕ → Type 0) (c : Child) (
       (on_test (λ t. P (cond t (get c.graph p) (size_under cs k p)) (cond t (get d.graph p) (size_under ds k p))
       (cond t (get g p) (size_under es k p))) (eq_by_cmp key_cmp k c.key) (λ e. one) (λ e. rest))
 
-module _ (b : Bool) (c : Child) (cs ds es : List Child) (m : Merged b cs ds es) (t : IsTree c.graph) where
-  pub merged_first : AllAbove cs c.key → AllAbove ds c.key → Merged b (c ∷ cs) ds (c ∷ es)
+module _ (b : Bool) (c : Child) (cs ds es : List Child) (m : Merged b cs ds es) where
+  pub merged_first : AreChildren (c ∷ cs) → AllAbove ds c.key → Merged b (c ∷ cs) ds (c ∷ es)
   merged_first h g = record {
-    children = with_first c es (m.above c.key h g) t m.children;
+    children = with_first c es (m.above c.key (first_below c cs h) g) h.trees.0 m.children;
     above = λ k p q. (p.0, m.above k p.1 q);
     part = λ k p. at_first AddsUpInPart c cs ds es k p (m.part k p) g (λ x. part_of_none x None);
     sum = λ w k p. at_first AddsUp c cs ds es k p (m.sum w k p) g AddsUp-first;
     at_most = omega (arith, m.at_most, total_of-cons c cs, total_of-cons c es);
   }
 
-  pub merged_second : AllAbove cs c.key → AllAbove ds c.key → Merged b cs (c ∷ ds) (c ∷ es)
-  merged_second h g = record {
-    children = with_first c es (m.above c.key h g) t m.children;
+  pub merged_second : AllAbove cs c.key → AreChildren (c ∷ ds) → Merged b cs (c ∷ ds) (c ∷ es)
+  merged_second g h = record {
+    children = with_first c es (m.above c.key g (first_below c ds h)) h.trees.0 m.children;
     above = λ k p q. (q.0, m.above k p q.1);
-    part = λ k p. at_first (λ x y z. AddsUpInPart y x z) c ds cs es k p (m.part k p) h
+    part = λ k p. at_first (λ x y z. AddsUpInPart y x z) c ds cs es k p (m.part k p) g
         (λ y. part_of_sum None y y (AddsUp-second y));
-    sum = λ w k p. at_first (λ x y z. AddsUp y x z) c ds cs es k p (m.sum w k p) h AddsUp-second;
+    sum = λ w k p. at_first (λ x y z. AddsUp y x z) c ds cs es k p (m.sum w k p) g AddsUp-second;
     at_most = omega (arith, m.at_most, total_of-cons c ds, total_of-cons c es);
   }
 
 -- The graph of d is added to that of c.
 pub merged_both : (a b : Bool) (c d : Child) (g : Graph) (cs ds es : List Child) → Merged b cs ds es → d.key ≡ c.key →
-    Added a c.graph d.graph g → AllAbove cs c.key → AllAbove ds d.key →
+    Added a c.graph d.graph g → AreChildren (c ∷ cs) → AllAbove ds d.key →
     Merged (a && b) (c ∷ cs) (d ∷ ds) (with_graph c g ∷ es)
-merged_both a b c d g cs ds es m same sum below_cs below_ds = record {
-  children = with_first (with_graph c g) es (m.above c.key below_cs (subst (AllAbove ds) same below_ds)) sum.tree
+merged_both a b c d g cs ds es m same sum h below = record {
+  children = with_first (with_graph c g) es (m.above c.key (first_below c cs h) (subst (AllAbove ds) same below)) sum.tree
       m.children;
   above = λ k p q. (p.0, m.above k p.1 q.1);
   part = λ k p. at_both AddsUpInPart c cs ds es k p (m.part k p) d g same (sum.part p);
@@ -99,7 +100,7 @@ pub next_less : {cs ds cs' : List Child} {c : Child} → cs ≡ c ∷ cs' → Ar
 next_less {cs = cs} {ds = ds} {cs' = cs'} {c = c} e mine theirs front =
     let all : AreChildren (c ∷ cs') = subst AreChildren e mine in
     subst (λ (l : List Child). MergesFirst true l ds (c ∷ []) cs' ds) (sym e) (record {
-      goes_on = λ b es m. merged_first b c cs' ds es m (first_tree c cs' all) (first_below c cs' all)
+      goes_on = λ b es m. merged_first b c cs' ds es m all
           (above ds theirs (subst (λ (l : List Child). front_order l ds ≡ Some Less) e front));
       mine = others c cs' all;
       theirs = theirs;
@@ -118,8 +119,8 @@ pub next_greater : {cs ds ds' : List Child} {d : Child} → ds ≡ d ∷ ds' →
 next_greater {cs = cs} {ds = ds} {ds' = ds'} {d = d} e mine theirs front =
     let all : AreChildren (d ∷ ds') = subst AreChildren e theirs in
     subst (λ (l : List Child). MergesFirst true cs l (d ∷ []) cs ds') (sym e) (record {
-      goes_on = λ b es m. merged_second b d cs ds' es m (first_tree d ds' all)
-          (above cs mine (subst (λ (l : List Child). front_order cs l ≡ Some Greater) e front)) (first_below d ds' all);
+      goes_on = λ b es m. merged_second b d cs ds' es m
+          (above cs mine (subst (λ (l : List Child). front_order cs l ≡ Some Greater) e front)) all;
       mine = mine;
       theirs = others d ds' all;
       fewer = omega arith;
@@ -139,12 +140,11 @@ module _ {cs ds cs' ds' : List Child} {c d : Child} (e : cs ≡ c ∷ cs') (f : 
       let both : front_order (c ∷ cs') (d ∷ ds') ≡ Some Equal =
       subst₂ (λ x y. front_order x y ≡ Some Equal) e f front in
       let my_all : AreChildren (c ∷ cs') = subst AreChildren e mine in
-      let their_all : AreChildren (d ∷ ds') = subst AreChildren f theirs in
       subst₂ (λ x y. MergesFirst a x y (with_graph c g ∷ []) cs' ds') (sym e) (sym f) (record {
-        goes_on = λ b es m. merged_both a b c d g cs' ds' es m (sym (key_same c.key d.key (cc))) added
-            (first_below c cs' my_all) (first_below d ds' their_all);
+        goes_on = λ b es m. merged_both a b c d g cs' ds' es m (sym (exact_bytes c.key d.key (cc))) added my_all
+            (first_below d ds' (subst AreChildren f theirs));
         mine = others c cs' my_all;
-        theirs = others d ds' their_all;
+        theirs = others d ds' (subst AreChildren f theirs);
         fewer = omega arith;
         fewer_rows = omega (arith, length-append (rows_of_child d) (rows_of ds'));
         fits = omega (arith, added.at_most, total_of-cons c cs', total_of-cons d ds');
@@ -199,19 +199,19 @@ one_of_length xs (y ∷ rest) x e h = absurd (omega (arith, ap length e, length-
 -- A child whose key belongs at a place is merged by putting it there.
 inserted : (cs : List Child) (i : ℕ) (c : Child) → AreChildren cs → IsTree c.graph → IsChildGap cs c.key i →
     Merged true cs (c ∷ []) (insert cs i c)
-inserted [] zero c h t gap = merged_second true c [] [] [] (merged_same [] h) t tt tt
+inserted [] zero c h t gap = merged_second true c [] [] [] (merged_same [] h) tt (one_child c t)
 inserted [] (suc i) c h t gap = absurd (omega (arith, gap.within))
-inserted (x ∷ cs) zero c h t gap = merged_second true c (x ∷ cs) [] (x ∷ cs) (merged_same (x ∷ cs) h) t
-    (above_all c.key x cs (key_turn x.key c.key (gap.between.1 0 x (omega arith) (omega arith))) h) tt
-inserted (x ∷ cs) (suc i) c h t gap = merged_first true x cs (c ∷ []) (insert cs i c)
-    (inserted cs i c (others x cs h) t (record {
+inserted (x ∷ cs) zero c h t gap = merged_second true c (x ∷ cs) [] (x ∷ cs) (merged_same (x ∷ cs) h)
+    (above_all c.key x cs (key_turn x.key c.key (gap.between.1 0 x (omega arith) (omega arith))) h) (one_child c t)
+inserted (x ∷ cs) (suc i) c h t gap =
+    let rest = inserted cs i c (others x cs h) t (record {
       within = omega (arith, gap.within);
       between = (
         (λ j d low w. gap.between.0 (suc j) d (omega arith) (omega arith)),
         (λ j d low w. gap.between.1 (suc j) d (omega arith) (omega arith)),
       );
-    }))
-    (first_tree x cs h) (first_below x cs h) (gap.between.0 0 x (omega arith) (omega arith), tt)
+    }) in
+    merged_first true x cs (c ∷ []) (insert cs i c) rest h (gap.between.0 0 x (omega arith) (omega arith), tt)
 
 -- A child with the key of another is merged by adding its graph to the graph of that one.
 changed : (all : Bool) (cs : List Child) (i : ℕ) (c d : Child) (g : Graph) → AreChildren cs → i < length cs →
@@ -220,10 +220,9 @@ changed : (all : Bool) (cs : List Child) (i : ℕ) (c d : Child) (g : Graph) →
 changed all [] i c d g h w same sum = absurd (omega arith)
 changed all (x ∷ cs) zero c d g h w same sum =
     subst (λ (v : Bool). Merged v (x ∷ cs) (c ∷ []) (with_graph x g ∷ cs)) (and-true all)
-    (merged_both all true x c g cs [] cs (merged_same cs (others x cs h)) (sym same) sum (first_below x cs h) tt)
+    (merged_both all true x c g cs [] cs (merged_same cs (others x cs h)) (sym same) sum h tt)
 changed all (x ∷ cs) (suc i) c d g h w same sum =
-    merged_first all x cs (c ∷ []) _ (changed all cs i c d g (others x cs h) (omega arith) same sum)
-    (first_tree x cs h) (first_below x cs h)
+    merged_first all x cs (c ∷ []) _ (changed all cs i c d g (others x cs h) (omega arith) same sum) h
     (subst (λ (k : Key). key_cmp x.key k ≡ Less) same (rises (x ∷ cs) 0 (suc i) d h.sorted (omega arith) w), tt)
 
 -- ---- the key of c was found at i, where x is, and x gets the graph g

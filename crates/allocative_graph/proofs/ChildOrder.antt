@@ -2,21 +2,18 @@
 use Rattle.std.proofs.Common.{◌≡◌, ℕ, ◌<◌, List, [], ◌∷◌, length, get_or, ap, subst₂, ◌∙◌, arith, ◌+◌}
 use Rattle.std.proofs.Common.{◌-◌, Result, Ok, Err, IfOk, IfErr, refl, subst}
 use Rattle.allocative_graph.proofs.Common.{Less, Equal, Greater, ordering_reverse, nat_list_cmp_total}
-use Rattle.allocative_graph.proofs.Common.{nat_cmp-IsAntisymmetric, slice_cmp-IsAntisymmetric, Child, Key, key_cmp}
+use Rattle.allocative_graph.proofs.Common.{Child, Key, key_cmp}
 use Rattle.allocative_graph.proofs.Common.{IsTree, AreChildren, InOrder, AllAbove, length-map, keys_of, is_lt}
 use Rattle.allocative_graph.proofs.Common.{IsFound, IsChildGap}
 use Rattle.std.specs.List.Sorted.{IsStrictlySortedBy, IsSearchInRange, IsBinarySearchResult, IsNonDecreasingBy}
 use Rattle.std.specs.List.Sorted.{IsSortedBy}
 use Rattle.std.proofs.lemmas.List.{get_or-map, get_or_default}
 use Rattle.std.proofs.lemmas.Map.Keys.{Less-from_sorted}
+use Rattle.std.proofs.lemmas.Map.Lookups.{exact_bytes}
 use Rattle.allocative_graph.proofs.Basics.{each-implies}
 use Rattle.std.specs.declared.cmp.Ordering.{Ordering}
 use Rattle.std.proofs.lemmas.List.Sorted.{searchable_from_sorted}
 use Rattle.std.specs.Ordering.{ordering_index}
-
--- Keys that compare as equal are equal.
-pub key_same : (k l : Key) → key_cmp k l ≡ Equal → k ≡ l
-key_same = slice_cmp-IsAntisymmetric nat_cmp-IsAntisymmetric
 
 -- If k is greater than l, then l is less than k.
 pub key_turn : (k l : Key) → key_cmp k l ≡ Greater → key_cmp l k ≡ Less
@@ -27,10 +24,6 @@ key_turn k l h = nat_list_cmp_total.antisymm l k ∙ ap ordering_reverse h
 pub first_below : (c : Child) (cs : List Child) → AreChildren (c ∷ cs) → AllAbove cs c.key
 unfolding IsStrictlySortedBy
 first_below c cs h = h.sorted.0
-
--- The graph of the first child is a tree.
-pub first_tree : (c : Child) (cs : List Child) → AreChildren (c ∷ cs) → IsTree c.graph
-first_tree c cs h = h.trees.0
 
 -- The children of a root without the first one can also be the children of a root.
 pub others : (c : Child) (cs : List Child) → AreChildren (c ∷ cs) → AreChildren cs
@@ -84,7 +77,7 @@ module _ (cs : List Child) (o : InOrder cs) (k : Key) where
       IsBinarySearchResult (λ (c : Child). key_cmp c.key k) cs r →
       record { found : IfOk r (IsFound cs k); missing : IfErr r (IsChildGap cs k) }
   searched (Ok i) in_range equal =
-      record { found = record { within = in_range; same = λ d. key_same _ _ (equal d) }; missing = tt }
+      record { found = record { within = in_range; same = λ d. exact_bytes _ _ (equal d) }; missing = tt }
   searched (Err i) in_range parted =
       record { found = tt; missing = record { within = in_range; between = parted comparisons_rise } }
 

@@ -7,7 +7,7 @@ use Rattle.std.specs.List.{All}
 use Rattle.std.proofs.lemmas.List.Recursion.{found_nowhere}
 use Rattle.std.specs.Cmp.{Equal-is}
 use Rattle.allocative_graph.proofs.Basics.{each-map, or_left, or-false}
-use Rattle.allocative_graph.proofs.ChildOrder.{key_same}
+use Rattle.std.proofs.lemmas.Map.Lookups.{exact_bytes}
 
 -- No child has the key k.
 abbrev pub Lacks : Key → List Child → Type 0
@@ -27,7 +27,7 @@ size_under-lacks cs k p h = found_nowhere (λ cs. size_under cs k p) (λ c. eq_b
 pub none_above : (k l : Key) (p : Path) (cs : List Child) → eq_by_cmp key_cmp k l ≡ true → AllAbove cs l →
     size_under cs k p ≡ None
 none_above k l p cs e h = size_under-lacks cs k p
-    (subst (λ m. Lacks m cs) (sym (key_same k l ((Equal-is (key_cmp k l)).0 e))) (lacks-above l cs h))
+    (subst (λ m. Lacks m cs) (sym (exact_bytes k l ((Equal-is (key_cmp k l)).0 e))) (lacks-above l cs h))
 
 -- ---- sums of sizes
 -- A size and a missing one add up to the first.

@@ -1,18 +1,17 @@
 -- Nodes are trees, and add up if their own sizes and their children do.
-use Rattle.std.proofs.Common.{◌≡◌, ℕ, ◌+◌, ◌<◌, ◌^◌, Bool, true, cond, List, [], ◌∷◌, ◌++◌, length, length-append, Some}
+use Rattle.std.proofs.Common.{◌≡◌, ℕ, ◌+◌, ◌<◌, ◌^◌, Bool, true, List, [], ◌∷◌, ◌++◌, length, length-append, Some}
 use Rattle.std.proofs.Common.{refl, get_or, unwrap_or, sym, ap, subst, subst₂, ◌∙◌, arith}
-use Rattle.allocative_graph.proofs.Common.{AllByRecursion, is_some, eq_by_cmp, get, contains_key, entries, len}
-use Rattle.allocative_graph.proofs.Common.{len-entries, Child, Key, Path, key_cmp, Graph, IsTree, size_at, sum_of}
+use Rattle.allocative_graph.proofs.Common.{AllByRecursion, is_some, contains_key, entries, len}
+use Rattle.allocative_graph.proofs.Common.{len-entries, Child, Key, Path, Graph, IsTree, size_at, sum_of}
 use Rattle.allocative_graph.proofs.Common.{total, under, node, rows_of, rows_of_child, AreChildren, IsNode, total_of}
 use Rattle.allocative_graph.proofs.Common.{size_under, AddsUp, AddsUpInPart, Added, Merged, entries-node, len-child}
 use Rattle.allocative_graph.proofs.Common.{All-from_recursion}
 use Rattle.allocative_graph.specs.Many.{ComesLast}
 use Rattle.allocative_graph.proofs.ChildMerged.{put_at_gap}
 use Rattle.std.proofs.lemmas.List.{take_all, drop_all}
-use Rattle.allocative_graph.proofs.Basics.{on_test}
 use Rattle.allocative_graph.proofs.Behind.{size_under-found}
 use Rattle.allocative_graph.proofs.ChildLookup.{get-root, get-under, node_each, node_of_one}
-use Rattle.allocative_graph.proofs.ChildOrder.{one_child, first_tree}
+use Rattle.allocative_graph.proofs.ChildOrder.{one_child}
 use Rattle.allocative_graph.proofs.ChildSizes.{part_of_sum}
 use Rattle.allocative_graph.proofs.Graphs.{is_sum_of, total-sum_of, total-under}
 use Rattle.allocative_graph.proofs.NodeSizes.{total-node}
@@ -21,10 +20,7 @@ use Rattle.allocative_graph.proofs.NodeSizes.{total-node}
 has_parent : (cs : List Child) (l : Key) (p : Path) (k : Key) → AllByRecursion (λ (c : Child). IsTree c.graph) cs →
     is_some (size_under cs l (p ++ k ∷ [])) ≡ true → is_some (size_under cs l p) ≡ true
 has_parent [] l p k h e = e
-has_parent (c ∷ cs) l p k h e =
-    on_test (λ b. is_some (cond b (get c.graph (p ++ k ∷ [])) (size_under cs l (p ++ k ∷ []))) ≡ true →
-    is_some (cond b (get c.graph p) (size_under cs l p)) ≡ true) (eq_by_cmp key_cmp l c.key)
-    (λ s. h.0.closed p k) (λ s. has_parent cs l p k h.1) e
+has_parent (c ∷ cs) l p k h e = grind (arith, h.0.closed p k, has_parent cs l p k h.1)
 
 -- A node is a tree if its children are in the order of their keys and are trees.
 pub node_tree : (n : ℕ) (cs : List Child) → AreChildren cs → IsTree (node n cs)
@@ -134,6 +130,6 @@ module _ {g h : Graph} {m n s t : ℕ} {cs ds : List Child} (mine : node m cs �
       (len c.graph < len h) × IsTree c.graph × (s + total c.graph < 2 ^ 64)
   child_of_one {c = c} one fits = (
     omega (arith, len_of_node theirs b, ap (λ l. length (rows_of l)) one, length-append (rows_of_child c) [], len-child c),
-    first_tree c [] (subst AreChildren (sym one) b.children),
+    (subst AreChildren (sym one) b.children).trees.0,
     omega (arith, total_of_both, ap total_of one, a.size, fits),
   )

@@ -12,7 +12,7 @@ use Rattle.std.proofs.lemmas.List.Sums.{fold-append, sum_by_push, sum_by-take-le
 use Rattle.std.proofs.lemmas.List.Sorted.{IsPermutation-map}
 use Rattle.allocative_graph.specs.Read.{line_stack, IsGraphOfStacks, Exceeds}
 use Rattle.allocative_graph.proofs.Basics.{on_test, path_total, same_path}
-use Rattle.allocative_graph.proofs.ChildLookup.{tie}
+use Rattle.std.specs.Cmp.{tied_then}
 use Rattle.allocative_graph.proofs.PathOrder.{key_itself}
 use Rattle.allocative_graph.proofs.Graphs.{size_at-default, is_some-cond, get-default, get-under, get-under-root}
 use Rattle.allocative_graph.proofs.OnePath.{total-path}
@@ -47,7 +47,7 @@ below_key k ks n l p =
     (is_eq (key_cmp l k))
     (λ e. ap (λ b. cond b (Some (cond (is_same_path p ks) n 0)) None) (root_begins p ks)) (λ e. refl)
     ∙ ap (λ t. cond (is_eq (key_cmp l k) && begins p ks) (Some (cond t n 0)) None)
-    (sym (tie (key_cmp l k) (path_cmp p ks)))
+    (tied_then (key_cmp l k) (path_cmp p ks))
 
 -- What a path has in the graph of one path.
 get-path : (ks : Path) (n : ℕ) (p : Path) → get (graph_of_path ks n) p ≡ one_at ks n p

@@ -1,3 +1,4 @@
+-- of merge, interleave, take_next and put_child: what they merge, and that sizes fit
 use Rattle.std.proofs.Common.{◌≡◌, rules, [], Some, refl, sym, ap, ◌∙◌, arith, is_ok}
 use Rattle.std.proofs.lemmas.List.Sums.{sum_by_push}
 use Rattle.allocative_graph.proofs.Common.{Child, nil_from_length, total, total_of}

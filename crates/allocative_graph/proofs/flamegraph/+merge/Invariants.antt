@@ -1,3 +1,4 @@
+-- of merge, interleave, take_next and put_child: how far they still have to go, and what the loop keeps
 use Rattle.std.proofs.Common.{◌≡◌, ◌+◌, ◌*◌, ◌≤◌, length, is_ok}
 use Rattle.allocative_graph.proofs.Common.{vec_capacity, len, rows_of, total_of}
 use Rattle.allocative_graph.specs.Representation.Children.{MergesFirst}

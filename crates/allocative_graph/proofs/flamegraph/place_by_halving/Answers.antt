@@ -1,3 +1,4 @@
+-- of place_by_halving: both clauses, by what the binary search says
 use Rattle.std.proofs.Common.{rules}
 use Rattle.allocative_graph.proofs.Common.{Child, key_cmp, always_returns_same}
 use Rattle.allocative_graph.proofs.ChildOrder.{searched}

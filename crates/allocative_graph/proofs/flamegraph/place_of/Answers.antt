@@ -1,7 +1,8 @@
 -- If the last key is below the key, all keys are.
 use Rattle.std.proofs.Common.{◌≡◌, sym, ap, subst, ◌∙◌}
+use Rattle.std.proofs.lemmas.Map.Lookups.{exact_bytes}
 use Rattle.allocative_graph.proofs.Common.{Less, Child, key_cmp}
-use Rattle.allocative_graph.proofs.ChildOrder.{key_same, behind_last, at_last}
+use Rattle.allocative_graph.proofs.ChildOrder.{behind_last, at_last}
 use Rattle.allocative_graph.proofs.flamegraph.place_of.Goals as goal
 
 pub returns-in-Less-clause-missing : goal.returns-in-Less-clause-missing
@@ -13,6 +14,6 @@ returns-in-Less-clause-missing c =
 pub returns-in-Equal-clause-found : goal.returns-in-Equal-clause-found
 returns-in-Equal-clause-found c =
     let item = c.in-Some.ensures.item in
-    let same = key_same c.in-Some.last.now.key c.args.key.now (sym c.cmp.ensures ∙ c.in-Equal.is) in
+    let same = exact_bytes c.in-Some.last.now.key c.args.key.now (sym c.cmp.ensures ∙ c.in-Equal.is) in
     at_last c.args.children.now c.args.key.now c.in-Some.last.now item.3.0
     (ap (λ (d : Child). d.key) (sym item.1) ∙ same)

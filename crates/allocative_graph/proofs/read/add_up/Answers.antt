@@ -1,3 +1,4 @@
+-- of add_up: that the next line fits, and the step of its loop
 use Rattle.std.proofs.Common.{◌≡◌, ◌++◌, [], List, Bor, ℕ, get_or, ap, ◌∙◌, lit<, Ok}
 use Rattle.std.proofs.lemmas.Iterator.Adapters.{fact_from_extend}
 use Rattle.std.proofs.lemmas.Iterator.Consumers.{YieldsList-at}

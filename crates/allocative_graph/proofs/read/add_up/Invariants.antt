@@ -1,3 +1,4 @@
+-- of add_up: what its loop keeps
 use Rattle.std.proofs.Common.{◌≡◌, map, take}
 use Rattle.allocative_graph.proofs.Common.{default, sum_of_stacks, line_stack}
 use Rattle.allocative_graph.proofs.read.add_up.Given as goal

@@ -1,3 +1,4 @@
+-- of read_line: wrong and ok
 use Rattle.std.proofs.Common.{◌≡◌, length, sym, ◌∙◌, true≢false, arith, lit<}
 use Rattle.allocative_graph.proofs.Common.{YieldsList-from_str_split}
 use Rattle.std.proofs.lemmas.Iterator.Consumers.{count_from_yields_List}

@@ -1,3 +1,4 @@
+-- of read_lines: what its loop keeps
 use Rattle.std.proofs.Common.{◌≡◌, length, map}
 use Rattle.allocative_graph.proofs.Common.{AreStacks, line_stack}
 use Rattle.allocative_graph.proofs.NodeText.{texts}

@@ -1,3 +1,4 @@
+-- of total_of: what its loop keeps
 use Rattle.std.proofs.Common.{◌≡◌, ◌<◌, ◌^◌, take, sum_by}
 use Rattle.allocative_graph.proofs.read.total_of.Given as goal
 

@@ -1,3 +1,4 @@
+-- of get: found and missing
 use Rattle.std.proofs.Common.{sym, ap, subst}
 use Rattle.allocative_graph.proofs.Common.{IsBehind, nil_from_length}
 use Rattle.std.proofs.lemmas.Option.{IfSome_then}

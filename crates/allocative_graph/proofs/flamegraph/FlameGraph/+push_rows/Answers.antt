@@ -1,3 +1,4 @@
+-- of push_rows: the step of its loop, and rows
 use Rattle.std.proofs.Common.{◌≡◌, ℕ, ◌++◌, [], ◌∷◌, List, Bor, map, take, arith, ap, subst, append_assoc, ◌∙◌}
 use Rattle.std.proofs.Common.{take_all}
 use Rattle.allocative_graph.proofs.Common.{Path, Graph, total, total_at, Figures, figures_behind, rows_of, map_push}

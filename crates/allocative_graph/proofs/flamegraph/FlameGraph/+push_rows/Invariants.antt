@@ -1,3 +1,4 @@
+-- of push_rows: what its loop keeps
 use Rattle.std.proofs.Common.{◌≡◌, ◌++◌, map, take}
 use Rattle.allocative_graph.proofs.Common.{total_at, rows_of}
 use Rattle.allocative_graph.specs.Rows.{row_figures}

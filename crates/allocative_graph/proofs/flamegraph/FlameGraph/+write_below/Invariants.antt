@@ -1,3 +1,4 @@
+-- of write_below: what its loop keeps
 use Rattle.std.proofs.Common.{◌≡◌, ◌++◌, take, string_bytes}
 use Rattle.allocative_graph.proofs.Common.{lines_below, rows_of}
 use Rattle.allocative_graph.proofs.flamegraph.FlameGraph.+write_below.Given as goal

@@ -1,3 +1,4 @@
+-- of add_child: the graph is a node, part and sum
 use Rattle.std.proofs.Common.{◌≡◌, ℕ, ◌+◌, ◌^◌, ◌<◌, Bool, List, [], ◌∷◌, arith}
 use Rattle.allocative_graph.proofs.Common.{Child, IsNode, Merged, total, total_of}
 use Rattle.allocative_graph.proofs.NodeAdded.{added_under, sum_grown, total_of_node}

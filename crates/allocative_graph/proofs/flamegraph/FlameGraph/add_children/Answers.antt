@@ -1,3 +1,4 @@
+-- of add_children: sum and too_large
 use Rattle.std.proofs.Common.{◌≡◌, ℕ, ◌+◌, ◌≤◌, ◌^◌, OnOk, ap, subst, ◌∙◌, IsErrOf, ◌↔◌}
 use Rattle.allocative_graph.proofs.Common.{Graph, total, sum_of}
 use Rattle.allocative_graph.specs.declared.refusal.Refusal.TheVariants.{TooLarge}

@@ -1,3 +1,4 @@
+-- of children: children and smaller
 use Rattle.std.proofs.Common.{sym, subst}
 use Rattle.allocative_graph.proofs.Common.{AreChildren}
 use Rattle.allocative_graph.proofs.Behind.{smaller_child}

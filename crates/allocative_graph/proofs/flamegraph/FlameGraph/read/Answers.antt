@@ -1,3 +1,4 @@
+-- of read: too_large, graph and reads_back
 use Rattle.std.proofs.Common.{ℕ, List, not, map, ap, subst, ◌∙◌}
 use Rattle.allocative_graph.proofs.Common.{Line, default, IsRead, sum_of_stacks, line_stack}
 use Rattle.allocative_graph.proofs.ReadBack.{reads_back}

@@ -1,3 +1,4 @@
+-- of total_size: tree
 use Rattle.allocative_graph.proofs.NodeAdded.{tree_of_node}
 use Rattle.allocative_graph.proofs.flamegraph.FlameGraph.total_size.Goals as goal
 

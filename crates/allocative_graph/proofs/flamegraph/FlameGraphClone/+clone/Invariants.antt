@@ -1,3 +1,4 @@
+-- of clone: what its loop keeps
 use Rattle.std.proofs.Common.{◌≡◌, take}
 use Rattle.allocative_graph.proofs.flamegraph.FlameGraphClone.+clone.Given as goal
 

@@ -1,3 +1,4 @@
+-- of add_at and add_below: how far they still have to go
 use Rattle.std.proofs.Common.{◌+◌, ◌*◌, length}
 use Rattle.allocative_graph.proofs.flamegraph.at_path.+walk.Given as goal
 

@@ -1,3 +1,4 @@
+-- of graph_of_path: what its loop keeps
 use Rattle.std.proofs.Common.{◌≡◌, map, reverse}
 use Rattle.allocative_graph.proofs.Common.{graph_of_path}
 use Rattle.allocative_graph.proofs.NodeText.{texts}

@@ -1,3 +1,4 @@
+-- of gather: what its loop keeps
 use Rattle.std.proofs.Common.{◌≡◌, length}
 use Rattle.allocative_graph.proofs.Common.{default, sum_of_all}
 use Rattle.allocative_graph.proofs.flamegraph.many.gather.Given as goal

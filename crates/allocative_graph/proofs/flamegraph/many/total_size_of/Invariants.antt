@@ -1,3 +1,4 @@
+-- of total_size_of: what its loop keeps
 use Rattle.std.proofs.Common.{◌≡◌, ◌<◌, ◌^◌, take}
 use Rattle.allocative_graph.proofs.Common.{total_of}
 use Rattle.allocative_graph.proofs.flamegraph.many.total_size_of.Given as goal

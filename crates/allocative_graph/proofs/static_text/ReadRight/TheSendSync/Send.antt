@@ -1,3 +1,4 @@
+-- of ReadRight: that it is Send
 use denote.Param.Send.{IsSend, owning_send}
 use Rattle.allocative_graph.proofs.Loans.{static_owns-keyless}
 use Rattle.allocative_graph.specs.contracts.static_text.ReadRight as C

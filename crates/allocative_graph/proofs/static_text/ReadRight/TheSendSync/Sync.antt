@@ -1,3 +1,4 @@
+-- of ReadRight: that it is Sync
 use denote.Param.Send.{IsSync, struct_sync}
 use denote.Struct.Owning.{shape}
 use Rattle.allocative_graph.proofs.Loans.{static_owns-keyless}
