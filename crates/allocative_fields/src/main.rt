@@ -2,7 +2,7 @@
 //! in the form that `flamegraph.pl` reads.
 #![tactic(auto)]
 
-use allocative_json::{Fault, run_fields, tell};
+use allocative_json::{Fault, report_fault, run_fields};
 use std::env;
 use std::io::ErrorKind;
 use std::process::ExitCode;
@@ -29,7 +29,7 @@ fn main(rt: HostRuntime) -> ExitCode {
     let mut errors = rt.stderr();
     let status = match check_words(&rt) {
         Ok(()) => run_fields(alloc, &mut input, &mut output, &mut errors),
-        Err(fault) => tell(&mut errors, "allocative-fields: ", fault),
+        Err(fault) => report_fault(&mut errors, "allocative-fields: ", fault),
     };
     ExitCode::from(status)
 }

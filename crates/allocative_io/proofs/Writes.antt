@@ -10,17 +10,34 @@ use Rattle.allocative_io.specs.Streams.{IsWrittenUpTo, AppendsBeginning}
 pub written_none : (old : Option (List ℕ)) (text : List ℕ) → IsWrittenUpTo old old text text
 written_none old text = record { written = []; split = refl; follows = Appends-nil old }
 
+-- A first part of the rest is written.
+pub written_next : (old mid new : Option (List ℕ)) (text rest part more : List ℕ) → rest ≡ part ++ more →
+    IsWrittenUpTo old mid text rest → Appends mid new part → IsWrittenUpTo old new text more
+written_next old mid new text rest part more e h w = record {
+  written = h.written ++ part;
+  split = h.split ∙ ap (λ l. h.written ++ l) e ∙ sym (append_assoc h.written part more);
+  follows = Appends-trans old mid new h.written part h.follows w;
+}
+
+-- A beginning of a first part of the rest is written.
+pub written_partly : (old mid new : Option (List ℕ)) (text rest part more : List ℕ) → rest ≡ part ++ more →
+    IsWrittenUpTo old mid text rest → AppendsBeginning mid new part → AppendsBeginning old new text
+written_partly old mid new text rest part more e h (left, w) = (
+  left ++ more,
+  record {
+    written = h.written ++ w.written;
+    split = h.split ∙ ap (λ l. h.written ++ l) (e ∙ ap (λ l. l ++ more) w.split ∙ append_assoc w.written left more)
+        ∙ sym (append_assoc h.written w.written (left ++ more));
+    follows = Appends-trans old mid new h.written w.written h.follows w.follows;
+  },
+)
+
 -- A write takes the first n bytes of the rest.
 pub written_more : (old mid new : Option (List ℕ)) (text rest : List ℕ) (n : ℕ) → IsWrittenUpTo old mid text rest →
     Appends mid new (take n rest)
     → IsWrittenUpTo old new text (take (length rest - n) (drop n rest))
-written_more old mid new text rest n h w = record {
-  written = h.written ++ take n rest;
-  split = h.split ∙ ap (λ l. h.written ++ l)
-      (sym (ap (λ l. take n rest ++ l) (take_rest rest n) ∙ take-append-drop n rest))
-      ∙ sym (append_assoc h.written (take n rest) _);
-  follows = Appends-trans old mid new h.written (take n rest) h.follows w;
-}
+written_more old mid new text rest n h w = written_next old mid new text rest (take n rest) _
+    (sym (ap (λ l. take n rest ++ l) (take_rest rest n) ∙ take-append-drop n rest)) h w
 
 -- A write fails, or nothing more is to be written.
 pub written_kept : (old mid new : Option (List ℕ)) (text rest : List ℕ) → IsWrittenUpTo old mid text rest →
@@ -33,23 +50,6 @@ pub written_all : (old new : Option (List ℕ)) (text rest : List ℕ) → IsWri
     Appends old new text
 written_all old new text rest h e = subst (Appends old new)
     (sym (h.split ∙ ap (λ l. h.written ++ l) e ∙ append-nil h.written)) h.follows
-
--- A beginning of the first text is one of both.
-pub begins_first : (old new : Option (List ℕ)) (a b : List ℕ) → AppendsBeginning old new a →
-    AppendsBeginning old new (a ++ b)
-begins_first old new a b (rest, h) = (rest ++ b, record { written = h.written; split = ap (λ l. l ++ b) h.split ∙ append_assoc h.written rest b; follows = h.follows })
-
--- So is the first text with a beginning of the second.
-pub begins_second : (old mid new : Option (List ℕ)) (a b : List ℕ) → Appends old mid a → AppendsBeginning mid new b →
-    AppendsBeginning old new (a ++ b)
-begins_second old mid new a b w (rest, h) = (
-  rest,
-  record {
-    written = a ++ h.written;
-    split = ap (λ l. a ++ l) h.split ∙ sym (append_assoc a h.written rest);
-    follows = Appends-trans old mid new a h.written w h.follows;
-  },
-)
 
 -- The lemmas on what a writer holds.
 pub ruleset writing = (written_none, written_more, written_kept, written_all)

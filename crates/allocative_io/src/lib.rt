@@ -1,8 +1,10 @@
 //! What the programs share: they read all bytes of an input, and write a text to an output.
 #![tactic(auto)]
 
-ghost use Rattle.std.specs.Prelude.{◌≡◌, ◌<◌, length, IfOk, IfErr, IfSome, OnOk};
+ghost use Rattle.std.specs.Prelude.{◌≡◌, ◌%◌, ◌<◌, ◌≤◌, true, length, take, map, slice_index, IfOk, IfErr, IfSome, OnOk};
+ghost use Rattle.std.specs.Char.{digit_char, is_ascii_control};
 ghost use Rattle.std.specs.Io.KnownBytes.{Appends};
+ghost use Rattle.allocative_io.specs.Lines.{printable, line_of};
 ghost use Rattle.allocative_io.specs.Streams.{StopsReading, AppendsBeginning};
 
 use std::alloc::{AllocError, Global};
@@ -48,13 +50,13 @@ pub fn read_input<R: Read>(alloc: Global, input: &mut R) -> Result<Vec<u8>, Unre
     Err(Unread::Failed(ErrorKind::Other))
 }
 
-/// Writes and flushes the whole text. If a write fails, a beginning of it is written. An interrupted write is repeated.
+// Writes and flushes all bytes. If a write fails, a beginning of them is written. An interrupted write is repeated.
 #[tactic(auto, using(crate::proofs::Writes::writing))]
-pub fn write_text<W: Write>(output: &mut W, text: &str) -> io::Result<()>
-    ensures whole { OnOk result (Appends (W.contents output.old) (W.contents output.new) text.now) }
-    ensures beginning { AppendsBeginning (W.contents output.old) (W.contents output.new) text.now }
+fn write_bytes<W: Write>(output: &mut W, bytes: &[u8]) -> io::Result<()>
+    ensures whole { OnOk result (Appends (W.contents output.old) (W.contents output.new) bytes.now) }
+    ensures beginning { AppendsBeginning (W.contents output.old) (W.contents output.new) bytes.now }
 {
-    let mut rest = text.as_bytes();
+    let mut rest = bytes;
     for _ in 0..u64::MAX {
         if rest.is_empty() {
             return output.flush();
@@ -67,4 +69,74 @@ pub fn write_text<W: Write>(output: &mut W, text: &str) -> io::Result<()>
         }
     }
     Err(ErrorKind::WriteZero.into())
+}
+
+/// Writes and flushes the whole text. If a write fails, a beginning of it is written. An interrupted write is repeated.
+pub fn write_text<W: Write>(output: &mut W, text: &str) -> io::Result<()>
+    ensures whole { OnOk result (Appends (W.contents output.old) (W.contents output.new) text.now) }
+    ensures beginning { AppendsBeginning (W.contents output.old) (W.contents output.new) text.now }
+{
+    write_bytes(output, text.as_bytes())
+}
+
+// How many bytes come before the first control character.
+#[tactic(auto, using(crate::proofs::Printed::plain_more))]
+fn plain_len(bytes: &[u8]) -> usize
+    ensures within { result ≤ length bytes.now }
+    ensures plain { printable (take result bytes.now) ≡ take result bytes.now }
+    ensures control { result < length bytes.now
+        → is_ascii_control (slice_index bytes.now result) ≡ true }
+{
+    for (at, byte) in bytes.iter().enumerate() {
+        if byte.is_ascii_control() {
+            return at;
+        }
+    }
+    bytes.len()
+}
+
+// The last hexadecimal digit of a number.
+fn last_digit(value: u8) -> u8
+    ensures { result ≡ digit_char (value % 16) }
+{
+    match value % 16 {
+        digit if digit < 10 => b'0' + digit,
+        digit => b'a' - 10 + digit,
+    }
+}
+
+// Writes a text with its control characters as `\x` and two digits.
+fn write_printable<W: Write>(output: &mut W, text: &str) -> io::Result<()>
+    ensures whole { OnOk result
+        (Appends (W.contents output.old) (W.contents output.new) (printable text.now)) }
+    ensures beginning { AppendsBeginning
+        (W.contents output.old) (W.contents output.new) (printable text.now) }
+{
+    let mut rest = text.as_bytes();
+    loop {
+        let (plain, others) = rest.split_at(plain_len(rest));
+        write_bytes(output, plain)?;
+        let Some((byte, after)) = others.split_first() else {
+            return Ok(());
+        };
+        write_bytes(
+            output,
+            &[b'\\', b'x', last_digit(*byte / 16), last_digit(*byte)],
+        )?;
+        rest = after;
+    }
+}
+
+/// Writes a line: the texts one after another, with each control character of ASCII in them as `\x` and two digits, and a
+/// line feed. It takes no memory. If a write fails, a beginning of the line is written.
+pub fn write_line<W: Write>(output: &mut W, texts: &[&str]) -> io::Result<()>
+    ensures whole { OnOk result (Appends (W.contents output.old) (W.contents output.new)
+        (line_of (map (λ text. text.now) texts.now))) }
+    ensures beginning { AppendsBeginning (W.contents output.old) (W.contents output.new)
+        (line_of (map (λ text. text.now) texts.now)) }
+{
+    for text in texts {
+        write_printable(output, text)?;
+    }
+    write_text(output, "\n")
 }

@@ -1,5 +1,6 @@
 -- The status and the line of each fault, and the fault of each refusal.
-use Rattle.std.specs.Prelude.{ℕ, List, ◌++◌, codes}
+use Rattle.std.specs.Prelude.{ℕ, List, [], ◌∷◌, codes}
+use Rattle.allocative_io.specs.Lines as Lines
 use Rattle.allocative.specs.Refusal.{Refusal}
 use Rattle.allocative.specs.Refusal.TheVariants as refused
 use Rattle.allocative_json.specs.declared.fault.Fault.{Fault}
@@ -30,7 +31,7 @@ message_of Open = codes "a visitor was forgotten"
 
 -- The line of a fault on standard error: its start, which names the program, the message, and a line feed.
 abbrev pub line_of : List ℕ → Fault → List ℕ
-line_of start f = start ++ (message_of f ++ codes "\n")
+line_of start f = Lines.line_of (start ∷ message_of f ∷ [])
 
 -- The fault of a refusal: the one with its name.
 abbrev pub fault_of : Refusal → Fault

@@ -16,6 +16,6 @@ pub use crate::fields::{fields_json, run_fields};
 pub use crate::printed::Report;
 pub use crate::profile::profile_json;
 pub use crate::roots::read_roots;
-pub use crate::run::{run_json, tell};
+pub use crate::run::{report_fault, run_json};
 pub use crate::texts::report;
 pub use crate::words::{Words, read_words};

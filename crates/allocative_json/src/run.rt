@@ -11,7 +11,7 @@ use crate::printed::Report;
 use crate::profile::{report_by_registry, report_of};
 use crate::roots::read_roots;
 use crate::words::{Words, read_words};
-use allocative_io::{Unread, read_input, write_text};
+use allocative_io::{Unread, read_input, write_line, write_text};
 use std::alloc::Global;
 use std::io::{self, Read, Write};
 use std::mem;
@@ -30,24 +30,14 @@ pub(crate) fn read_bytes<R: Read>(alloc: Global, input: &mut R) -> Result<Vec<u8
     }
 }
 
-// Writes the line of a fault.
-fn write_line<E: Write>(errors: &mut E, start: &str, fault: Fault) -> io::Result<()>
-    ensures { AppendsBeginning (E.contents errors.old) (E.contents errors.new)
-        (line_of start.now fault) }
-{
-    write_text(errors, start)?;
-    write_text(errors, fault.message())?;
-    write_text(errors, "\n")
-}
-
-/// Writes the line of the fault and returns its status, even if the line cannot be written. No more than a beginning of
-/// the line is written then. The line begins with `start`: the name of the program, a colon and a space.
-pub fn tell<E: Write>(errors: &mut E, start: &str, fault: Fault) -> u8
+/// Writes the line of the fault and returns its status, even if the line cannot be written. The line begins with
+/// `start`: the name of the program, a colon and a space. If a write fails, a beginning of the line is written.
+pub fn report_fault<E: Write>(errors: &mut E, start: &'static str, fault: Fault) -> u8
     ensures status { result ≡ status_of fault }
     ensures line { AppendsBeginning (E.contents errors.old) (E.contents errors.new)
         (line_of start.now fault) }
 {
-    let _is_told = write_line(errors, start, fault);
+    let _is_whole = write_line(errors, &[start, fault.message()]);
     fault.status()
 }
 
@@ -122,8 +112,8 @@ pub fn run_json<R: Read, W: Write, E: Write>(
     match make_report(alloc, words, input) {
         Ok(report) => match write_report(&report, output, errors) {
             Ok(()) => 0,
-            Err(_) => tell(errors, "allocative-json: ", Fault::Writing),
+            Err(_) => report_fault(errors, "allocative-json: ", Fault::Writing),
         },
-        Err(fault) => tell(errors, "allocative-json: ", fault),
+        Err(fault) => report_fault(errors, "allocative-json: ", fault),
     }
 }

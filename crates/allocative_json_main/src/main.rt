@@ -2,7 +2,7 @@
 //! to standard output, in the form that `flamegraph.pl` reads, and the warnings to standard error.
 #![tactic(auto)]
 
-use allocative_json::{Fault, run_json, tell};
+use allocative_json::{Fault, report_fault, run_json};
 use std::env;
 use std::io::ErrorKind;
 use std::process::ExitCode;
@@ -30,7 +30,7 @@ fn main(rt: HostRuntime) -> ExitCode {
             &mut output,
             &mut errors,
         ),
-        Err(fault) => tell(&mut errors, "allocative-json: ", fault),
+        Err(fault) => report_fault(&mut errors, "allocative-json: ", fault),
     };
     ExitCode::from(status)
 }

@@ -4,7 +4,7 @@ ghost use Rattle.allocative_json.specs.Fields.{AreFields, StopsFields, EndsWithF
 
 use crate::fault::Fault;
 use crate::fields::fields_json;
-use crate::run::{read_bytes, tell};
+use crate::run::{read_bytes, report_fault};
 use allocative_io::write_text;
 use std::alloc::Global;
 use std::io::{Read, Write};
@@ -43,8 +43,8 @@ pub fn run_fields<R: Read, W: Write, E: Write>(
     match make_fields(alloc, input) {
         Ok(text) => match write_text(output, text.as_str()) {
             Ok(()) => 0,
-            Err(_) => tell(errors, "allocative-fields: ", Fault::Writing),
+            Err(_) => report_fault(errors, "allocative-fields: ", Fault::Writing),
         },
-        Err(fault) => tell(errors, "allocative-fields: ", fault),
+        Err(fault) => report_fault(errors, "allocative-fields: ", fault),
     }
 }
