@@ -11,7 +11,7 @@ import shutil
 import sys
 
 from .source import Source, crate_of
-from .text import MARK, Writer
+from .text import MARK, Writer, answers_of
 from .tokens import Fault
 
 STALE, ARGUMENTS, FILES, FAULTS = 1, 2, 3, 4
@@ -96,8 +96,8 @@ def placed(chosen: argparse.Namespace, folder: str, path: str) -> str:
 
 def answers(folder: str, source: Source, found: list[Writer]) -> dict[str, str | None]:
     """The answers by their files in a folder, with nothing for those that are not wanted any more."""
-    pairs = [pair for each in found for pair in each.answers.items()]
-    new = {os.path.join(folder, name, "Answers.antt"): answer for name, answer in pairs}
+    texts = answers_of(source.crate.name, found)
+    new = {os.path.join(folder, name, "Answers.antt"): text for name, text in texts.items()}
     old = old_answers(os.path.join(folder, *source.text_at))
     files: dict[str, str | None] = {path: None for path in old if path not in new}
     return files | {path: answer for path, answer in new.items() if path in old or not os.path.exists(path)}

@@ -21,7 +21,8 @@ FIXED["std"] |= of((4, 4), "File TcpListener TcpStream UdpSocket UnixStream Cond
 FIXED["std"] |= of((32, 4), "SocketAddr") | of((6, 2), "SocketAddrV4") | of((28, 4), "SocketAddrV6") | of((32, 8), "VecDeque")
 FIXED |= {"bytes": of((32, 8), "Bytes BytesMut"), "crossbeam_channel": of((16, 8), "Sender Receiver")}
 FIXED |= {"chrono": of((4, 4), "NaiveDate") | of((8, 4), "NaiveTime") | of((12, 4), "NaiveDateTime")}
-FIXED |= {"regex": of((32, 8), "Regex"), "semver": of((40, 8), "Version"), "url": of((88, 8), "Url"), "uuid": of((16, 1), "Uuid")}
+FIXED |= {"jiff": of((16, 8), "Timestamp SignedDuration"), "regex": of((32, 8), "Regex"), "semver": of((40, 8), "Version")}
+FIXED |= {"url": of((88, 8), "Url"), "uuid": of((16, 1), "Uuid")}
 # What stands before the value in a type that holds one.
 BEFORE = {("std", "Mutex"): (5, 4), ("std", "RwLock"): (9, 4), ("std", "RefCell"): (8, 8), ("std", "Cell"): (0, 1)}
 BEFORE |= {("parking_lot", "Mutex"): (1, 1), ("parking_lot", "RwLock"): (8, 8)}

@@ -98,6 +98,7 @@ class Source:
         self.wanted = {each.name: self.judged(each) for each in wanted}
         self.module.types.update(self.wanted)
         self.layouts = {name: self.free(name, "Layout") for name in self.wanted}
+        self.variant_layouts = {name: self.layouts_in(each) for name, each in self.wanted.items() if each.is_enum}
         self.scope.find_strict()
         self.untallied = find_tallied(self) if chosen.counted else {}
 
@@ -192,13 +193,9 @@ class Source:
             what = "it has no variants, so there is no value to visit: leave it out"
         elif cycle and definition.parameters:
             what = f"a type with parameters that holds itself: {BY_HAND}"
-        elif len(cycle) > 2 or (len(cycle) == 2 and any(each.is_enum for each in cycle)):
+        elif len(cycle) > 1 and (not definition.cycle or len({each.cycle for each in cycle}) > 1):
             names = ", ".join(each.name for each in cycle)
-            what = f"the types {names} hold each other, and only two structs that do are written: {BY_HAND}"
-        elif len(cycle) == 2 and cycle[1].name in self.reached(cycle[1].name, cycle[0].name):
-            what = f"{cycle[1].name} holds itself and {cycle[0].name}, which holds it: {BY_HAND}"
-        elif len(cycle) == 2 and not definition.cycle:
-            what = "it holds a type that holds it: write `#[cycle(NAME)]` above both, with one name"
+            what = f"{names} hold each other: write `#[cycle(NAME)]` above each of them, with one name"
         if what:
             raise Fault(definition.at, what)
 
@@ -210,6 +207,11 @@ class Source:
             name += "Of"
         self.taken.add(name.lower())
         return name
+
+    def layouts_in(self, definition: Definition) -> dict[str, str]:
+        """The names of the layouts of the variants that have an entry."""
+        names = [each.name for each in definition.variants if each.is_entry]
+        return {name: self.free(definition.name + name, "Fields") for name in names}
 
     def writers(self) -> list[Writer]:
         """What is written for each type, in the order of the file."""
@@ -226,15 +228,15 @@ class Source:
                 self.fault(fault.at, f"{name}: {fault.what}")
         return found
 
-    def reached(self, name: str, closed: str = "") -> set[str]:
-        """The types of the module that a type holds, at any depth, but not those that only a closed one leads to."""
+    def reached(self, name: str) -> set[str]:
+        """The types of the module that a type holds, at any depth."""
         found: set[str] = set()
         waiting = [name]
         while waiting:
             definition = self.module.types.get(waiting.pop())
             for member in definition.members if definition else ():
                 kinds = self.scope.real(member.type).all()
-                more = {kind.name for kind in kinds if self.scope.own(kind)} - found - {closed}
+                more = {kind.name for kind in kinds if self.scope.own(kind)} - found
                 found |= more
                 waiting += more
         return found
@@ -260,8 +262,8 @@ class Source:
         words = {"std.specs.Prelude": PRELUDE, "allocative.specs.Shows": {"shows"}, "allocative.specs.Levels": LEVELS}
         words["allocative_tally.specs.Shapes"] = SHAPES
         lists = [(f"Rattle.{path}", used & names) for path, names in words.items()]
-        opened = sorted(word for word in used if word.startswith("out-"))
-        lists += [(f"{self.declared_at}.{word[4:]}", {word}) for word in opened]
+        opened = sorted({word.removeprefix("out-").removesuffix("-F") for word in used if "-" in word})
+        lists += [(f"{self.declared_at}.{name}", used & {f"out-{name}", f"{name}-F"}) for name in opened]
         lines = [f"ghost use {path}.{{{', '.join(sorted(names))}}};\n" for path, names in lists if names]
         text, code = "".join(lines).replace(".{shows}", " as shows"), use_line("allocative", used & CODE)
         code += "".join(use_line(f"allocative_tally::{home}", used & names) for home, names in HOMES.items())

@@ -3,6 +3,7 @@
 from __future__ import annotations
 
 import re
+import textwrap
 from typing import TYPE_CHECKING, Any, Callable, Iterator
 
 from .counted import Counting
@@ -25,12 +26,15 @@ EMPTY = type_of("()")
 Proof = tuple[str, str]
 LETTERS = [*"abcdefghijklmnopqrstuvw"]
 MARK = "-- Written by bin/implement."
+# A value that stands as an argument without more parentheses.
+ONE_VALUE = re.compile(r"(\w+|\([^()]*\))[\w.]*")
 NAME = re.compile(r"[A-Za-z_]\w*")
 WORD = re.compile(r"[\w-]+")
 CONTAINERS = {("Vec", 1): "vec_in", ("Option", 1): "option_in", ("Box", 1): "box_of"}
 CONTAINERS |= {("BTreeMap", 2): "btree_map_of", ("HashMap", 2): "hash_map_of"}
-LEVELS = {*CONTAINERS.values(), "both", "child", "field", "level_shows", "opened", "pair_in", "plain", "recursive"}
-LEVEL = re.compile(rf'(?<![\w."<])(?:{"|".join(sorted(LEVELS))})(?![\w.>"])|(?<=[( ])out-\w+')
+LEVELS = {*CONTAINERS.values(), "both", "both_levels", "child", "field", "first", "opened", "pair_in", "plain"}
+LEVELS |= {"recursive", "second"}
+LEVEL = re.compile(rf'(?<![\w."<])(?:{"|".join(sorted(LEVELS))})(?![\w.>"])|(?<=[( ])out-\w+|(?<= )\w+-F(?=\.)')
 # Words of the written text, which a variant's constructor cannot be named by.
 CLAUSE_WORDS = {"codes", "true", "false", "elim", "where", "deriving", "record", "data", "open", "let", "in"}
 # What answers cite, by its module.
@@ -95,9 +99,9 @@ def size_of(kind: str) -> str:
 
 
 class Writer:
-    """Writes the implementations of one type. Of types that hold themselves the first shows levels.
+    """Writes the implementations of one type. A type that holds itself shows levels.
 
-    `used` has the words of the text that have to be imported, and `answers` the answers by their folder.
+    `used` has the words of the text that have to be imported, and `answers` the imports and the proofs by their folder.
     """
 
     def __init__(self, source: Source, definition: Definition, cycle: list[Definition]) -> None:
@@ -108,9 +112,9 @@ class Writer:
         self.types = definition.names("type")
         self.applied = in_angles([each.name for each in definition.parameters])
         self.members = definition.shown
-        self.cycle = [each.name for each in cycle]
-        self.is_level = self.cycle[:1] == [self.name]
-        self.nothing = "plain shows.Nothing" if self.is_level else "shows.Nothing"
+        # The types that hold each other, of which this is one; this one alone if it holds itself.
+        self.cycle = {each.name: each for each in cycle}
+        self.nothing = "plain shows.Nothing" if cycle else "shows.Nothing"
         self.is_borrowed = bool(definition.names("lifetime"))
         # Whether the entry of a value is of a size that the visit asks for.
         self.is_sized = self.is_borrowed or bool(cycle)
@@ -118,7 +122,7 @@ class Writer:
         self.counting = Counting(self.scope, {name: source.layouts[name] for name in self.cycle})
         self.declared_at = f"{source.declared_at}.{self.name}"
         self.used = {"Allocative", "Described", "Part", "Record", "Refusal", "Visitor", "codes"}
-        self.answers: dict[str, str] = {}
+        self.answers: dict[str, tuple[dict[str, list[str]], str]] = {}
         # Of an enum: what its answers import of its own, their lemma, and how the proof for each variant begins.
         self.uses: dict[str, list[str]] = {}
         self.lemma = ""
@@ -127,9 +131,9 @@ class Writer:
         self.flags = sorted(set().union(*map(self.flags_of, members)))
         if self.scope.names_in(type_of(self.name)) > LARGEST_VALUE:
             raise Fault(definition.at, "it has too many fields in one value for the checker: put large ones into a `Box`")
-        if self.is_level:
+        if [*self.cycle][:1] == [self.name]:
             self.refuse_large()
-        self.variant_records: dict[str, str] = {}
+        self.variant_records = dict(source.variant_layouts.get(self.name, {}))
         self.counted: set[str] = set()
         alias, described = self.aliases(), "" if self.is_borrowed else self.described()
         self.text = alias + described + (self.enumeration() if definition.is_enum else self.struct())
@@ -171,9 +175,8 @@ class Writer:
             lists = [nested([type_of("u8"), greatest(lists)])]
         self.record, text = self.alias(self.record, lists[0])
         for variant, fields in pairs:
-            if self.definition.is_enum and variant.is_entry:
-                name = self.source.free(self.name + variant.name, "Fields")
-                self.variant_records[variant.name], more = self.alias(name, fields)
+            if variant.name in self.variant_records:
+                self.variant_records[variant.name], more = self.alias(self.variant_records[variant.name], fields)
                 text += more
         return text
 
@@ -220,23 +223,52 @@ class Writer:
         return text + "}\n\n"
 
     # ---- what is shown
-    def implementation(self, inside: str, body: str, use: str = "") -> str:
-        """The implementation of `Allocative`, from what a value shows inside and the body of its visit."""
-        entry = f'(codes "{self.name}") {size_of(self.record)}{inside}'
-        text = f"recursive (λ x. field {entry})" if self.is_level else f"λ x. shows.Field {entry}"
-        if self.is_level and self.definition.is_enum:
-            text = f"recursive (opened out-{self.name} (λ x. field {entry}))"
-        self.used |= set(LEVEL.findall(text)) if self.cycle else set()
+    def implementation(self, shown: str, body: str, use: str = "") -> str:
+        """The implementation of `Allocative`, from what a value shows and the body of its visit."""
+        self.used |= set(LEVEL.findall(shown)) if self.cycle else set()
         cycle = f"    #[cycle({self.definition.cycle})]\n" if self.definition.cycle else ""
         return (
             f"{self.source.tactic}{self.head('Allocative')}{use}"
-            f"    ghost may_show = {{ {text} }};\n\n{self.is_strict()}{cycle}"
+            f"    ghost may_show = {{ {shown} }};\n\n{self.is_strict()}{cycle}"
             f"    fn visit(&self, visitor: &mut Visitor<'_>) -> Result<(), Refusal> {{\n{body}    }}\n}}\n"
         )
 
+    def shown(self, inside: str) -> str:
+        """What a value shows, from what it shows inside its entry."""
+        if not self.cycle:
+            return f'λ x. shows.Field (codes "{self.name}") {size_of(self.record)}{inside}'
+        *levels, last = map(self.own_level, self.cycle.values())
+        for level in reversed(levels):
+            last = f"both_levels\n{INDENT}({level})\n{INDENT}({last})"
+        return f"λ x. recursive ({last}) ({self.embedded(self.name, 'x')})" if levels else f"recursive ({last})"
+
+    def own_level(self, definition: Definition) -> str:
+        """The level of a type of the cycle."""
+        name = definition.name
+        entry = f'field (codes "{name}") {size_of(self.source.layouts[name])} ('
+        if not definition.is_enum:
+            return f"λ x. {entry}{self.inside(self.words(definition.shown, f'(out-{name} x)'))})"
+        records = self.source.variant_layouts[name]
+        arms = "".join(self.word_arm(each, self.case(name, each.name), records) for each in definition.variants)
+        arms = textwrap.indent(f"{arms}    ])", "    " * bool(self.cycle.keys() - {name}))
+        return f"opened out-{name} (λ x. {entry}elim x [\n{arms})"
+
+    def case(self, name: str, variant: str) -> str:
+        """A variant of what opens an enum of the cycle, with the enum's name if another enum has it too."""
+        enums = [each for each in self.cycle.values() if each.is_enum]
+        has_others = sum(each.name == variant for enum in enums for each in enum.variants) > 1
+        return f"{name}-F.{name}::{variant}" if has_others else f"{name}-F.{variant}"
+
+    def embedded(self, name: str, value: str) -> str:
+        """A value of a type of the cycle as one of any of them."""
+        at, last = [*self.cycle].index(name), len(self.cycle) - 1
+        for word in ["first"] * (at < last) + ["second"] * at:
+            value = f"{word} {value}" if ONE_VALUE.fullmatch(value) else f"{word} ({value})"
+        return value
+
     def inside(self, words: list[str], indent: str = INDENT) -> str:
         """What parts in a tuple show, a line for each."""
-        word = "both" if self.is_level else "shows.Both"
+        word = "both" if self.cycle else "shows.Both"
 
         def both(words: list[str]) -> str:
             lines = [f"\n{indent}({each})" for each in words]
@@ -249,15 +281,11 @@ class Writer:
         """What a field shows: in a type that shows levels, as a level."""
         kind = member.type.text
         if member.size is None and self.holds_cycle(member.type):
-            level, size = self.level(member, member.type, value), self.size_in(member.type)
-            if self.is_level:
-                return f'field (codes "{key}") {size} ({level})'
-            level = f"level_shows ⟦<{self.cycle[0]} as Allocative>⟧.may_show ({level})"
-            return f'shows.Field (codes "{key}") {size} ({level})'
+            return f'field (codes "{key}") {self.size_in(member.type)} ({self.level(member, member.type, value)})'
         text = f'shows.Field (codes "{key}") {size_of(kind)} (⟦<{kind} as Allocative>⟧.may_show {value})'
         if member.size is not None:
             text = f'shows.Inside (codes "{key}") {member.size} shows.Nothing'
-        return f"plain ({text})" if self.is_level else text
+        return f"plain ({text})" if self.cycle else text
 
     def words(self, members: list[Member], value: str) -> list[str]:
         """What the fields of a struct show."""
@@ -297,10 +325,8 @@ class Writer:
             return f"plain (⟦<{kind.text} as Allocative>⟧.may_show {value})"
         if kind.name not in self.cycle or kind.parts:
             return self.container(member, kind, value)
-        if kind.name == self.cycle[0]:
-            return f"child {value}"
-        words = self.words(self.scope.module.types[kind.name].shown, f"(out-{kind.name} {value})")
-        return f'field (codes "{kind.name}") {self.size_in(kind)} ({self.inside(words)})'
+        child = self.embedded(kind.name, value)
+        return f"child {child}" if ONE_VALUE.fullmatch(child) else f"child ({child})"
 
     def container(self, member: Member, kind: Type, value: str) -> str:
         """The level of a container that holds a type of the cycle."""
@@ -345,31 +371,32 @@ class Writer:
     # ---- structs
     def struct(self) -> str:
         names = bound([member.name for member in self.members], 52)
-        words = self.words(self.members, f"(out-{self.name} x)" if self.cycle else "x")
         pairs = zip(self.members, names)
         parts = [self.part(each, each.name, name, f"&self.{each.name}", INDENT) for each, name in pairs]
-        inside = f"({self.inside(words)})" if words or self.is_level else self.nothing
-        gap = " " if len(words) > 1 or self.cycle else f"\n{INDENT}"
-        self.struct_answers()
-        return self.implementation(gap + inside, self.enter(parts, names, INDENT))
+        words = [] if self.cycle else self.words(self.members, "x")
+        inside = f"({self.inside(words)})" if words else self.nothing
+        gap = " " if len(words) > 1 else f"\n{INDENT}"
+        if self.cycle or self.is_borrowed:
+            self.keep(f"{self.name}Allocative/{'+' * bool(self.cycle)}visit", [("returns", self.proof(set()))])
+        return self.implementation(self.shown(gap + inside), self.enter(parts, names, INDENT))
 
     # ---- enums
     def enumeration(self) -> str:
-        variants = self.definition.variants
-        if self.is_level:
+        variants, use, inside = self.definition.variants, "", ""
+        if self.cycle:
             self.refuse_parts()
-            cases = [f"{self.name}-F.{variant.name}" for variant in variants]
-            opened, listed = "TheOpen", [f"{self.name}-F"]
+            cases = [self.case(self.name, variant.name) for variant in variants]
+            opened = {self.declared_at: [f"{self.name}-F"]}
         else:
             cases = [variant.name + ("Case" if variant.name in CLAUSE_WORDS else "") for variant in variants]
             pairs = zip([variant.name for variant in variants], cases)
-            opened = "TheVariants"
-            listed = [case if case == name else f"«{name}» as {case}" for name, case in pairs]
-        arms = "".join(map(self.word_arm, variants, cases))
-        use = f"    ghost use {self.declared_at}.{opened}.{{{', '.join(listed)}}};\n\n"
+            opened = {f"{self.declared_at}.TheVariants": [case if case == name else f"«{name}» as {case}" for name, case in pairs]}
+            use = "".join(f"    ghost use {at}.{{{', '.join(names)}}};\n\n" for at, names in opened.items())
+            arms = "".join(self.word_arm(*each, self.variant_records) for each in zip(variants, cases))
+            inside = f" (elim x [\n{arms}    ])"
         body = f"{INDENT}match self {{\n{''.join(map(self.code_arm, variants))}{INDENT}}}\n"
-        self.enum_answers(cases, listed)
-        return self.implementation(f" (elim x [\n{arms}    ])", body, use)
+        self.enum_answers(cases, opened)
+        return self.implementation(self.shown(inside), body, use)
 
     def refuse_parts(self) -> None:
         """Refuses the fields that an enum that holds itself cannot have."""
@@ -391,13 +418,13 @@ class Writer:
         keys = [variant.name] if variant.bracket != "{" and len(variant.members) == 1 else variant.names
         return [each for each in zip(variant.members, keys, names) if not each[0].is_skipped]
 
-    def word_arm(self, variant: Variant, case: str) -> str:
+    def word_arm(self, variant: Variant, case: str, records: dict[str, str]) -> str:
         letters = bound([""] * len(variant.members), 0)
         words = self.inside([self.word(*each) for each in self.kept(variant, letters)], " " * 10)
         if variant.is_entry:
-            word = "field" if self.is_level else "shows.Field"
+            word = "field" if self.cycle else "shows.Field"
             gap = " " if words.startswith(("both", "shows.Both")) else f"\n{' ' * 10}"
-            words = f'{word} (codes "{variant.name}") {size_of(self.variant_records[variant.name])}{gap}({words})'
+            words = f'{word} (codes "{variant.name}") {size_of(records[variant.name])}{gap}({words})'
         return f"      | {' '.join([case, *letters])} ↦ {words}\n"
 
     def code_arm(self, variant: Variant) -> str:
@@ -417,51 +444,43 @@ class Writer:
         return f"{pattern} => {{\n{self.enter(parts, names, ' ' * 16)}{indent}}}\n"
 
     # ---- answers
-    def enum_answers(self, cases: list[str], opened: list[str]) -> None:
+    def enum_answers(self, cases: list[str], opened: dict[str, list[str]]) -> None:
         """Keeps the answers of the visit of an enum, for each variant."""
         variants, taken, proofs = self.definition.variants, set(), []
-        self.uses = {self.declared_at: [self.name, f"out-{self.name}", "the_lemmas"]}
-        self.uses[f"{self.declared_at}.{'TheOpen' if self.is_level else 'TheVariants'}"] = opened
+        self.uses = {self.declared_at: [f"out-{self.name}", "the_lemmas"] if self.cycle else [self.name]}
+        for module, names in opened.items():
+            self.uses[module] = self.uses.get(module, []) + names
         at = ".".join((self.source.crate.name, "specs.contracts", *self.source.text_at, f"{self.name}Allocative.TheImpl"))
         self.uses[f"Rattle.{at}"] = ["ghosts"]
         self.lemma = self.one_variant(variants[0], cases[0]) if len(variants) == 1 else ""
         self.facts = [*map(self.fact, variants, cases)]
         for variant, fact in zip(variants, self.facts):
             arm = "" if self.lemma else f"-in-{variant.name}"
-            proofs.append((f"returns{arm}", self.proof(taken, self.is_level, arm, fact, variant.is_entry)))
-        self.answer(f"{self.name}Allocative/{'+' * self.is_level}visit", proofs, self.lemma)
-
-    def struct_answers(self) -> None:
-        """Keeps the answers of the visits of a struct that is entered by its size, and of another that it holds."""
-        folder, pairs = f"{self.name}Allocative/{'+' * self.is_level}visit", [("returns", self.is_level)]
-        if self.definition.cycle:
-            folder = f"+{self.definition.cycle}"
-            pairs = [(f"{name}Allocative::visit-returns", name == self.name) for name in self.cycle]
-        if self.is_level or self.is_borrowed:
-            self.answer(folder, [(goal, self.proof(set(), is_level)) for goal, is_level in pairs])
+            proofs.append((f"returns{arm}", self.proof(taken, arm, fact, variant.is_entry)))
+        self.keep(f"{self.name}Allocative/{'+' * bool(self.cycle)}visit", proofs, self.lemma)
 
     def one_variant(self, variant: Variant, case: str) -> str:
         """The lemma that each value of an enum of one variant is of that variant."""
-        form, kinds = f"{self.name}-F", ["T"]
-        if not self.is_level:
+        form, kinds = f"{self.name}-F", [f"T{number}" for number in range(len(self.cycle))]
+        if not self.cycle:
             form, kinds = self.name, [each.name for each in self.definition.parameters if each.kind != "lifetime"]
         names, given = bound([""] * len(variant.members), 0), f"{{{' '.join(kinds)} : _}} " if kinds else ""
-        value, parts = " ".join([case, *names]), "".join(f"({name} : _) × " for name in names)
-        text = f"variant : {given}(x : {' '.join([form, *kinds])}) → {parts}(x ≡ {value})\n"
-        return f"\n{text}variant ({value}) = ({', '.join([*names, 'refl'])})\n"
+        value, parts, lemma = " ".join([case, *names]), "".join(f"({name} : _) × " for name in names), f"variant-{self.name}"
+        text = f"{lemma} : {given}(x : {' '.join([form, *kinds])}) → {parts}(x ≡ {value})\n"
+        return f"\n{text}{lemma} ({value}) = ({', '.join([*names, 'refl'])})\n"
 
     def fact(self, variant: Variant, case: str) -> str:
         """What says that a value is of a variant; in a type that holds itself, that what opens it is."""
-        value = f"(out-{self.name} c.args.self.now)" if self.is_level else "c.args.self.now"
+        value = f"(out-{self.name} c.args.self.now)" if self.cycle else "c.args.self.now"
         if self.lemma:
-            return f"(variant {value})" + (f".{len(variant.members)}" if variant.members else "")
+            return f"(variant-{self.name} {value})" + (f".{len(variant.members)}" if variant.members else "")
         arm = f"c.in-{variant.name}"
         level = " ".join([case, *(f"{arm}.{name}" for name in bound(variant.names, 44))])
-        if not self.is_level:
+        if not self.cycle:
             return f"{arm}.is"
         return f"(let e : {value[1:-1]} ≡ {level} = ap out-{self.name} {arm}.is ∙ search the_lemmas in e)"
 
-    def proof(self, taken: set[str], is_level: bool, arm: str = "", fact: str = "", is_entry: bool = False) -> str:
+    def proof(self, taken: set[str], arm: str = "", fact: str = "", is_entry: bool = False) -> str:
         """The proof of an arm: what was entered means what may be shown."""
         sizes = [ensured(taken, "size", arm) for is_called in (is_entry, self.is_sized) if is_called]
         means = "means_same"
@@ -471,26 +490,44 @@ class Writer:
         only = "(search (rules, strict))" if self.flags else "strict_same"
         if fact and not (self.lemma or self.cycle or self.definition.parameters):
             return f"visited_at ghosts.may_show {fact} {entered} {only}\n    {means}"
-        if is_level:
-            means = f"(means_opened _ _ {fact}\n    {means})" if fact else f"(means_recursive {means})"
-        if fact and (self.lemma or not is_level):
+        if self.cycle:
+            means = f"(means_opened _ _ refl {fact}\n    {means})" if fact else f"(means_recursive {means})"
+        if fact and (self.lemma or not self.cycle):
             means = f"(rw {fact}\n    {means})"
         if self.flags and not self.cycle:
             return f"visited_if {entered} {only}\n    {means}"
         return f"visited_as {f'(entered_loosely {entered})' if self.flags else entered}\n    {means}"
 
+    def keep(self, folder: str, proofs: list[Proof], lemma: str = "") -> None:
+        """Keeps the proofs of a visit. Those of types that hold each other stand together, each with its type's name."""
+        if self.cycle and self.definition.cycle:
+            folder, proofs = f"+{self.definition.cycle}", [(f"{self.name}Allocative::visit-{goal}", how) for goal, how in proofs]
+        self.answer(folder, proofs, lemma)
+
     def answer(self, folder: str, proofs: list[Proof], lemma: str = "") -> None:
-        """Keeps the file of a folder of proofs: each goal with its proof, after the imports of what they name."""
+        """Keeps what a folder of proofs has: each goal with its proof, and the imports of what they name."""
         given = "t c" if self.cycle else "g c" if self.types or self.definition.names("const") else "c"
-        path = (*self.source.text_at, *folder.split("/"))
         body = lemma + "".join(f"\npub {goal} : goal.{goal}\n{goal} {given} =\n    {proof}\n" for goal, proof in proofs)
-        signs = [f"◌{sign}◌" for sign in "≡∙" if sign in body]
-        words, text = {*WORD.findall(body), *signs}, f"{MARK}\n"
-        for module, names in (self.uses | {f"Rattle.{each}": names.split() for each, names in LEMMAS.items()}).items():
-            named = [name for name in names if name.split()[-1] in words]
-            text += f"use {module}.{{{', '.join(named)}}}\n" if named else ""
-        goals = ".".join((self.source.crate.name, "proofs", *path, "Goals"))
-        self.answers["/".join(path)] = f"{text}use Rattle.{goals} as goal\n{body}"
+        words = {*WORD.findall(body), *(f"◌{sign}◌" for sign in "≡∙" if sign in body)}
+        modules = self.uses | {f"Rattle.{each}": names.split() for each, names in LEMMAS.items()}
+        uses = {each: [name for name in names if name.split()[-1] in words] for each, names in modules.items()}
+        self.answers["/".join((*self.source.text_at, *folder.split("/")))] = uses, body
+
+
+def answers_of(crate: str, found: list[Writer]) -> dict[str, str]:
+    """The text of each file of answers, by its folder."""
+    folders: dict[str, tuple[dict[str, dict[str, None]], list[str]]] = {}
+    for folder, (uses, body) in (pair for each in found for pair in each.answers.items()):
+        modules, bodies = folders.setdefault(folder, ({}, []))
+        for module, names in uses.items():
+            modules.setdefault(module, {}).update(dict.fromkeys(names))
+        bodies.append(body)
+    texts = {}
+    for folder, (modules, bodies) in folders.items():
+        text = "".join(f"use {module}.{{{', '.join(names)}}}\n" for module, names in modules.items() if names)
+        goals = ".".join((crate, "proofs", *folder.split("/"), "Goals"))
+        texts[folder] = f"{MARK}\n{text}use Rattle.{goals} as goal\n{''.join(bodies)}"
+    return texts
 
 
 def ensured(taken: set[str], call: str, arm: str) -> str:

@@ -155,9 +155,11 @@ pub means_recursive : {T : Type 0} {e : Bool} {w : T → Level T} {x : T} {p : S
 means_recursive {w = w} {x = x} m =
     record { means = λ f y. one_level_more w x f (m.means f y); declared = λ h d. m.declared h (one_level w x d) }
 
--- What means one level of the value that `out` opens means the value.
-pub means_opened : {T O : Type 0} {e : Bool} (out : T → O) (v : O → Level T) {x : T} {o : O} {p : Showing} → out x ≡ o →
-    Means e p (level_shows (recursive (opened out v)) (v o)) → Means e p (recursive (opened out v) x)
+-- What means one level of what `out` opens means the value t whose level it is.
+pub means_opened : {T A O : Type 0} {e : Bool} {w : T → Level T} {t : T} (out : A → O) (v : O → Level T) {x : A} {o : O}
+    {p : Showing} → w t ≡ opened out v x → out x ≡ o → Means e p (level_shows (recursive w) (v o)) →
+    Means e p (recursive w t)
 unfolding opened
-means_opened {e = e} out v {p = p} is m =
-    means_recursive (subst (λ o. Means e p (level_shows (recursive (opened out v)) (v o))) (sym is) m)
+means_opened {e = e} {w = w} out v {p = p} at is m =
+    means_recursive (subst (λ l. Means e p (level_shows (recursive w) l)) (sym at)
+    (subst (λ o. Means e p (level_shows (recursive w) (v o))) (sym is) m))

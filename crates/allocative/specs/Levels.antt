@@ -46,8 +46,18 @@ pub record recursive {T : Type 0} (w : T → Level T) (x : T) (f : Forest) : Typ
   pub shown : levels_shown w depth x f
 
 -- The level of a value that `out` opens, where v gives that of what it opens to: an enum by its variant.
-unfoldable pub opened : {T O : Type 0} → (T → O) → (O → Level T) → T → Level T
+unfoldable pub opened : {T A O : Type 0} → (A → O) → (O → Level T) → A → Level T
 opened out v x = v (out x)
+
+-- A value of one of two types: of types that hold each other, or of one of them and of one of the others.
+pub data OneOf (A B : Type 0) : Type 0 where
+  first : A → OneOf A B
+  second : B → OneOf A B
+
+-- The level of a value of one of two types, each with its own.
+abbrev pub both_levels : {T A B : Type 0} → (A → Level T) → (B → Level T) → OneOf A B → Level T
+both_levels f g (first x) = f x
+both_levels f g (second y) = g y
 
 -- What a `Vec` shows of its items, which need a drop and have the declared size s, not 0, where w gives the level of
 -- an item.

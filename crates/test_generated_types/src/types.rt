@@ -96,19 +96,28 @@ pub enum Rope {
     Of(Vec<Rope>, String),
 }
 
-/// A chapter, with its first note and the others.
-#[cycle(chapters)]
+/// A job, and the jobs before it.
+#[cycle(jobs)]
 #[derive(Drop)]
-pub struct Chapter {
-    pub title: String,
-    pub first: Note,
-    pub notes: Vec<Note>,
+pub struct Job {
+    pub id: u64,
+    pub payload: Payload,
+    pub after: Vec<Job>,
 }
 
-/// A note, and the chapters in it.
-#[cycle(chapters)]
+/// What a job does.
+#[cycle(jobs)]
 #[derive(Drop)]
-pub struct Note {
-    pub chapters: Vec<Chapter>,
-    pub is_long: bool,
+pub enum Payload {
+    Nothing,
+    Steps(Vec<Job>),
+    When(Option<Trigger>),
+}
+
+/// What starts a job.
+#[cycle(jobs)]
+#[derive(Drop)]
+pub enum Trigger {
+    Nothing,
+    Done { job: Box<Job>, within: u64 },
 }

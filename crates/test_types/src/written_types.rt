@@ -4,7 +4,7 @@ use std::collections::{BTreeMap, HashMap};
 use std::test::Fail;
 use test_generated_types::placed::{Nowhere, OfOne};
 use test_generated_types::types::{
-    Category, Chapter, Event, Found, Json, Named, Note, Sextet, Table,
+    Category, Event, Found, Job, Json, Named, Payload, Sextet, Table, Trigger,
 };
 
 #[test]
@@ -114,23 +114,25 @@ fn a_struct_that_holds_itself(rt: HostRuntime) -> Result<(), Fail> {
 }
 
 #[test]
-fn structs_that_hold_each_other(rt: HostRuntime) -> Result<(), Fail> {
+fn types_that_hold_each_other(rt: HostRuntime) -> Result<(), Fail> {
     let alloc = rt.alloc();
-    let chapter = Chapter {
-        title: String::new(alloc),
-        first: Note {
-            chapters: Vec::new(alloc),
-            is_long: false,
-        },
-        notes: Vec::new(alloc),
+    let first = Job {
+        id: 1,
+        payload: Payload::Nothing,
+        after: Vec::new(alloc),
+    };
+    let text = "Job;after;Vec 24\nJob;id;u64 8\nJob;payload;Payload 40\n";
+    expect(&rt, &first, text, 72)?;
+    let trigger = Trigger::Done {
+        job: Box::new(alloc, first)?,
+        within: 5,
+    };
+    let later = Job {
+        id: 2,
+        payload: Payload::When(Some(trigger)),
+        after: Vec::new(alloc),
     };
     let text =
-        "Chapter;first;Note 7\nChapter;first;Note;chapters;Vec 24\nChapter;first;Note;is_long;bool 1\nChapter;notes;Vec 24\nChapter;title;String 16\nChapter;title;String;ptr 8\n";
-    expect(&rt, &chapter, text, 80)?;
-    let note = Note {
-        chapters: Vec::new(alloc),
-        is_long: true,
-    };
-    let text = "Note 7\nNote;chapters;Vec 24\nNote;is_long;bool 1\n";
-    expect(&rt, &note, text, 32)
+        "Job;after;Vec 24\nJob;id;u64 8\nJob;payload;Payload 8\nJob;payload;Payload;When;Option 8\nJob;payload;Payload;When;Option;Some;Trigger 8\nJob;payload;Payload;When;Option;Some;Trigger;Done;job;Box;ptr 8\nJob;payload;Payload;When;Option;Some;Trigger;Done;job;Box;ptr;Job;after;Vec 24\nJob;payload;Payload;When;Option;Some;Trigger;Done;job;Box;ptr;Job;id;u64 8\nJob;payload;Payload;When;Option;Some;Trigger;Done;job;Box;ptr;Job;payload;Payload 40\nJob;payload;Payload;When;Option;Some;Trigger;Done;within;u64 8\n";
+    expect_holding(&rt, &later, text, 144, 72)
 }

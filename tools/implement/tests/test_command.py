@@ -232,8 +232,17 @@ class CommandTest(unittest.TestCase):
             types = f"{held}#[derive(Drop)]\nstruct A(Vec<A>, {names});\n"
             self.assertEqual(self.run_it(types)[0], status)
         self.assertIn("A: it holds itself, and the 44 types that it reaches have too many fields", self.run_it(types)[2][0])
-        both = "#[cycle(m)]\n" + two.replace("a: Vec<A>,", "a: Vec<A>,\n    b: Vec<B>,").replace("}\n#", "}\n#[cycle(m)]\n#")
-        self.assertIn("B holds itself and A, which holds it", self.run_it(both)[2][0])
+        three = "#[derive(Drop)]\nenum C {\n    D,\n    E(Vec<A>),\n}\n"
+        both = "#[cycle(m)]\n" + two.replace("a: Vec<A>,", "a: Vec<A>,\n    b: Vec<B>,\n    c: Box<C>,").replace("}\n#", "}\n#[cycle(m)]\n#")
+        self.assertIn("A, B, C hold each other: write `#[cycle(NAME)]`", self.run_it(both + three)[2][0])
+        self.assertEqual(self.run_it(f"{both}#[cycle(n)]\n{three}")[0], 4)
+        self.run_it(f"{both}#[cycle(m)]\n{three}", "--output", self.crate)
+        output = self.get("src/a/shown.rt")
+        self.assertEqual(output.count("vec_in ⟦<BLayout as Described>⟧.size (λ y. child (second (first y))) (out-B x).b"), 3)
+        self.assertIn("ghost use Rattle.page.specs.declared.a.C.{C-F, out-C};\n", output)
+        answers = self.get("proofs/a/shown/+m/Answers.antt")
+        goals = re.findall(r"^pub (\S+) :", answers, re.M)
+        self.assertEqual(goals, [f"{name}Allocative::visit-returns{arm}" for name, arm in (("A", ""), ("B", ""), ("C", "-in-D"), ("C", "-in-E"))])
         queue = "use std::collections::*;\n#[derive(Drop)]\nstruct A {\n    a: VecDeque<A>,\n}\n"
         self.assertIn("holds the type itself in a way", self.run_it(queue)[2][0])
 

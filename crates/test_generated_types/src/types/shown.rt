@@ -3,13 +3,14 @@
 
 ghost use Rattle.std.specs.Prelude.{codes, true, ◌&&◌};
 ghost use Rattle.allocative.specs.Shows as shows;
-ghost use Rattle.allocative.specs.Levels.{both, box_of, btree_map_of, child, field, hash_map_of, level_shows, opened, option_in, pair_in, plain, recursive, vec_in};
+ghost use Rattle.allocative.specs.Levels.{both, both_levels, box_of, btree_map_of, child, field, first, hash_map_of, opened, option_in, pair_in, plain, recursive, second, vec_in};
 ghost use Rattle.allocative_tally.specs.Shapes.{Beside, EntryAt, Wide};
 ghost use Rattle.test_generated_types.specs.declared.types.Category.{out-Category};
-ghost use Rattle.test_generated_types.specs.declared.types.Chapter.{out-Chapter};
-ghost use Rattle.test_generated_types.specs.declared.types.Json.{out-Json};
-ghost use Rattle.test_generated_types.specs.declared.types.Note.{out-Note};
-ghost use Rattle.test_generated_types.specs.declared.types.Rope.{out-Rope};
+ghost use Rattle.test_generated_types.specs.declared.types.Job.{out-Job};
+ghost use Rattle.test_generated_types.specs.declared.types.Json.{Json-F, out-Json};
+ghost use Rattle.test_generated_types.specs.declared.types.Payload.{Payload-F, out-Payload};
+ghost use Rattle.test_generated_types.specs.declared.types.Rope.{Rope-F, out-Rope};
+ghost use Rattle.test_generated_types.specs.declared.types.Trigger.{Trigger-F, out-Trigger};
 
 use super::*;
 use allocative::{
@@ -575,8 +576,6 @@ impl Described for Json {
 }
 
 impl Allocative for Json {
-    ghost use Rattle.test_generated_types.specs.declared.types.Json.TheOpen.{Json-F};
-
     ghost may_show = { recursive (opened out-Json (λ x. field (codes "Json") ⟦<JsonLayout as Described>⟧.size (elim x [
       | Json-F.Null ↦ plain shows.Nothing
       | Json-F.Bool a ↦ plain (shows.Field (codes "Bool") ⟦<bool as Described>⟧.size (⟦<bool as Allocative>⟧.may_show a))
@@ -665,8 +664,6 @@ impl Described for Rope {
 }
 
 impl Allocative for Rope {
-    ghost use Rattle.test_generated_types.specs.declared.types.Rope.TheOpen.{Rope-F};
-
     ghost may_show = { recursive (opened out-Rope (λ x. field (codes "Rope") ⟦<RopeLayout as Described>⟧.size (elim x [
       | Rope-F.Of a b ↦ field (codes "Of") ⟦<RopeOfFields as Described>⟧.size (both
           (field (codes "0") ⟦<Vec<()> as Described>⟧.size (vec_in ⟦<RopeLayout as Described>⟧.size child a))
@@ -687,99 +684,190 @@ impl Allocative for Rope {
     }
 }
 
-type ChapterLayout = Record<(String, (NoteLayout, (Vec<()>, ())))>;
+type JobLayout = Record<(u64, (PayloadLayout, (Vec<()>, ())))>;
 
-impl Described for Chapter {
-    ghost name = { codes "Chapter" };
+impl Described for Job {
+    ghost name = { codes "Job" };
 
-    ghost align = { ⟦<ChapterLayout as Described>⟧.align };
+    ghost align = { ⟦<JobLayout as Described>⟧.align };
 
-    ghost needs_drop = { ⟦<ChapterLayout as Described>⟧.needs_drop };
+    ghost needs_drop = { ⟦<JobLayout as Described>⟧.needs_drop };
 
-    ghost size = { ⟦<ChapterLayout as Described>⟧.size };
+    ghost size = { ⟦<JobLayout as Described>⟧.size };
 
     fn name() -> &'static str {
-        "Chapter"
+        "Job"
     }
 
     fn align() -> usize {
-        <ChapterLayout>::align()
+        <JobLayout>::align()
     }
 
     fn needs_drop() -> bool {
-        <ChapterLayout>::needs_drop()
+        <JobLayout>::needs_drop()
     }
 
     fn size() -> Option<usize> {
-        <ChapterLayout>::size()
+        <JobLayout>::size()
     }
 }
 
-impl Allocative for Chapter {
-    ghost may_show = { recursive (λ x. field (codes "Chapter") ⟦<ChapterLayout as Described>⟧.size (both
-        (plain (shows.Field (codes "title") ⟦<String as Described>⟧.size (⟦<String as Allocative>⟧.may_show (out-Chapter x).title))) (both
-        (field (codes "first") ⟦<NoteLayout as Described>⟧.size (field (codes "Note") ⟦<NoteLayout as Described>⟧.size (both
-        (field (codes "chapters") ⟦<Vec<()> as Described>⟧.size (vec_in ⟦<ChapterLayout as Described>⟧.size child (out-Note (out-Chapter x).first).chapters))
-        (plain (shows.Field (codes "is_long") ⟦<bool as Described>⟧.size (⟦<bool as Allocative>⟧.may_show (out-Note (out-Chapter x).first).is_long))))))
-        (field (codes "notes") ⟦<Vec<()> as Described>⟧.size (vec_in ⟦<NoteLayout as Described>⟧.size (λ y. field (codes "Note") ⟦<NoteLayout as Described>⟧.size (both
-        (field (codes "chapters") ⟦<Vec<()> as Described>⟧.size (vec_in ⟦<ChapterLayout as Described>⟧.size child (out-Note y).chapters))
-        (plain (shows.Field (codes "is_long") ⟦<bool as Described>⟧.size (⟦<bool as Allocative>⟧.may_show (out-Note y).is_long))))) (out-Chapter x).notes))))) };
+impl Allocative for Job {
+    ghost may_show = { λ x. recursive (both_levels
+        (λ x. field (codes "Job") ⟦<JobLayout as Described>⟧.size (both
+        (plain (shows.Field (codes "id") ⟦<u64 as Described>⟧.size (⟦<u64 as Allocative>⟧.may_show (out-Job x).id))) (both
+        (field (codes "payload") ⟦<PayloadLayout as Described>⟧.size (child (second (first (out-Job x).payload))))
+        (field (codes "after") ⟦<Vec<()> as Described>⟧.size (vec_in ⟦<JobLayout as Described>⟧.size (λ y. child (first y)) (out-Job x).after)))))
+        (both_levels
+        (opened out-Payload (λ x. field (codes "Payload") ⟦<PayloadLayout as Described>⟧.size (elim x [
+          | Payload-F.Payload::Nothing ↦ plain shows.Nothing
+          | Payload-F.Steps a ↦ field (codes "Steps") ⟦<Vec<()> as Described>⟧.size (vec_in ⟦<JobLayout as Described>⟧.size (λ y. child (first y)) a)
+          | Payload-F.When a ↦ field (codes "When") ⟦<Option<TriggerLayout> as Described>⟧.size (option_in ⟦<Option<TriggerLayout> as Described>⟧.size ⟦<TriggerLayout as Described>⟧.size (λ y. child (second (second y))) a)
+        ])))
+        (opened out-Trigger (λ x. field (codes "Trigger") ⟦<TriggerLayout as Described>⟧.size (elim x [
+          | Trigger-F.Trigger::Nothing ↦ plain shows.Nothing
+          | Trigger-F.Done a b ↦ field (codes "Done") ⟦<TriggerDoneFields as Described>⟧.size (both
+              (field (codes "job") ⟦<Box<()> as Described>⟧.size (box_of (child (first a.value))))
+              (plain (shows.Field (codes "within") ⟦<u64 as Described>⟧.size (⟦<u64 as Allocative>⟧.may_show b))))
+        ]))))) (first x) };
 
     ghost is_strict = { true };
 
-    #[cycle(chapters)]
+    #[cycle(jobs)]
     fn visit(&self, visitor: &mut Visitor<'_>) -> Result<(), Refusal> {
-        let title = Field("title", &self.title);
-        let first = Field("first", &self.first);
-        let notes = Field("notes", &self.notes);
-        Declared(
-            "Chapter",
-            <Self as Described>::size(),
-            (title, first, notes),
-        )
-        .enter(visitor)
+        let id = Field("id", &self.id);
+        let payload = Field("payload", &self.payload);
+        let after = Field("after", &self.after);
+        Declared("Job", <Self as Described>::size(), (id, payload, after)).enter(visitor)
     }
 }
 
-type NoteLayout = Record<(Vec<()>, (bool, ()))>;
+type PayloadLayout = Record<(u8, Or<(Vec<()>, ()), (Option<TriggerLayout>, ())>)>;
 
-impl Described for Note {
-    ghost name = { codes "Note" };
+impl Described for Payload {
+    ghost name = { codes "Payload" };
 
-    ghost align = { ⟦<NoteLayout as Described>⟧.align };
+    ghost align = { ⟦<PayloadLayout as Described>⟧.align };
 
-    ghost needs_drop = { ⟦<NoteLayout as Described>⟧.needs_drop };
+    ghost needs_drop = { ⟦<PayloadLayout as Described>⟧.needs_drop };
 
-    ghost size = { ⟦<NoteLayout as Described>⟧.size };
+    ghost size = { ⟦<PayloadLayout as Described>⟧.size };
 
     fn name() -> &'static str {
-        "Note"
+        "Payload"
     }
 
     fn align() -> usize {
-        <NoteLayout>::align()
+        <PayloadLayout>::align()
     }
 
     fn needs_drop() -> bool {
-        <NoteLayout>::needs_drop()
+        <PayloadLayout>::needs_drop()
     }
 
     fn size() -> Option<usize> {
-        <NoteLayout>::size()
+        <PayloadLayout>::size()
     }
 }
 
-impl Allocative for Note {
-    ghost may_show = { λ x. shows.Field (codes "Note") ⟦<NoteLayout as Described>⟧.size (shows.Both
-        (shows.Field (codes "chapters") ⟦<Vec<()> as Described>⟧.size (level_shows ⟦<Chapter as Allocative>⟧.may_show (vec_in ⟦<ChapterLayout as Described>⟧.size child (out-Note x).chapters)))
-        (shows.Field (codes "is_long") ⟦<bool as Described>⟧.size (⟦<bool as Allocative>⟧.may_show (out-Note x).is_long))) };
+impl Allocative for Payload {
+    ghost may_show = { λ x. recursive (both_levels
+        (λ x. field (codes "Job") ⟦<JobLayout as Described>⟧.size (both
+        (plain (shows.Field (codes "id") ⟦<u64 as Described>⟧.size (⟦<u64 as Allocative>⟧.may_show (out-Job x).id))) (both
+        (field (codes "payload") ⟦<PayloadLayout as Described>⟧.size (child (second (first (out-Job x).payload))))
+        (field (codes "after") ⟦<Vec<()> as Described>⟧.size (vec_in ⟦<JobLayout as Described>⟧.size (λ y. child (first y)) (out-Job x).after)))))
+        (both_levels
+        (opened out-Payload (λ x. field (codes "Payload") ⟦<PayloadLayout as Described>⟧.size (elim x [
+          | Payload-F.Payload::Nothing ↦ plain shows.Nothing
+          | Payload-F.Steps a ↦ field (codes "Steps") ⟦<Vec<()> as Described>⟧.size (vec_in ⟦<JobLayout as Described>⟧.size (λ y. child (first y)) a)
+          | Payload-F.When a ↦ field (codes "When") ⟦<Option<TriggerLayout> as Described>⟧.size (option_in ⟦<Option<TriggerLayout> as Described>⟧.size ⟦<TriggerLayout as Described>⟧.size (λ y. child (second (second y))) a)
+        ])))
+        (opened out-Trigger (λ x. field (codes "Trigger") ⟦<TriggerLayout as Described>⟧.size (elim x [
+          | Trigger-F.Trigger::Nothing ↦ plain shows.Nothing
+          | Trigger-F.Done a b ↦ field (codes "Done") ⟦<TriggerDoneFields as Described>⟧.size (both
+              (field (codes "job") ⟦<Box<()> as Described>⟧.size (box_of (child (first a.value))))
+              (plain (shows.Field (codes "within") ⟦<u64 as Described>⟧.size (⟦<u64 as Allocative>⟧.may_show b))))
+        ]))))) (second (first x)) };
 
     ghost is_strict = { true };
 
-    #[cycle(chapters)]
+    #[cycle(jobs)]
     fn visit(&self, visitor: &mut Visitor<'_>) -> Result<(), Refusal> {
-        let chapters = Field("chapters", &self.chapters);
-        let is_long = Field("is_long", &self.is_long);
-        Declared("Note", <Self as Described>::size(), (chapters, is_long)).enter(visitor)
+        match self {
+            Payload::Nothing => Declared("Payload", <Self as Described>::size(), ()).enter(visitor),
+            Payload::Steps(a) => {
+                let a = Field("Steps", a);
+                Declared("Payload", <Self as Described>::size(), a).enter(visitor)
+            }
+            Payload::When(a) => {
+                let a = Field("When", a);
+                Declared("Payload", <Self as Described>::size(), a).enter(visitor)
+            }
+        }
+    }
+}
+
+type TriggerLayout = Record<(u8, (Box<()>, (u64, ())))>;
+
+type TriggerDoneFields = Record<(Box<()>, (u64, ()))>;
+
+impl Described for Trigger {
+    ghost name = { codes "Trigger" };
+
+    ghost align = { ⟦<TriggerLayout as Described>⟧.align };
+
+    ghost needs_drop = { ⟦<TriggerLayout as Described>⟧.needs_drop };
+
+    ghost size = { ⟦<TriggerLayout as Described>⟧.size };
+
+    fn name() -> &'static str {
+        "Trigger"
+    }
+
+    fn align() -> usize {
+        <TriggerLayout>::align()
+    }
+
+    fn needs_drop() -> bool {
+        <TriggerLayout>::needs_drop()
+    }
+
+    fn size() -> Option<usize> {
+        <TriggerLayout>::size()
+    }
+}
+
+impl Allocative for Trigger {
+    ghost may_show = { λ x. recursive (both_levels
+        (λ x. field (codes "Job") ⟦<JobLayout as Described>⟧.size (both
+        (plain (shows.Field (codes "id") ⟦<u64 as Described>⟧.size (⟦<u64 as Allocative>⟧.may_show (out-Job x).id))) (both
+        (field (codes "payload") ⟦<PayloadLayout as Described>⟧.size (child (second (first (out-Job x).payload))))
+        (field (codes "after") ⟦<Vec<()> as Described>⟧.size (vec_in ⟦<JobLayout as Described>⟧.size (λ y. child (first y)) (out-Job x).after)))))
+        (both_levels
+        (opened out-Payload (λ x. field (codes "Payload") ⟦<PayloadLayout as Described>⟧.size (elim x [
+          | Payload-F.Payload::Nothing ↦ plain shows.Nothing
+          | Payload-F.Steps a ↦ field (codes "Steps") ⟦<Vec<()> as Described>⟧.size (vec_in ⟦<JobLayout as Described>⟧.size (λ y. child (first y)) a)
+          | Payload-F.When a ↦ field (codes "When") ⟦<Option<TriggerLayout> as Described>⟧.size (option_in ⟦<Option<TriggerLayout> as Described>⟧.size ⟦<TriggerLayout as Described>⟧.size (λ y. child (second (second y))) a)
+        ])))
+        (opened out-Trigger (λ x. field (codes "Trigger") ⟦<TriggerLayout as Described>⟧.size (elim x [
+          | Trigger-F.Trigger::Nothing ↦ plain shows.Nothing
+          | Trigger-F.Done a b ↦ field (codes "Done") ⟦<TriggerDoneFields as Described>⟧.size (both
+              (field (codes "job") ⟦<Box<()> as Described>⟧.size (box_of (child (first a.value))))
+              (plain (shows.Field (codes "within") ⟦<u64 as Described>⟧.size (⟦<u64 as Allocative>⟧.may_show b))))
+        ]))))) (second (second x)) };
+
+    ghost is_strict = { true };
+
+    #[cycle(jobs)]
+    fn visit(&self, visitor: &mut Visitor<'_>) -> Result<(), Refusal> {
+        match self {
+            Trigger::Nothing => Declared("Trigger", <Self as Described>::size(), ()).enter(visitor),
+            Trigger::Done { job, within } => {
+                let job = Field("job", job);
+                let within = Field("within", within);
+                let inside = Declared("Done", <TriggerDoneFields>::size(), (job, within));
+                Declared("Trigger", <Self as Described>::size(), inside).enter(visitor)
+            }
+        }
     }
 }

@@ -6,12 +6,12 @@ use Rattle.allocative_tally.proofs.Counting.{tallies_as}
 use Rattle.allocative_tally.proofs.Fields.{both_counted, field_counted, holding, whole_counted}
 use Rattle.test_generated_types.proofs.types.shown.CartTallied.tally.Goals as goal
 
-variant : (x : Cart) → (a : _) × (b : _) × (x ≡ BoughtItems a b)
-variant (BoughtItems a b) = (a, b, refl)
+variant-Cart : (x : Cart) → (a : _) × (b : _) × (x ≡ BoughtItems a b)
+variant-Cart (BoughtItems a b) = (a, b, refl)
 
 pub returns : goal.returns
 returns c =
-    tallies_as (λ f. rw (variant c.args.self.now).2 (λ x. x))
+    tallies_as (λ f. rw (variant-Cart c.args.self.now).2 (λ x. x))
     (whole_counted c.size.ensures c.in_ok-count_own.ensures.ok
     (whole_counted c.size-2.ensures c.in_ok-count_own-2.ensures.ok
     (both_counted
