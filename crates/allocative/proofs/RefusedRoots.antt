@@ -1,6 +1,6 @@
 -- A root that is refused after others: it may be refused only if the whole list of roots may be.
 use Rattle.std.proofs.Common.{◌≡◌, ℕ, ◌+◌, ◌<◌, ◌^◌, List, [], ◌∷◌, ◌++◌, length, take, drop, get_or, Bool, true, false}
-use Rattle.std.proofs.Common.{IsTrue, Result, Ok, Err, refl, ap, sym, subst, ◌∙◌}
+use Rattle.std.proofs.Common.{IsTrue, Result, Ok, Err, IfErr, inr, refl, ap, sym, subst, ◌∙◌}
 use Rattle.allocative.proofs.Common.{Refusal, Forest, Kind, OfGraph, OfHeld, OfOwned, State, Failed, Going, plus}
 use Rattle.allocative.proofs.Common.{is_graph, begin, Showing, Both, each_shows, VisitsRoot, all_bytes, HasRoomFor}
 use Rattle.allocative.proofs.Common.{CanTake, MayRefuse, RootFailsOnlyIfFull}
@@ -10,6 +10,8 @@ use Rattle.std.proofs.lemmas.List.Folds.{list_all_at}
 use Rattle.allocative_graph.specs.Collector.{go}
 use Rattle.allocative_graph.proofs.Plus.{is_graph-plus, is_graph-begin}
 use Rattle.allocative.proofs.Strict.{bytes_entered-plus, can_first, can_second, may_refuse, each_append, declared_append}
+use Rattle.allocative.specs.RefusedVisits.{RefusesVisit, RefusesVisits}
+use Rattle.allocative.specs.Visited.{Effect}
 pub use Rattle.allocative.proofs.Closures.{same_err}
 use Rattle.allocative.proofs.Within.{around_item}
 
@@ -50,6 +52,20 @@ pub only_if_full_indexed : {T : Type 0} (w y : Bool) (p : T → Showing) (xs : L
     x ≡ get_or xs i x → RootFailsOnlyIfFull w (each_shows p xs) s r t
 only_if_full_indexed w y p xs i x s m t u {e} only err g k l is =
     rw (← around_item xs i x l is, err) (only_if_full_among w y p (take i xs) x (drop (i + 1) xs) s m t u e only g k)
+
+-- The root with this index is refused with what its visit left, after the roots before it were visited.
+pub refused_indexed : {T : Type 0} (p : T → Showing) (effect : T → Effect) (xs : List T) (i : ℕ) (x : T) (s m : State)
+    {e : Refusal} {r : Result Unit Refusal} → r ≡ Err e → VisitsRoot (each_shows p (take i xs)) s (Ok tt) m →
+    RefusesVisit (p x) (effect x) m e → i < length xs → x ≡ get_or xs i x → IfErr r (RefusesVisits p effect xs s)
+refused_indexed p effect xs i x s m err k h l is = rw err (inr (record {
+  before = take i xs;
+  root = x;
+  after = drop (i + 1) xs;
+  are = sym (around_item xs i x l is);
+  left = m;
+  visited = k;
+  refused = h;
+}))
 
 -- If all roots are strict, so is the root with this index.
 pub one_of_all : {T : Type 0} (q : T → Bool) (xs : List T) (i : ℕ) (x : T) → i < length xs → x ≡ get_or xs i x →

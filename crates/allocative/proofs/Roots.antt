@@ -1,7 +1,7 @@
 -- What a visit by a root visitor amounts to.
 use Rattle.std.proofs.Common.{◌≡◌, ℕ, suc, min, ◌+◌, ◌-◌, ◌<◌, ◌≤◌, ◌^◌, inl, inr, Option, Some, None, List, length}
 use Rattle.std.proofs.Common.{take, get_or, Bool, IsTrue, Result, Ok, Err, IsErr, refl, ap, sym, subst, ◌∙◌, arith}
-use Rattle.std.proofs.Common.{IfOk}
+use Rattle.std.proofs.Common.{IfOk, IfErr}
 use Rattle.allocative.proofs.Common.{Outer, Refusal, TooLarge, Forest, followed_by, add_all, held, ShowsNoContent, Kind}
 use Rattle.allocative.proofs.Common.{OfGraph, OfHeld, OfOwned, State, Failed, Going, leave, plus, Takes, visitors}
 use Rattle.allocative.proofs.Common.{is_graph, begin, outer_of, close_entry, nothing_held, nothing_owned, Showing, Both}
@@ -9,6 +9,8 @@ use Rattle.allocative.proofs.Common.{each_shows, AddsForest, refused, hidden, fo
 use Rattle.allocative.proofs.Common.{Profile, IsProfileOf, IsHeldSum, MayRefuse, FailsOnlyIfFull, has_added}
 use Rattle.allocative.proofs.Common.{has_refused, RootFailsOnlyIfFull, ClosesEntry}
 use Rattle.allocative.specs.SizeOf.{AnswersSize, AnswersVisit, AnswersVisitOf, AnswersOwned, IsSizeOfOwned}
+use Rattle.allocative.specs.RefusedVisits.{RefusesVisit}
+use Rattle.allocative.specs.Built.{as_graph}
 use Rattle.allocative.specs.Closures.{AnswersSum}
 use Rattle.allocative.proofs.Within.{err_or, same_err}
 use Rattle.allocative.specs.Visited.{Effect, WasVisited, VisitsRootWithEffect, not_begun, root_visited}
@@ -126,8 +128,8 @@ owned_by_visit p (Going b) (Going c) u n e (z, f, a, t, g) k =
     (f, a, t', omega (arith, k'))
 
 -- What is answered of the bytes that a visit left, from a collector to which nothing was added.
-visit_answered_of : (z : Kind) {p : Showing} {effect : Effect} (answers : State → Result ℕ Refusal → Type 0)
-    {s t : State} {q : Result Unit Refusal} {r : Result ℕ Refusal} →
+visit_answered_of : {T : Type 0} (z : Kind) {p : Showing} {effect : Effect} (answers : State → Result T Refusal → Type 0)
+    {s t : State} {q : Result Unit Refusal} {r : Result T Refusal} →
     IsClosed z → outer_of 0 z ≡ no_outer → VisitsRootWithEffect p effect s t q → s ≡ Going z →
     (Settles t q → answers t r) → AnswersVisitOf z p effect answers r
 visit_answered_of z answers closed none (not_begun x b) is up = absurd ((rw is at b).1 closed)
@@ -206,6 +208,16 @@ size_too_large {size = size} n {own = own} v is h y l = visit_answered (AnswersS
       rw (← same) l,
 ))
 
+-- A root that is refused at a closed collector of a flame graph is refused with what its visit left.
+pub root_refused : {p : Showing} {effect : Effect} (s : State) {t : State} {u : Unit} (r : Result Unit Refusal) →
+    Settles (as_graph s) (Ok u) → VisitsRootWithEffect p effect s t r → IfErr r (RefusesVisit p effect (as_graph s))
+root_refused s (Ok v) k h = tt
+root_refused (Failed x) (Err e) k h = absurd (cc)
+root_refused (Going (OfGraph c)) (Err e) k h =
+    inr (OfGraph c, refl, visit_answered_of (OfGraph c) Settles k refl h refl (λ y. y))
+root_refused (Going (OfHeld k)) (Err e) h v = absurd (cc)
+root_refused (Going (OfOwned k)) (Err e) h v = absurd (cc)
+
 -- Two runs are one of all that r allows, if r allows what both show.
 visits_joined : {p q r : Showing} (s m t : State) (u v w : Unit) → ((f : Forest) → Both p q f → r f) →
     VisitsRoot p s (Ok u) m → VisitsRoot q m (Ok v) t → VisitsRoot r s (Ok w) t
@@ -268,4 +280,4 @@ sum_of_profiles p q o o' m a b e =
     }
 
 -- The rules for visits of roots.
-pub ruleset running = (visits_one_more, profile_ended, sum_of_profiles)
+pub ruleset running = (visits_one_more, profile_ended, sum_of_profiles, root_refused)

@@ -17,6 +17,7 @@ pub mod Lending
 pub mod Nested
 pub mod Built
 pub mod Rooted
+pub mod RefusedVisits
 pub mod SizeOf
 pub mod InTwo
 -- The definitions of the crates below are exported again.

@@ -49,8 +49,8 @@ AnswersSize size s (Err e) = Settles s (Err e) ⊎ ((sum : ℕ) × AnswersSum s 
 
 -- A visit of this effect, which shows p, was made by a root visitor of the collector b, and the visitor was left. The
 -- result is what is answered of the collector then.
-pub record AnswersVisitOf (b : Kind) (p : Showing) (effect : Effect) (answers : State → Result ℕ Refusal → Type 0)
-    (result : Result ℕ Refusal) : Type 0 where
+pub record AnswersVisitOf {T : Type 0} (b : Kind) (p : Showing) (effect : Effect)
+    (answers : State → Result T Refusal → Type 0) (result : Result T Refusal) : Type 0 where
   pub after : State
   pub visited : WasVisited p effect (Going (begin b)) after
   pub answer : answers (close_entry no_outer after) result

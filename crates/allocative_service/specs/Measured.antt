@@ -1,10 +1,13 @@
 -- The bytes that are counted of a value.
-use Rattle.std.specs.Prelude.{◌≡◌, ℕ, Bool, Option}
+use Rattle.std.specs.Prelude.{◌≡◌, ℕ, Bool, Option, Result, IfErr}
 use Rattle.allocative.specs.Strict.{MayRefuseProfile}
 use Rattle.allocative.specs.Graph.{Graph, total}
 use Rattle.allocative.specs.Refusal.{Refusal}
 use Rattle.allocative.specs.Shows.{Showing}
-use Rattle.allocative.specs.SizeOf.{IsSizeOfOwned, IsSizeOfUnique, MayRefuseOwned, MayRefuseSize}
+use Rattle.allocative.specs.SizeOf.{IsSizeOfOwned, IsSizeOfUnique, MayRefuseOwned, MayRefuseSize, AnswersOwned}
+use Rattle.allocative.specs.SizeOf.{AnswersSize, AnswersVisit}
+use Rattle.allocative.specs.RefusedVisits.{RefusesVisit, RefusesProfile}
+use Rattle.allocative.specs.Visited.{Effect}
 use Rattle.allocative.specs.Visits.{IsGraphOf}
 use Rattle.allocative_service.specs.declared.measure.Measure.{Measure}
 use Rattle.allocative_service.specs.declared.measure.Measure.TheVariants.{Owned, Shown, Unique}
@@ -25,3 +28,10 @@ abbrev pub MayRefuseMeasure : Measure → Bool → Option ℕ → Showing → Re
 MayRefuseMeasure Owned is_strict size p e = MayRefuseOwned is_strict p e
 MayRefuseMeasure Shown is_strict size p e = MayRefuseProfile is_strict p e
 MayRefuseMeasure Unique is_strict size p e = MayRefuseSize is_strict size p e
+
+-- What is answered, by the measure, of a value of a declared size: that of `size_of_owned`, or of `size_of_unique`, after
+-- a visit of this effect, which shows p; an error of `size_of_shown` is one of a profile after such a visit.
+abbrev pub AnswersMeasure : Measure → Option ℕ → Showing → Effect → Result ℕ Refusal → Type 0
+AnswersMeasure Owned size p effect result = AnswersOwned p effect result
+AnswersMeasure Shown size p effect result = IfErr result (RefusesProfile (RefusesVisit p effect))
+AnswersMeasure Unique size p effect result = AnswersVisit p effect (AnswersSize size) result

@@ -12,8 +12,8 @@ use crate::tally::Tallied;
 use allocative::{FlameGraphOutput, Refusal, profile_value};
 use std::alloc::Global;
 
-/// Graph and warnings of one value, as `profile_value` gives them, with the same promise. The value is counted first,
-/// and each path is entered once.
+/// Graph and warnings of one value, as `profile_value` gives them, with the same promise but the clause `answer`. The
+/// value is counted first, and each path is entered once.
 ///
 /// ```
 /// let output = profile_counted(alloc, &names)?;
@@ -26,8 +26,8 @@ pub fn profile_counted<T: Tallied>(alloc: Global, root: &T) -> Result<FlameGraph
     profile_value(alloc, &CountedValue(root))
 }
 
-/// Graph and warnings of roots of one type, as `profile_values` gives them, with the same promise. The roots are
-/// counted first, all in one tally, and each path is entered once.
+/// Graph and warnings of roots of one type, as `profile_values` gives them, with the same promise but the clause
+/// `answer`. The roots are counted first, all in one tally, and each path is entered once.
 ///
 /// ```
 /// let output = profile_counted_values(alloc, orders.as_slice())?;

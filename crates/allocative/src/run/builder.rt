@@ -1,4 +1,5 @@
 //! Builders of flame graphs.
+#![tactic(auto, using(crate::proofs::Roots::running))]
 
 ghost use Rattle.std.specs.Prelude.{◌<◌, ◌^◌, ◌≡◌, Ok, Err, IfOk, IfErr, MatchResult, string_bytes};
 ghost use Rattle.allocative_graph.specs.Graph.{text, graph, total};
@@ -6,6 +7,7 @@ ghost use Rattle.allocative_graph.specs.Collector.{Going, OfGraph, no_entries};
 ghost use Rattle.allocative_graph.specs.Visits.{VisitsRoot, Settles, Ends, IsProfile};
 ghost use Rattle.allocative.specs.Built.{as_graph};
 ghost use Rattle.allocative.specs.Strict.{RootFailsOnlyIfFull};
+ghost use Rattle.allocative.specs.RefusedVisits.{RefusesVisit};
 ghost use Rattle.allocative.specs.Rooted.{LendsBuilt, LendsRoot};
 ghost use Rattle.allocative.specs.Visited.{OpensRootAt};
 ghost use Rattle.std.specs.Borrow.{sem};
@@ -90,17 +92,20 @@ impl FlameGraphBuilder {
         ensures visits_root { VisitsRoot (may_show root.now) self.old result self.new }
         ensures only_if_full { RootFailsOnlyIfFull (Allocative-dyn root.now).is_strict
             (may_show root.now) self.old result self.new }
+        ensures answer { IfErr result (RefusesVisit (may_show root.now) (effect root.now) self.old) }
     {
         self.check()?;
         self.collector.visit_object(root)
     }
 
-    /// Visits a root whose type is known, without a trait object. What it returns and changes, and what a root of an
+    /// Visits a root whose type is known, without a trait object. What it returns and changes, and what a root of a
     /// strict type is refused for, is as in `visit_root`.
     pub fn visit_value<T: Allocative>(&mut self, root: &T) -> Result<(), Refusal>
         ensures visits_root { VisitsRoot (T.may_show root.now) self.old result self.new }
         ensures only_if_full { RootFailsOnlyIfFull T.is_strict (T.may_show root.now)
             self.old result self.new }
+        ensures answer { IfErr result
+            (RefusesVisit (T.may_show root.now) (T.effect root.now) self.old) }
     {
         self.check()?;
         self.collector.visit_value(root)

@@ -6,6 +6,7 @@ ghost use Rattle.allocative_graph.specs.Graph.{total};
 ghost use Rattle.allocative_graph.specs.Shows.{each_shows};
 ghost use Rattle.allocative_graph.specs.Visits.{VisitsRoot, IsProfileOf};
 ghost use Rattle.allocative.specs.Strict.{MayRefuseProfile, RootFailsOnlyIfFull};
+ghost use Rattle.allocative.specs.RefusedVisits.{RefusesVisit, RefusesVisits, RefusesProfile};
 
 use crate::{Allocative, FlameGraphBuilder, FlameGraphOutput, Refusal};
 use std::alloc::Global;
@@ -20,6 +21,7 @@ impl FlameGraphBuilder {
             self.old result self.new }
         ensures only_if_full { RootFailsOnlyIfFull T.is_strict (each_shows T.may_show roots.now)
             self.old result self.new }
+        ensures answer { IfErr result (RefusesVisits T.may_show T.effect roots.now self.old) }
     {
         self.check()?;
         for root in roots {
@@ -33,9 +35,9 @@ impl FlameGraphBuilder {
 ///
 /// A struct that owns the parts of a service is profiled so, from a method of its own. The promise is that of
 /// `profile_roots`, for what the value may show. It makes no trait object, so any function may hold the value and
-/// pass it on. The graph's total is at most `isize::MAX` bytes. It is refused for want of memory, or as the value's
-/// own visit is. A value of a strict type is refused only with `Memory`, or with `TooLarge` if a flame graph cannot
-/// take all that the value may show.
+/// pass it on. The graph's total is at most `isize::MAX` bytes. The error is `Memory` for want of memory, or the first
+/// cause of the value's own visit, or `Open` if that forgot a visitor. A value of a strict type is refused only with
+/// `Memory`, or with `TooLarge` if a flame graph cannot take all that the value may show.
 ///
 /// ```
 /// let output = profile_value(alloc, &Some(7u32))?;
@@ -44,6 +46,8 @@ impl FlameGraphBuilder {
 pub fn profile_value<T: Allocative>(alloc: Global, root: &T) -> Result<FlameGraphOutput, Refusal>
     ensures profile { IfOk result (IsProfileOf (T.may_show root.now)) }
     ensures refused { IfErr result (MayRefuseProfile T.is_strict (T.may_show root.now)) }
+    ensures answer { IfErr result
+        (RefusesProfile (RefusesVisit (T.may_show root.now) (T.effect root.now))) }
     ensures total { IfOk result (λ o. total o.graph < 2 ^ 63) }
 {
     let mut builder = FlameGraphBuilder::new(alloc)?;
@@ -65,6 +69,8 @@ pub fn profile_values<T: Allocative>(
     ensures profile { IfOk result (IsProfileOf (each_shows T.may_show roots.now)) }
     ensures refused { IfErr result
         (MayRefuseProfile T.is_strict (each_shows T.may_show roots.now)) }
+    ensures answer { IfErr result
+        (RefusesProfile (RefusesVisits T.may_show T.effect roots.now)) }
     ensures total { IfOk result (λ o. total o.graph < 2 ^ 63) }
 {
     let mut builder = FlameGraphBuilder::new(alloc)?;

@@ -6,6 +6,7 @@ ghost use Rattle.allocative_graph.specs.Shows.{each_shows};
 ghost use Rattle.allocative.specs.Roots.{roots_of, are_strict};
 ghost use Rattle.allocative_graph.specs.Visits.{VisitsRoot, IsProfileOf};
 ghost use Rattle.allocative.specs.Strict.{MayRefuseProfile, RootFailsOnlyIfFull};
+ghost use Rattle.allocative.specs.RefusedVisits.{RefusesVisits, RefusesProfile};
 
 use crate::{Allocative, FlameGraphBuilder, FlameGraphOutput, Refusal};
 use std::alloc::Global;
@@ -75,6 +76,8 @@ impl FlameGraphBuilder {
             self.old result self.new }
         ensures only_if_full { RootFailsOnlyIfFull (are_strict Allocative-box registry.now)
             (each_shows may_show (roots_of registry.now)) self.old result self.new }
+        ensures answer { IfErr result
+            (RefusesVisits may_show effect (roots_of registry.now) self.old) }
     {
         self.check()?;
         let roots = registry.roots();
@@ -90,13 +93,16 @@ impl FlameGraphBuilder {
 /// The graph has exactly the paths of the roots' own entries and, once for each identity reached, of the first
 /// content shown for it; each path has its declared bytes less those declared one step below, never below zero, or
 /// all if it was ever unique. The warnings have a line for each path but the root that was never unique and has
-/// fewer bytes than stand one key below. It is refused for want of memory, or as a root's own visit is. If the types
-/// of all roots are strict, it is refused only with `Memory`, or with `TooLarge` if a flame graph cannot take all that
-/// the roots may show together.
+/// fewer bytes than stand one key below. The error is `Memory` for want of memory, or that of the first root that is
+/// refused: the first cause of its own visit, or `Open` if that forgot a visitor. If the types of all roots are strict,
+/// it is refused only with `Memory`, or with `TooLarge` if a flame graph cannot take all that the roots may show
+/// together.
 pub fn profile_roots(registry: &Registry) -> Result<FlameGraphOutput, Refusal>
     ensures profile { IfOk result (IsProfileOf (each_shows may_show (roots_of registry.now))) }
     ensures refused { IfErr result (MayRefuseProfile (are_strict Allocative-box registry.now)
         (each_shows may_show (roots_of registry.now))) }
+    ensures answer { IfErr result
+        (RefusesProfile (RefusesVisits may_show effect (roots_of registry.now))) }
 {
     let mut builder = FlameGraphBuilder::new(*registry.roots.allocator())?;
     builder.visit_global_roots(registry)?;

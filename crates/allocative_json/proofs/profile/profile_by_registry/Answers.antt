@@ -20,7 +20,7 @@ returns c =
     ∙ ap (λ v. (index_shows v, true)) c.in_ok-new-2.ensures.ok in
     rw c.in-Some.is (two_profiled (λ b. ((own-1.entry b.vtable).1.may_show b.value, (own-1.entry b.vtable).1.is_strict)) _ c.profile_roots-2.result
     c.into_dyn_box.result c.into_dyn_box-in_ok-new-2.result _ _ (grind (arith, common_steps)) document numbers
-    c.profile_roots-2.ensures)
+    (record { profile = c.profile_roots-2.ensures.profile; refused = c.profile_roots-2.ensures.refused }))
 
 -- The profile of a registry with one root is that of the document.
 pub returns-in_default : goal.returns-in_default
@@ -29,4 +29,5 @@ returns-in_default c =
     _ _ c.in_ok-new.field-0.value c.into_dyn_box.ensures.1
     ∙ ap (λ v. (stored_value v, true)) c.in_ok-new.ensures.ok in
     rw c.in_default.is (one_profiled (λ b. ((own-1.entry b.vtable).1.may_show b.value, (own-1.entry b.vtable).1.is_strict)) _ c.profile_roots.result
-    c.into_dyn_box.result _ (grind (arith, common_steps)) document c.profile_roots.ensures)
+    c.into_dyn_box.result _ (grind (arith, common_steps)) document
+    (record { profile = c.profile_roots.ensures.profile; refused = c.profile_roots.ensures.refused }))

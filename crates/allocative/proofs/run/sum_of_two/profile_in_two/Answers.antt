@@ -8,4 +8,5 @@ pub returns-in_err-profile_values-2-clause-refused : goal.returns-in_err-profile
 returns-in_err-profile_values-2-clause-refused g c =
     rw (same_err {e = c.in_err-profile_values-2.field-0.0} _ c.from_residual-in_err-profile_values-2.ensures.0
     (search rules))
-    (right_refused c.in_ok-profile_values.ensures.profile c.in_err-profile_values-2.ensures.refused)
+    (right_refused c.in_ok-profile_values.ensures.profile c.in_err-profile_values-2.ensures.refused
+    c.in_err-profile_values-2.ensures.answer)

@@ -1,7 +1,9 @@
 -- One more root is visited, or refused.
-use Rattle.std.proofs.Common.{rules}
+use Rattle.std.proofs.Common.{rules, Ok, Err, Result, ◌≡◌, arith}
+use Rattle.std.proofs.lemmas.Grind.{common_steps}
+use Rattle.allocative.proofs.Common.{State, Showing, Refusal, Settles, VisitsRoot}
 use Rattle.allocative.proofs.Roots.{visits_one_more}
-use Rattle.allocative.proofs.RefusedRoots.{same_err, only_if_full_indexed, one_of_all}
+use Rattle.allocative.proofs.RefusedRoots.{same_err, only_if_full_indexed, refused_indexed, one_of_all}
 use Rattle.allocative.proofs.run.builder.FlameGraphBuilder.visit_global_roots.Goals as goal
 
 pub loop-root-preserved : goal.loop-root-preserved
@@ -21,3 +23,23 @@ returns-in_err-visit_root-clause-only_if_full g c = rw c.roots-roots.ensures at
     (same_err {e = c.in_err-visit_root.field-0.0} _ c.from_residual-in_err-visit_root.ensures.0 (search rules))
     c.loop-root.invariant (rw c.as_ref.ensures.1 at c.in_err-visit_root.ensures.only_if_full) c.loop-root-test.true
     c.root-item.is)
+
+pub returns-in_err-visit_root-clause-answer : goal.returns-in_err-visit_root-clause-answer
+returns-in_err-visit_root-clause-answer g c = rw c.roots-roots.ensures at
+    (refused_indexed (λ b. (goal.Allocative-dyn g (b.vtable, b.value)).may_show b.value)
+    (λ b. (goal.Allocative-dyn g (b.vtable, b.value)).effect b.value) c.roots-roots.result.now c.loop-root.root-index
+    c.root-item.result c.args.self.now c.loop-root.self
+    (same_err {e = c.in_err-visit_root.field-0.0} _ c.from_residual-in_err-visit_root.ensures.0 (search rules))
+    c.loop-root.invariant (rw c.as_ref.ensures.1 at c.in_err-visit_root.ensures.answer) c.loop-root-test.true
+    c.root-item.is)
+
+-- If a root is refused after others were visited, so are all.
+refused_after : (p q r : Showing) (s m t : State) {u v : Unit} {e : Refusal} {w : Result Unit Refusal} → w ≡ Err e →
+    Settles s (Ok u) → VisitsRoot p s (Ok v) m → VisitsRoot q m (Err e) t → VisitsRoot r s w t
+refused_after p q r s m t is k f h = grind (arith, common_steps)
+
+pub returns-in_err-visit_root-clause-visits_root : goal.returns-in_err-visit_root-clause-visits_root
+returns-in_err-visit_root-clause-visits_root g c = refused_after _ _ _ c.args.self.now
+    c.loop-root.self c.visit_root.new.self
+    (same_err {e = c.in_err-visit_root.field-0.0} _ c.from_residual-in_err-visit_root.ensures.0 (search rules))
+    c.in_ok-check.ensures c.loop-root.invariant c.in_err-visit_root.ensures.visits_root

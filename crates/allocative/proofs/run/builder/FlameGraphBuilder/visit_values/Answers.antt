@@ -1,6 +1,6 @@
 -- One more root is visited, or refused.
 use Rattle.std.proofs.Common.{rules}
-use Rattle.allocative.proofs.RefusedRoots.{same_err, only_if_full_indexed}
+use Rattle.allocative.proofs.RefusedRoots.{same_err, only_if_full_indexed, refused_indexed}
 use Rattle.allocative.proofs.run.builder.FlameGraphBuilder.visit_values.Goals as goal
 
 pub returns-in_err-visit_value-clause-only_if_full : goal.returns-in_err-visit_value-clause-only_if_full
@@ -10,3 +10,10 @@ returns-in_err-visit_value-clause-only_if_full g c =
     c.args.self.now c.loop-root.self c.visit_value.new.self tt (λ strict. strict)
     (same_err {e = c.in_err-visit_value.field-0.0} _ c.from_residual-in_err-visit_value.ensures.0 (search rules))
     c.loop-root.invariant c.in_err-visit_value.ensures.only_if_full c.loop-root-test.true c.root-item.is
+
+pub returns-in_err-visit_value-clause-answer : goal.returns-in_err-visit_value-clause-answer
+returns-in_err-visit_value-clause-answer g c =
+    refused_indexed g.T.Allocative.may_show g.T.Allocative.effect c.args.roots.now c.loop-root.root-index
+    c.root-item.result c.args.self.now c.loop-root.self
+    (same_err {e = c.in_err-visit_value.field-0.0} _ c.from_residual-in_err-visit_value.ensures.0 (search rules))
+    c.loop-root.invariant c.in_err-visit_value.ensures.answer c.loop-root-test.true c.root-item.is
