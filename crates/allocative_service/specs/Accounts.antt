@@ -5,10 +5,10 @@ use Rattle.std.specs.Global.{Global}
 use Rattle.std.specs.Option.{option_and_then}
 use Rattle.allocative_service.specs.declared.ledger.Ledger.{Ledger}
 use Rattle.allocative_service.specs.declared.ledger.rejection.Rejection.{Rejection}
-use Rattle.allocative_service.specs.declared.ledger.rejection.Rejection.TheVariants.{LedgerFull, NotKept, TooLarge}
+use Rattle.allocative_service.specs.declared.ledger.rejection.Rejection.TheVariants.{LedgerFull, NotKept, OverBudget}
+use Rattle.allocative_service.specs.declared.ledger.rejection.Rejection.TheVariants.{TooLarge}
 use Rattle.allocative_service.specs.declared.measure.Measure.{Measure}
 use Rattle.allocative_service.specs.AccountData.{AccountData, all_bytes, bytes_at, sum_of, without, Puts}
-use Rattle.allocative_service.specs.Rejected.{RejectsBytes}
 
 -- All accounts, each with its tenant's name.
 abbrev pub accounts_of : Ledger → List (String Global × AccountData)
@@ -56,7 +56,7 @@ pub record MapsAccount (tenant : List ℕ) (f : AccountData → AccountData) (ol
   pub change : ChangesAccount tenant (Some (f before)) old new
 
 -- In the tenant's account, the number now has these bytes in place of `had`, and all bytes of that account together
--- are `total`.
+-- are `total`. All accounts together are within the limit of the ledger.
 pub record Enters (tenant : List ℕ) (number bytes : ℕ) (had : Option ℕ) (old new : Ledger) (total : ℕ) : Type 0 where
   pub before : AccountData
   pub after : AccountData
@@ -64,6 +64,7 @@ pub record Enters (tenant : List ℕ) (number bytes : ℕ) (had : Option ℕ) (o
   pub puts : Puts number bytes had before after total
   pub change : ChangesAccount tenant (Some after) old new
   pub all_is : total_of new + unwrap_or had 0 ≡ total_of old + bytes
+  pub all_within : total_of new ≤ limit_of old
 
 -- The number had these bytes in the tenant's account, and its entry is gone. The sum of the account, and that of all
 -- accounts, is less by exactly these bytes.
@@ -75,12 +76,15 @@ pub record Releases (tenant : List ℕ) (number : ℕ) (old new : Ledger) (bytes
   pub change : ChangesAccount tenant (Some (without number before)) old new
   pub all_is : total_of new + bytes ≡ total_of old
 
--- Replacing the `had` bytes of one entry of this account by `bytes` is rejected. The new sum of all accounts exceeds a
--- word, or the account rejects it, or its new sum is within its limit and that of all accounts exceeds the ledger's.
+-- Replacing the `had` bytes of one entry of this account by `bytes` is rejected, by the first of these that holds: the
+-- new sum of all accounts does not fit a word, that of the account exceeds its limit, that of all accounts exceeds the
+-- ledger's, memory runs out.
 abbrev pub RejectsPut : Ledger → ℕ → ℕ → AccountData → Rejection → Type 0
 RejectsPut l had bytes h TooLarge = 2 ^ 64 + had ≤ total_of l + bytes
-RejectsPut l had bytes h (LedgerFull b n) = (b + had ≡ total_of l + bytes) × (n ≡ limit_of l) × (limit_of l < b)
-    × (sum_of h.entries + bytes ≤ h.limit + had)
-RejectsPut l had bytes h NotKept =
-    RejectsBytes had bytes h NotKept × (total_of l + bytes ≤ limit_of l + had)
-RejectsPut l had bytes h r = RejectsBytes had bytes h r
+RejectsPut l had bytes h (OverBudget b n) = (total_of l + bytes < 2 ^ 64 + had)
+    × (b + had ≡ sum_of h.entries + bytes) × (n ≡ h.limit) × (h.limit < b)
+RejectsPut l had bytes h (LedgerFull b n) = (total_of l + bytes < 2 ^ 64 + had)
+    × (sum_of h.entries + bytes ≤ h.limit + had) × (b + had ≡ total_of l + bytes) × (n ≡ limit_of l) × (limit_of l < b)
+RejectsPut l had bytes h NotKept = (total_of l + bytes < 2 ^ 64 + had)
+    × (sum_of h.entries + bytes ≤ h.limit + had) × (total_of l + bytes ≤ limit_of l + had)
+RejectsPut l had bytes h _ = ⊥

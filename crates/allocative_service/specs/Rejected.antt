@@ -23,12 +23,14 @@ RejectsValue measure is_strict size p limit (OverBudget b l) =
 RejectsValue measure is_strict size p limit (NotMeasured e) = MayRefuseMeasure measure is_strict size p e
 RejectsValue measure is_strict size p limit _ = ⊥
 
--- Replacing the `had` bytes of one entry of an account by `bytes` is rejected. The new sum exceeds a word, or it
--- exceeds the limit, or it is within the limit and memory runs out.
+-- Replacing the `had` bytes of one entry of an account by `bytes` is rejected, by the first of these that holds: the
+-- new sum does not fit a word, it exceeds the limit, memory runs out.
 abbrev pub RejectsBytes : ℕ → ℕ → AccountData → Rejection → Type 0
 RejectsBytes had bytes h TooLarge = 2 ^ 64 + had ≤ sum_of h.entries + bytes
-RejectsBytes had bytes h (OverBudget b l) = (b + had ≡ sum_of h.entries + bytes) × (l ≡ h.limit) × (h.limit < b)
-RejectsBytes had bytes h NotKept = sum_of h.entries + bytes ≤ h.limit + had
+RejectsBytes had bytes h (OverBudget b l) = (sum_of h.entries + bytes < 2 ^ 64 + had)
+    × (b + had ≡ sum_of h.entries + bytes) × (l ≡ h.limit) × (h.limit < b)
+RejectsBytes had bytes h NotKept =
+    (sum_of h.entries + bytes < 2 ^ 64 + had) × (sum_of h.entries + bytes ≤ h.limit + had)
 RejectsBytes had bytes h _ = ⊥
 
 -- Taking `less` bytes off the `had` bytes of an entry is rejected. There are fewer, as the rejection says, or memory

@@ -201,7 +201,7 @@ impl Ledger {
     ///
     /// It returns an error
     /// - `NoAccount` if the tenant has no account,
-    /// - otherwise `Taken` if the number has an entry; up to here nothing is measured,
+    /// - otherwise `Taken` if the number has an entry; up to here nothing is measured, as a test shows,
     /// - otherwise `NotMeasured` if `Measure::size_of` returns an error,
     /// - otherwise `TooLarge` if the bytes of all accounts together do not fit a word,
     /// - otherwise `OverBudget` if the bytes of the tenant exceed its limit,

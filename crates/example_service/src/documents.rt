@@ -1,7 +1,4 @@
 //! The documents of the service.
-ghost use Rattle.std.specs.Prelude.{IfOk};
-ghost use Rattle.example_service.specs.Answers.{Documents, IsNote, IsOrder};
-
 use allocative::{Allocative, Described, IdRc};
 use std::alloc::{AllocError, Global};
 
@@ -32,20 +29,6 @@ pub struct Held {
     pub orders: Vec<Order>,
 }
 
-/// What contracts say of the documents that are held.
-pub trait HasDocuments {
-    ghost documents: { Documents };
-}
-
-impl HasDocuments for Held {
-    ghost documents = { record {
-      note_size = ⟦<Note as Described>⟧.size;
-      order_size = ⟦<Order as Described>⟧.size;
-      note_shows = ⟦<Note as Allocative>⟧.may_show;
-      order_shows = ⟦<Order as Allocative>⟧.may_show;
-    } };
-}
-
 /// A document of the service.
 pub trait Document: Allocative + Described + Drop {
     /// Puts the document among those that the service holds. The only error is that memory runs out.
@@ -68,9 +51,7 @@ impl Document for Order {
 
 impl Note {
     /// A note with copies of the name and of the text.
-    pub fn new(alloc: Global, tenant: &str, key: u64, text: &str) -> Result<Note, AllocError>
-        ensures { IfOk result (IsNote tenant.now key text.now) }
-    {
+    pub fn new(alloc: Global, tenant: &str, key: u64, text: &str) -> Result<Note, AllocError> {
         Ok(Note {
             tenant: String::from_str(alloc, tenant)?,
             key,
@@ -92,9 +73,7 @@ impl Order {
         key: u64,
         catalogue: &IdRc<Vec<String>>,
         places: &str,
-    ) -> Result<Order, AllocError>
-        ensures { IfOk result (IsOrder tenant.now key places.now) }
-    {
+    ) -> Result<Order, AllocError> {
         let mut items = Vec::new(alloc);
         for place in places.split(' ') {
             if let Ok(item) = place.parse::<usize>() {

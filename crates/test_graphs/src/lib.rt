@@ -28,6 +28,8 @@ mod pictures;
 #[cfg(test)]
 mod reads;
 #[cfg(test)]
+mod services;
+#[cfg(test)]
 mod shared_catalogue;
 #[cfg(test)]
 mod two;

@@ -1,10 +1,10 @@
 //! Why data is not admitted.
 use allocative::Refusal;
-use std::error::Error;
 use std::fmt;
+use thiserror::Error;
 
 /// Why data is not admitted. Making one allocates nothing.
-#[derive(Clone, Copy, Debug, PartialEq, Eq)]
+#[derive(Clone, Copy, Debug, PartialEq, Eq, Error)]
 pub enum Rejection {
     /// The data would hold more bytes than the limit allows.
     OverBudget { bytes: usize, limit: usize },
@@ -54,8 +54,6 @@ impl fmt::Display for Rejection {
         }
     }
 }
-
-impl Error for Rejection {}
 
 impl From<Refusal> for Rejection {
     ghost use Rattle.std.specs.Prelude.{◌≡◌};

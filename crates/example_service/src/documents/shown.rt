@@ -3,12 +3,9 @@
 
 ghost use Rattle.std.specs.Prelude.{codes, true};
 ghost use Rattle.allocative.specs.Shows as shows;
-ghost use Rattle.allocative_tally.specs.Shapes.{Beside, EntryAt, Wide};
 
 use super::*;
 use allocative::{Allocative, Described, Field, Part, Record, Refusal, Visitor, Whole};
-use allocative_tally::field::{CountedField, FieldSum, FieldTally, count, count_own};
-use allocative_tally::tally::{CountError, Entries, InlineSum, Sum, Tallied, Tally};
 
 type NoteLayout = Record<(String, (u64, (String, ())))>;
 
@@ -54,52 +51,6 @@ impl Allocative for Note {
     }
 }
 
-/// Values of `Note`, counted.
-#[derive(Drop)]
-pub struct NoteTally {
-    own: Sum,
-    tenant: FieldTally<<String as Tallied>::Tally>,
-    key: FieldTally<<u64 as Tallied>::Tally>,
-    text: FieldTally<<String as Tallied>::Tally>,
-}
-
-#[tactic(auto)]
-impl Tally for NoteTally {
-    ghost shape = { λ t. EntryAt Wide (codes "Note") t.own
-        (Beside (EntryAt Wide (codes "tenant") t.tenant.own (⟦<<String as Tallied>::Tally as Tally>⟧.shape t.tenant.value))
-        (Beside (EntryAt Wide (codes "key") t.key.own (⟦<<u64 as Tallied>::Tally as Tally>⟧.shape t.key.value))
-        (EntryAt Wide (codes "text") t.text.own (⟦<<String as Tallied>::Tally as Tally>⟧.shape t.text.value)))) };
-
-    fn none() -> Self {
-        NoteTally {
-            own: Sum::none(),
-            tenant: FieldTally::none(),
-            key: FieldTally::none(),
-            text: FieldTally::none(),
-        }
-    }
-
-    fn enter(&self, visitor: &mut Visitor<'_>) -> Result<(), Refusal> {
-        let tenant = FieldSum("tenant", &self.tenant);
-        let key = FieldSum("key", &self.key);
-        let text = FieldSum("text", &self.text);
-        InlineSum("Note", self.own, (tenant, (key, text))).enter(visitor)
-    }
-}
-
-#[tactic(auto)]
-impl Tallied for Note {
-    type Tally = NoteTally;
-
-    fn tally(&self, tally: &mut Self::Tally) -> Result<(), CountError> {
-        count_own(&mut tally.own, <Note>::size())?;
-        count(&mut tally.tenant, &self.tenant)?;
-        count(&mut tally.key, &self.key)?;
-        count(&mut tally.text, &self.text)?;
-        Ok(())
-    }
-}
-
 type OrderLayout = Record<(String, (u64, (IdRc<Vec<String>>, (Vec<usize>, ()))))>;
 
 impl Described for Order {
@@ -141,7 +92,7 @@ impl Allocative for Order {
         let tenant = Field("tenant", &self.tenant);
         let key = Field("key", &self.key);
         let catalogue = Field("catalogue", &self.catalogue);
-        let items = CountedField("items", &self.items);
+        let items = Field("items", &self.items);
         Whole(self, (tenant, key, catalogue, items)).enter(visitor)
     }
 }
@@ -184,7 +135,7 @@ impl Allocative for Held {
 
     fn visit(&self, visitor: &mut Visitor<'_>) -> Result<(), Refusal> {
         let catalogue = Field("catalogue", &self.catalogue);
-        let notes = CountedField("notes", &self.notes);
+        let notes = Field("notes", &self.notes);
         let orders = Field("orders", &self.orders);
         Whole(self, (catalogue, notes, orders)).enter(visitor)
     }

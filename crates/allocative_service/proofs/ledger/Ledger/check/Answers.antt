@@ -22,10 +22,11 @@ returns-then-all-limit-clause-rejected c =
     let within = account_within c.args.tenant.now c.args.self.now.accounts c.in_ok-account.account.now
     c.in_ok-account.ensures.found in
     rw c.in_ok-account.ensures.found (
+      omega (arith, part, within, c.args.self.now.summed, c.in-Some.ensures),
+      omega (arith, part, within, c.bytes.ensures.0),
       omega (arith, part, within, c.args.self.now.summed),
       refl,
       omega arith,
-      omega (arith, part, within, c.bytes.ensures.0),
     )
 
 pub returns-clause-all : goal.returns-clause-all

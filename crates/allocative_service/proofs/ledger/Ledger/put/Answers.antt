@@ -52,4 +52,13 @@ returns-clause-put c =
           before c.put.new.self c.in_ok-total.total) value puts;
       change = in_ledger _ _ _ _ w.one (refl, refl);
       all_is = omega (arith, w.all, c.in_ok-total.ensures.sum, puts.total_is, had, c.requires);
+      all_within = omega (
+        arith,
+        w.all,
+        c.in_ok-total.ensures.sum,
+        puts.total_is,
+        had,
+        c.in_ok-all.ensures.all.0,
+        c.in_ok-all.ensures.all.1,
+      );
     }
