@@ -80,7 +80,5 @@ def stored_case(crate: str) -> Case:
 def row_cases() -> Iterator[Case]:
     """The runs of the JSON programs and of the picture filter besides the stored ones."""
     yield from map(exact_case, rows_of("tools/documents/runs"))
-    yield exact_case([b"", b"[1", b"2", b"input is not JSON"], "allocative_fields")
-    yield exact_case([b"word", b"1", b"5", b"unknown or repeated word"], "allocative_fields")
     yield from map(filter_case, rows_of("tools/stacks/runs"))
     yield filter_case([b"--before change.earlier", read("tools/stacks/change.folded"), b"0", read("tools/stacks/change.svg")])

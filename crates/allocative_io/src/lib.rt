@@ -1,4 +1,4 @@
-//! What the programs share: they read all bytes of an input, and write a text to an output.
+//! What the programs share: they read all bytes of an input, and write a text to an output or the line of a fault.
 #![tactic(auto)]
 
 ghost use Rattle.std.specs.Prelude.{◌≡◌, ◌%◌, ◌<◌, ◌≤◌, true, length, take, map, slice_index, IfOk, IfErr, IfSome, OnOk};

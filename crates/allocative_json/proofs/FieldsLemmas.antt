@@ -17,7 +17,7 @@ use Rattle.allocative_json.specs.Fault.{fault_of}
 use Rattle.allocative_json.specs.Roots.{IsDocument}
 use Rattle.allocative_json.specs.Run.{StopsReading}
 use Rattle.allocative_json.specs.Fields.{bytes_alone, fields_of, document_fields, RefusesGraph, RefusesFields}
-use Rattle.allocative_json.specs.Fields.{StopsFields}
+use Rattle.allocative_json.specs.Fields.{MayEndFields}
 use Rattle.allocative_json.proofs.Reports.{some_text, read_so}
 
 -- ---- totals
@@ -84,18 +84,19 @@ refused_fields input v refused.TooLarge (Err f) d e h = subst (RefusesFields inp
 refused_fields input v refused.Open (Err f) d e h = absurd h
 
 -- A fault of reading ends a run.
-pub stops_reading : (known : Option (List ℕ)) (f : Fault) → StopsReading known f → StopsFields known f
-stops_reading known Memory h = h
-stops_reading known Reading h = tt
-stops_reading known f h = absurd h
+pub stops_reading : (words : ℕ) (known : Option (List ℕ)) (f : Fault) → words ≡ 0 → StopsReading known f →
+    MayEndFields words known f
+stops_reading words known Memory z h = (z, h)
+stops_reading words known Reading z h = z
+stops_reading words known f z h = absurd h
 
 -- A fault of the text of the input that was read ends a run.
-pub stops_fields : (known : Option (List ℕ)) (input : List ℕ) (f : Fault) → IfSome known (λ bytes. input ≡ bytes) →
-    RefusesFields input f → StopsFields known f
-stops_fields known input Memory e h = read_so known input (λ bytes. RefusesFields bytes Memory) e h
-stops_fields known input NotJson e h = read_so known input (λ bytes. RefusesFields bytes NotJson) e h
-stops_fields known input TooLarge e h = read_so known input (λ bytes. RefusesFields bytes TooLarge) e h
-stops_fields known input f e h = absurd h
+pub stops_fields : (words : ℕ) (known : Option (List ℕ)) (input : List ℕ) (f : Fault) → words ≡ 0 →
+    IfSome known (λ bytes. input ≡ bytes) → RefusesFields input f → MayEndFields words known f
+stops_fields words known input Memory z e h = (z, read_so known input (λ bytes. RefusesFields bytes Memory) e h)
+stops_fields words known input NotJson z e h = (z, read_so known input (λ bytes. RefusesFields bytes NotJson) e h)
+stops_fields words known input TooLarge z e h = (z, read_so known input (λ bytes. RefusesFields bytes TooLarge) e h)
+stops_fields words known input f z e h = absurd h
 
 -- The lemmas by which a run ends.
 pub ruleset ending = (some_text, refused_fields, stops_reading)

@@ -15,8 +15,9 @@ use Rattle.allocative_graph.specs.declared.flamegraph.Child.{Child}
 use Rattle.allocative_graph.specs.declared.refusal.Refusal.{Refusal}
 use Rattle.allocative_graph.specs.declared.refusal.Refusal.TheVariants as refused
 use Rattle.allocative_json.specs.declared.fault.Fault.{Fault}
-use Rattle.allocative_json.specs.declared.fault.Fault.TheVariants.{Memory, NotJson, TooLarge, Reading, Writing}
-use Rattle.allocative_json.specs.Fault.{status_of, line_of}
+use Rattle.allocative_json.specs.declared.fault.Fault.TheVariants.{Memory, NotJson, NotWhole, TooLarge, Reading, Writing, Open}
+use Rattle.allocative_json.specs.declared.fault.Fault.TheVariants as fault
+use Rattle.allocative_json.specs.Fault.{line_of}
 use Rattle.allocative_json.specs.Roots.{IsDocument}
 use Rattle.allocative_io.specs.Streams.{AppendsBeginning}
 
@@ -105,36 +106,34 @@ RefusesFields input TooLarge = (v : Value) × IsDocument input (view v) × (2 ^ 
 RefusesFields input f = ⊥
 
 -- ---- a run
--- Why a run ends before anything is written: the input is not read, or there is no text of its fields.
-abbrev pub StopsFields : Option (List ℕ) → Fault → Type 0
-StopsFields known Memory = IfSome known (λ bytes. RefusesFields bytes Memory)
-StopsFields known NotJson = IfSome known (λ bytes. RefusesFields bytes NotJson)
-StopsFields known TooLarge = IfSome known (λ bytes. RefusesFields bytes TooLarge)
-StopsFields known Reading = ⊤
-StopsFields known f = ⊥
+-- There is no word, and `made` is the text of the fields of what is read.
+abbrev pub AreFieldsFor : ℕ → Option (List ℕ) → List ℕ → Type 0
+AreFieldsFor words known made = (words ≡ 0) × IfSome known (λ bytes. AreFields bytes made)
+
+-- The faults that may end a run before anything is written: Words exactly if there is a word; otherwise a fault of reading,
+-- or of the text of the fields of what is read. NotWhole and Open are none of them.
+abbrev pub MayEndFields : ℕ → Option (List ℕ) → Fault → Type 0
+MayEndFields words known fault.Words = 0 < words
+MayEndFields words known Reading = words ≡ 0
+MayEndFields words known NotWhole = ⊥
+MayEndFields words known Writing = ⊥
+MayEndFields words known Open = ⊥
+MayEndFields words known f = (words ≡ 0) × IfSome known (λ bytes. RefusesFields bytes f)
 
 -- The beginning of the line of a fault.
 abbrev pub program : List ℕ
 program = codes "allocative-fields: "
 
 -- The text of the fields of what is read follows what the output held.
-pub record EndsWithFields (known output output' : Option (List ℕ)) : Type 0 where
+pub record EndsWithFields (words : ℕ) (known output output' : Option (List ℕ)) : Type 0 where
   pub made : List ℕ
-  pub fields : IfSome known (λ bytes. AreFields bytes made)
+  pub fields : AreFieldsFor words known made
   pub written : Appends output output' made
 
--- A beginning of that text follows what the output held, and a beginning of the line of a failed write what the errors
--- held.
-pub record CutsOffFields (known output output' errors errors' : Option (List ℕ)) : Type 0 where
+-- A beginning of that text follows what the output held, and the line of a failed write, or a beginning of it, what the
+-- errors held.
+pub record CutsOffFields (words : ℕ) (known output output' errors errors' : Option (List ℕ)) : Type 0 where
   pub made : List ℕ
-  pub fields : IfSome known (λ bytes. AreFields bytes made)
+  pub fields : AreFieldsFor words known made
   pub begun : AppendsBeginning output output' made
   pub told : AppendsBeginning errors errors' (line_of program Writing)
-
--- The status is that of a fault that may end the run before anything is written, and a beginning of its line follows
--- what the errors held.
-pub record EndsFieldsIn (known errors errors' : Option (List ℕ)) (status : ℕ) : Type 0 where
-  pub cause : Fault
-  pub is_status : status ≡ status_of cause
-  pub stops : StopsFields known cause
-  pub told : AppendsBeginning errors errors' (line_of program cause)

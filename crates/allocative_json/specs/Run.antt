@@ -33,20 +33,24 @@ IsBegun output output' errors errors' made =
     ⊎ (Appends output output' (string_bytes made.profile)
     × AppendsBeginning errors errors' (string_bytes made.warnings))
 
+-- The beginning of the line of a fault.
+abbrev pub program : List ℕ
+program = codes "allocative-json: "
+
 -- A report is right for what is read, and follows what the two writers held.
 pub record EndsWell (texts : List Word) (known output output' errors errors' : Option (List ℕ)) : Type 0 where
   pub made : Report
   pub report : IsReportFor texts known made
   pub written : IsWritten output output' errors errors' made
 
--- A report is right for what is read, and a beginning of it follows what the two writers held. A beginning of the line of a
--- failed write follows what the errors then hold.
+-- A report is right for what is read, and a beginning of it follows what the two writers held. The line of a failed write,
+-- or a beginning of it, follows what the errors then hold.
 pub record EndsCutOff (texts : List Word) (known output output' errors errors' : Option (List ℕ)) : Type 0 where
   pub made : Report
   pub report : IsReportFor texts known made
   pub warned : Option (List ℕ)
   pub begun : IsBegun output output' errors warned made
-  pub told : AppendsBeginning warned errors' (line_of (codes "allocative-json: ") Writing)
+  pub told : AppendsBeginning warned errors' (line_of program Writing)
 
 -- The faults that reading the input may return: Memory only if the input is not empty; or Reading.
 abbrev pub StopsReading : Option (List ℕ) → Fault → Type 0
@@ -70,10 +74,11 @@ MayEndRun texts known Writing = ⊥
 MayEndRun texts known Open = ⊥
 MayEndRun texts known f = IsRefused texts known f
 
--- The status is that of a fault that may end the run before anything is written, and a beginning of its line follows what
--- the errors held.
-pub record EndsIn (texts : List Word) (known errors errors' : Option (List ℕ)) (status : ℕ) : Type 0 where
+-- The status is that of a fault that may end the run before anything is written. Its line, or a beginning of it, follows
+-- what the errors held; the line begins with `start`.
+pub record EndsIn (start : List ℕ) (may_end : Fault → Type 0) (errors errors' : Option (List ℕ)) (status : ℕ)
+    : Type 0 where
   pub cause : Fault
   pub is_status : status ≡ status_of cause
-  pub refuses : MayEndRun texts known cause
-  pub told : AppendsBeginning errors errors' (line_of (codes "allocative-json: ") cause)
+  pub ends : may_end cause
+  pub told : AppendsBeginning errors errors' (line_of start cause)

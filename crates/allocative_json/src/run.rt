@@ -3,7 +3,7 @@ ghost use Rattle.std.specs.Prelude.{◌≡◌, ◌≢◌, OnOk, IfOk, IfErr, IfS
 ghost use Rattle.allocative_io.specs.Streams.{AppendsBeginning};
 ghost use Rattle.allocative_json.specs.Fault.{status_of, line_of};
 ghost use Rattle.allocative_json.specs.Profile.{IsRightReport, RefusesReport};
-ghost use Rattle.allocative_json.specs.Run.{StopsReading, IsReportFor, IsWritten, IsBegun, EndsWell, EndsCutOff, EndsIn, MayEndRun};
+ghost use Rattle.allocative_json.specs.Run.{StopsReading, IsReportFor, IsWritten, IsBegun, EndsWell, EndsCutOff, EndsIn, MayEndRun, program};
 ghost use Rattle.allocative_json.specs.Words.{words_of};
 
 use crate::fault::Fault;
@@ -105,7 +105,7 @@ pub fn run_json<R: Read, W: Write, E: Write>(
         (W.contents output.old) (W.contents output.new)
         (E.contents errors.old) (E.contents errors.new) }
     ensures fault { result ≢ 0 → result ≢ 7
-        → EndsIn (words_of words.now) (R.remaining input.old)
+        → EndsIn program (MayEndRun (words_of words.now) (R.remaining input.old))
         (E.contents errors.old) (E.contents errors.new) result }
     ensures untouched { result ≢ 0 → result ≢ 7 → output.new ≡ output.old }
 {

@@ -1,6 +1,6 @@
-use Rattle.std.proofs.Common.{◌≡◌, IfSome, string_bytes}
+use Rattle.std.proofs.Common.{◌≡◌, IfSome, length, string_bytes, arith}
 use Rattle.std.proofs.lemmas.Result.{IfErr-weaker, IfOk-weaker}
-use Rattle.allocative_json.specs.Fields.{AreFields, RefusesFields, StopsFields}
+use Rattle.allocative_json.specs.Fields.{AreFields, AreFieldsFor, RefusesFields, MayEndFields}
 use Rattle.allocative_json.proofs.FieldsLemmas.{stops_fields}
 use Rattle.allocative_json.proofs.Reports.{read_so}
 use Rattle.allocative_json.proofs.fields.run.make_fields.Goals as goal
@@ -11,8 +11,8 @@ returns-clause-err g c =
     let input = c.as_slice.result.now in
     let is_read : IfSome (g.R.Read.remaining c.args.input.now) (λ known. input ≡ known) =
     rw c.as_slice.ensures.value c.in_ok-bytes.ensures.ok in
-    IfErr-weaker c.fields_json.result (RefusesFields input) (StopsFields (g.R.Read.remaining c.args.input.now))
-    (λ f h. stops_fields _ input f is_read h) c.fields_json.ensures.err
+    IfErr-weaker c.fields_json.result (RefusesFields input) (MayEndFields (length c.args.words.now) (g.R.Read.remaining c.args.input.now))
+    (λ f h. stops_fields _ _ input f (omega arith) is_read h) c.fields_json.ensures.err
 
 -- The text is that of the fields of the input that was read.
 pub returns-clause-ok : goal.returns-clause-ok
@@ -21,5 +21,5 @@ returns-clause-ok g c =
     let is_read : IfSome (g.R.Read.remaining c.args.input.now) (λ known. input ≡ known) =
     rw c.as_slice.ensures.value c.in_ok-bytes.ensures.ok in
     IfOk-weaker c.fields_json.result (λ made. AreFields input (string_bytes made))
-    (λ made. IfSome (g.R.Read.remaining c.args.input.now) (λ known. AreFields known (string_bytes made)))
-    (λ made h. read_so _ input (λ known. AreFields known (string_bytes made)) is_read h) c.fields_json.ensures.ok
+    (λ made. AreFieldsFor (length c.args.words.now) (g.R.Read.remaining c.args.input.now) (string_bytes made))
+    (λ made h. (omega arith, read_so _ input (λ known. AreFields known (string_bytes made)) is_read h)) c.fields_json.ensures.ok
