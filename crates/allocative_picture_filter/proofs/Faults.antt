@@ -1,20 +1,13 @@
 -- Faults and their status.
 use Rattle.std.proofs.Common.{◌≡◌, inl, inr, ℕ, ◌^◌, ◌<◌, ◌≤◌, ◌==◌, ◌&&◌, Bool, true, false, IsTrue, List, [], ◌∷◌}
-use Rattle.std.proofs.Common.{Option, None, Some, Ok, Err, Result, refl, ap, arith, IfSome, IfErr, IsErrOf, IsErrAnd}
+use Rattle.std.proofs.Common.{Option, None, Some, Ok, Err, Result, refl, arith, IfSome, IfErr, IsErrOf, IsErrAnd}
 use Rattle.allocative_picture_filter.proofs.Common.{Graph, Fault, Text, Sourced, StopsAddingUp}
-use Rattle.allocative_graph.specs.declared.read.LineFault.TheVariants as line
 use Rattle.allocative_graph.specs.declared.refusal.Refusal as refusal
 use Rattle.allocative_graph.specs.declared.refusal.Refusal.TheVariants as refused
 use Rattle.allocative_picture_filter.specs.declared.arguments.Arguments as words
-use Rattle.allocative_picture_filter.specs.declared.fault.Fault.TheVariants.{Line, Writing}
-use Rattle.allocative_picture_filter.specs.Fault.{status_of, fault_of}
+use Rattle.allocative_picture_filter.specs.declared.fault.Fault.TheVariants.{Writing}
+use Rattle.allocative_picture_filter.specs.Fault.{fault_of}
 use Rattle.allocative_picture_filter.specs.Run.{StopsJoining, Stops}
-
--- A fault with status 7 is one of writing.
-is-writing : (f : Fault) → status_of f ≡ 7 → f ≡ Writing
-is-writing Writing e = refl
-is-writing (Line s n line.TooLarge) e = absurd (omega (arith, e))
-is-writing f e = absurd (omega (arith, e))
 
 -- Texts are added up without writing.
 added-unwritten : (g : Graph) (ts : List Sourced) → StopsAddingUp g ts Writing → ⊥
@@ -24,19 +17,14 @@ added-unwritten g (t ∷ ts) (inl (inr (read, is, h))) = h
 added-unwritten g (t ∷ ts) (inr (next, adds, h)) = added-unwritten next ts h
 
 -- A run is not stopped by a write before it writes.
-made-unwritten : (asked : words.Arguments) (before after : List Text) (known : List ℕ) →
+pub made-unwritten : (asked : words.Arguments) (before after : List Text) (known : List ℕ) →
     Stops asked before after known Writing → ⊥
 made-unwritten asked before after known (inl h) = added-unwritten _ _ h
 made-unwritten asked before after known (inr (g, up, inl (inl h))) = added-unwritten _ _ h
 made-unwritten asked before after known (inr (g, up, inl (inr (h, files, b, e)))) = e
 made-unwritten asked before after known (inr (g, up, inr (inl (h, later, b, none, e)))) =
-    absurd (omega (arith, ap status_of e))
+    absurd (cc)
 made-unwritten asked before after known (inr (g, up, inr (inr (h, later, joins)))) = joins
-
--- What stops a run before it writes has another status than a failed write.
-pub stops-unwritten : (asked : words.Arguments) (before after : List Text) (known : List ℕ) (f : Fault) →
-    Stops asked before after known f → status_of f ≡ 7 → ⊥
-stops-unwritten asked before after known f h e = made-unwritten asked before after known (rw (is-writing f e) at h)
 
 -- Graphs are not joined for memory, or since their bytes exceed a word.
 pub stops-joining : {T : Type 0} (bytes : ℕ) (r : refusal.Refusal) →

@@ -1,4 +1,4 @@
 pub mod Common
 pub mod Faults
+pub mod Rows
 pub mod Sums
-pub mod Words

@@ -6,7 +6,7 @@ use Rattle.allocative_picture_filter.proofs.Common.{sourced, AddUp, StopsAddingU
 use Rattle.std.proofs.lemmas.List.{map-append, take_more}
 use Rattle.allocative_picture_filter.specs.declared.arguments.Arguments.{Arguments}
 use Rattle.allocative_picture_filter.specs.declared.fault.Source.TheVariants.{Input}
-use Rattle.allocative_picture_filter.specs.Fault.{IsUnread}
+use Rattle.allocative_picture_filter.specs.Fault.{IsReadingOf}
 use Rattle.allocative_picture_filter.proofs.Faults.{has-bytes}
 use Rattle.allocative_picture_filter.specs.Run.{without_mark, Adds, AddUpOnto, StopsAdding, StopsProfile, IsMade}
 use Rattle.allocative_picture_filter.specs.Run.{written_of}
@@ -64,7 +64,7 @@ stops-input xs b known g f e up h = rw e (inl
 
 -- An input that is not read stops the profile.
 pub stops-unread : (xs : List Text) (b : Bool) (known : List ℕ) (g : Graph) (f : Fault) → b ≡ true →
-    AddUp (map sourced xs) g → (f ≡ Memory) ⊎ IsUnread Input f → StopsProfile xs b known f
+    AddUp (map sourced xs) g → (f ≡ Memory) ⊎ IsReadingOf Input f → StopsProfile xs b known f
 stops-unread xs b known g f e up (inl m) = stops-input xs b known g f e up (inl (rw m tt))
 stops-unread xs b known g f e up (inr r) = inr (g, up, e, r)
 

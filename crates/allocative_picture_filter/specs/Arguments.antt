@@ -1,135 +1,98 @@
--- What the words of a command line ask for.
-use Rattle.std.specs.Prelude.{◌≡◌, ℕ, ◌^◌, ◌==◌, ◌⊎◌, ◌&&◌, ◌||◌, Bool, true, false, not, cond, List, [], ◌∷◌, ◌++◌}
-use Rattle.std.specs.Prelude.{length, map, nat_lt, codes, Option, Some, None, Result, Ok, Err, String, string_bytes}
-use Rattle.std.specs.Prelude.{bytes_eq}
-use Rattle.std.specs.Str.{all_ascii_digits}
-use Rattle.std.specs.Str.Parse.{digits_value, starts_with_minus, without_leading_plus}
+-- What the arguments ask for, by what clap finds in them.
+use Rattle.std.specs.Prelude.{◌≡◌, ◌≢◌, ◌≤◌, ◌<◌, ⊤, ◌^◌, ◌⊎◌, ◌||◌, Bool, true, false, not, nat_lt, List, [], ◌∷◌, map}
+use Rattle.std.specs.Prelude.{codes, filter, count_by, length, Some, unwrap_or, String, string_bytes, IsTrue, ◌==◌}
+use Rattle.std.specs.Str.{bytes_eq}
+use Rattle.std.specs.Str.Parse.{IsNumeral, digits_value}
 use Rattle.std.specs.declared.alloc.Global.{Global}
+use Rattle.clap.specs.Words.{App, Row, Rule, Text, all_of, first_of, one_of, new_rule, matches_of, fault_of}
+use Rattle.clap.specs.Simple.{new_shape}
+use Rattle.clap.specs.declared.builder.action.ArgAction.{ArgAction}
+use Rattle.clap.specs.declared.builder.action.ArgAction.TheVariants.{Set, Append, SetTrue}
 use Rattle.allocative_picture_filter.specs.declared.arguments.Arguments.{Arguments}
-use Rattle.allocative_picture_filter.specs.declared.arguments.Misuse.TheVariants.{Unknown, Repeated, Incomplete, Width}
-use Rattle.allocative_picture_filter.specs.declared.arguments.Misuse.TheVariants.{TextOfChange}
 use Rattle.allocative_picture_filter.specs.declared.fault.Fault.{Fault}
 use Rattle.allocative_picture_filter.specs.declared.fault.Fault.TheVariants.{Memory, Arguments as OfArguments}
 
--- A word is its bytes.
-abbrev pub Word : Type 0
-Word = List ℕ
+-- ---- what clap reads
+-- The argument `--name`.
+abbrev pub named : Text → ArgAction → Rule
+named name action = record (new_rule name) { long = Some name; action = Some action }
+
+-- The argument `--name` with a value.
+abbrev pub valued : Text → ArgAction → Rule
+valued name action = record (named name action) { value_names = 1 }
+
+-- The names of files.
+abbrev pub names : Rule
+names = record (new_rule (codes "FILE")) { action = Some Append }
+
+-- The arguments of the program as clap reads them. Of several titles and of several widths the last one counts.
+abbrev pub picture_app : App
+picture_app = record {
+  top = record (new_shape (codes "allocative-picture")) {
+    rules = named (codes "help") SetTrue ∷ named (codes "text") SetTrue ∷ named (codes "not-empty") SetTrue
+        ∷ valued (codes "title") Set ∷ valued (codes "narrowest") Set ∷ valued (codes "before") Append ∷ names ∷ [];
+    no_binary_name = true;
+    args_override_self = true;
+    disable_help_flag = true;
+  };
+  subs = [];
+}
 
 -- The words of some texts.
-abbrev pub words_of : List (String Global) → List Word
+abbrev pub words_of : List (String Global) → List Text
 words_of texts = map string_bytes texts
 
--- What words ask for. Its fields are those of `Arguments`.
-pub record Asked : Type 0 where
-  pub help : Bool
-  pub as_text : Bool
-  pub not_empty : Bool
-  pub title : Word
-  pub narrowest : ℕ
-  pub before : List Word
-  pub after : List Word
-  pub reads_input : Bool
+-- ---- what is asked for
+-- The flag is set, or it is not.
+pub record IsFlag (name : Text) (rows : List Row) (flag : Bool) : Type 0 where
+  pub set : one_of name rows ≡ Some (codes "true") → flag ≡ true
+  pub unset : one_of name rows ≡ Some (codes "false") → flag ≡ false
 
--- What the fields of `Arguments` say, each text by its bytes.
-abbrev pub asked_of : Arguments → Asked
-asked_of a = record {
-  help = a.help;
-  as_text = a.as_text;
-  not_empty = a.not_empty;
-  title = a.title.now;
-  narrowest = a.narrowest;
-  before = map (λ name. name.now) a.before.items;
-  after = map (λ name. name.now) a.after.items;
-  reads_input = a.reads_input;
-}
+-- The value of an argument, or another if it has none.
+abbrev pub value_in : Text → Text → List Row → Text
+value_in name otherwise rows = unwrap_or (first_of name rows) otherwise
 
--- What is asked for before the first word.
-abbrev pub nothing_asked : Asked
-nothing_asked = record {
-  help = false;
-  as_text = false;
-  not_empty = false;
-  title = codes "Declared bytes";
-  narrowest = 500;
-  before = [];
-  after = [];
-  reads_input = false;
-}
+-- The values of an argument.
+abbrev pub values_in : Text → List Row → List Text
+values_in name rows = unwrap_or (all_of name rows) []
 
--- What is wrong with words.
-pub data Wrong : Type 0 where
-  unknown : Word → Wrong
-  repeated : Wrong
-  incomplete : Word → Wrong
-  width : Word → Wrong
-  text_of_change : Wrong
+-- The name stands for the input.
+abbrev pub is_input : Text → Bool
+is_input name = bytes_eq name (codes "-")
 
--- What is asked for, or the first that is wrong.
-abbrev pub Answer : Type 0
-Answer = Result Asked Wrong
+-- The text is decimal digits alone, which write a number below 2 ^ 32.
+abbrev pub IsWidth : Text → Type 0
+IsWidth text = IsNumeral 10 text × (digits_value 10 text < 2 ^ 32)
 
--- What is asked for next, if nothing was wrong before.
-abbrev pub and_then : Answer → (Asked → Answer) → Answer
-and_then (Ok a) next = next a
-and_then (Err e) next = Err e
+-- What clap finds asks for this.
+pub record IsAsked (rows : List Row) (asked : Arguments) : Type 0 where
+  pub help : IsFlag (codes "help") rows asked.help
+  pub as_text : IsFlag (codes "text") rows asked.as_text
+  pub not_empty : IsFlag (codes "not-empty") rows asked.not_empty
+  pub title : asked.title.now ≡ value_in (codes "title") (codes "Declared bytes") rows
+  pub width : IsWidth (value_in (codes "narrowest") (codes "500") rows)
+  pub narrowest : asked.narrowest ≡ digits_value 10 (value_in (codes "narrowest") (codes "500") rows)
+  pub before : map (λ name. name.now) asked.before.items ≡ values_in (codes "before") rows
+  pub after : map (λ name. name.now) asked.after.items
+      ≡ filter (λ name. not (is_input name)) (values_in (codes "FILE") rows)
+  pub reads_input : asked.reads_input
+      ≡ (nat_lt 0 (count_by is_input (values_in (codes "FILE") rows)) || (length asked.after.items == 0))
+  pub input_once : count_by is_input (values_in (codes "FILE") rows) ≤ 1
+  pub text_of_one : IsTrue asked.as_text × (0 < length asked.before.items) → ⊥
 
--- The number that a text of decimal digits writes, with a plus in front or none, if it is less than 2 ^ 32.
-abbrev pub width_of : Word → Option ℕ
-width_of w = let ds = without_leading_plus w in
-    cond (not (length ds == 0) && all_ascii_digits ds && nat_lt (digits_value 10 ds) (2 ^ 32))
-    (Some (digits_value 10 ds)) None
+-- ---- what is refused
+-- What clap finds asks for nothing: the width is none, the input is named again, or the text of a change is asked for.
+abbrev pub IsWrong : List Row → Type 0
+IsWrong rows = (¬ IsWidth (value_in (codes "narrowest") (codes "500") rows))
+    ⊎ (1 < count_by is_input (values_in (codes "FILE") rows))
+    ⊎ (IsFlag (codes "text") rows true × (0 < length (values_in (codes "before") rows)))
 
--- Whether the word is an option that a value follows.
-abbrev pub takes_value : Word → Bool
-takes_value w = bytes_eq w (codes "--title") || bytes_eq w (codes "--narrowest") || bytes_eq w (codes "--before")
+-- The words are wrong: clap refuses them, or what it finds in them asks for nothing.
+abbrev pub IsRefused : List Text → Type 0
+IsRefused words = (fault_of picture_app words ≢ []) ⊎ IsWrong (matches_of picture_app words)
 
--- The width `v` is asked for.
-abbrev pub with_width : Asked → Word → Option ℕ → Answer
-with_width a v None = Err (width v)
-with_width a v (Some n) = Ok (record a { narrowest = n })
-
--- The option `w` is asked for with the value `v`.
-abbrev pub with_value : Asked → Word → Word → Answer
-with_value a w v =
-    cond (bytes_eq w (codes "--title")) (Ok (record a { title = v }))
-    (cond (bytes_eq w (codes "--narrowest")) (with_width a v (width_of v))
-    (Ok (record a { before = a.before ++ v ∷ [] })))
-
--- The word `w` is asked for, which takes no value.
-abbrev pub with_word : Asked → Word → Answer
-with_word a w =
-    cond (bytes_eq w (codes "--help")) (Ok (record a { help = true }))
-    (cond (bytes_eq w (codes "--text")) (Ok (record a { as_text = true }))
-    (cond (bytes_eq w (codes "--not-empty")) (Ok (record a { not_empty = true }))
-    (cond (bytes_eq w (codes "-")) (cond a.reads_input (Err repeated) (Ok (record a { reads_input = true })))
-    (cond (starts_with_minus w) (Err (unknown w)) (Ok (record a { after = a.after ++ w ∷ [] }))))))
-
--- What is asked for behind the last word: the input is read if no file of the profile is named.
-abbrev pub in_all : Asked → Answer
-in_all a = cond (a.as_text && not (length a.before == 0)) (Err text_of_change)
-    (Ok (record a { reads_input = a.reads_input || (length a.after == 0) }))
-
--- What words ask for behind those that asked for `a`, one after another.
-abbrev pub asked_behind : Asked → List Word → Answer
-asked_behind a [] = in_all a
-asked_behind a (w ∷ []) = cond (takes_value w) (Err (incomplete w)) (and_then (with_word a w) in_all)
-asked_behind a (w ∷ v ∷ ws) =
-    cond (takes_value w) (and_then (with_value a w v) (λ b. asked_behind b ws))
-    (and_then (with_word a w) (λ b. asked_behind b (v ∷ ws)))
-
--- What words ask for, or the first that is wrong with them.
-abbrev pub asked_by : List Word → Answer
-asked_by ws = asked_behind nothing_asked ws
-
--- The fault says what is wrong.
-abbrev pub Tells : Fault → Wrong → Type 0
-Tells (OfArguments (Unknown w)) e = e ≡ unknown w.now
-Tells (OfArguments Repeated) e = e ≡ repeated
-Tells (OfArguments (Incomplete w)) e = e ≡ incomplete w.now
-Tells (OfArguments (Width w)) e = e ≡ width w.now
-Tells (OfArguments TextOfChange) e = e ≡ text_of_change
-Tells f e = ⊥
-
--- Why nothing is asked for: memory runs out, or the fault says what is wrong first with the words.
-abbrev pub StopsAsking : Answer → Fault → Type 0
-StopsAsking r f = (f ≡ Memory) ⊎ ((e : Wrong) × (r ≡ Err e) × Tells f e)
+-- Why arguments are not read: memory runs out, or they are wrong for this reason.
+abbrev pub StopsAsking : Type 0 → Fault → Type 0
+StopsAsking P Memory = ⊤
+StopsAsking P (OfArguments reason) = P
+StopsAsking P f = ⊥

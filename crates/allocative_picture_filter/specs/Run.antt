@@ -6,7 +6,7 @@ use Rattle.allocative_graph.specs.Graph.{Graph, default, sum_of, text, total}
 use Rattle.allocative_graph.specs.Read.{IsRead, IsFault, Exceeds}
 use Rattle.allocative_picture.specs.Picture.{profile_drawing, change_drawing}
 use Rattle.allocative_picture.specs.declared.options.Options.{Options}
-use Rattle.allocative_picture_filter.specs.Fault.{status_of, IsUnread}
+use Rattle.allocative_picture_filter.specs.Fault.{IsReadingOf}
 use Rattle.allocative_picture_filter.specs.declared.arguments.Arguments.{Arguments}
 use Rattle.allocative_picture_filter.specs.declared.fault.Fault.{Fault}
 use Rattle.allocative_picture_filter.specs.declared.fault.Fault.TheVariants.{Memory, Line, NotText, TooLarge, Empty}
@@ -103,7 +103,7 @@ StopsAddingUp g (t ∷ ts) f = StopsAdding g t f ⊎ ((next : Graph) × Adds g t
 -- them, is not read.
 abbrev pub StopsProfile : List Text → Bool → List ℕ → Fault → Type 0
 StopsProfile ts reads_input known f = StopsAddingUp default (later_texts ts reads_input known) f
-    ⊎ ((h : Graph) × AddUp (map sourced ts) h × (reads_input ≡ true) × IsUnread Input f)
+    ⊎ ((h : Graph) × AddUp (map sourced ts) h × (reads_input ≡ true) × IsReadingOf Input f)
 
 -- Why nothing is made of the graph g of the earlier texts and of that of the others: memory runs out, or a change is
 -- asked for, and their bytes together exceed a word.
@@ -123,8 +123,3 @@ Stops asked before after known f = StopsAddingUp default (map sourced before) f
     ⊎ ((g : Graph) × AddUp (map sourced before) g × (StopsProfile after asked.reads_input known f
     ⊎ StopsEmpty asked.not_empty (later_texts after asked.reads_input known) f
     ⊎ StopsWriting (asked.as_text || (length before == 0)) g (later_texts after asked.reads_input known) f))
-
--- The status is that of a fault which stops the run.
-abbrev pub IsStopped : Arguments → List Text → List Text → List ℕ → ℕ → Type 0
-IsStopped asked before after known status =
-    (f : Fault) × (status ≡ status_of f) × Stops asked before after known f

@@ -1,10 +1,14 @@
 //! The arguments of the program.
-ghost use Rattle.std.specs.Prelude.{◌≡◌, IfOk, IfErr, Ok, Some, None, option_map, string_bytes};
-ghost use Rattle.allocative_picture_filter.specs.Arguments.{asked_by, asked_of, width_of, words_of, StopsAsking};
+ghost use Rattle.std.specs.Prelude.{◌≡◌, ◌≢◌, ◌<◌, ⊤, [], ◌↔◌, ◌||◌, ◌==◌, IfOk, IfErr, IsTrue, false, map, not, nat_lt, filter, count_by, length};
+ghost use Rattle.std.specs.Str.Parse.{digits_value};
+ghost use Rattle.std.specs.Option.{SomeIff};
+ghost use Rattle.clap.specs.Words.{app_of, fault_of, kind_of, found_of, rows_of, rule_of, matches_of};
+ghost use Rattle.allocative_picture_filter.specs.Arguments.{IsAsked, IsFlag, IsRefused, IsWidth, IsWrong, StopsAsking, is_input, named, picture_app, valued, value_in, values_in, words_of};
 
 use crate::fault::Fault;
-use std::alloc::Global;
-use std::fmt;
+use clap::error::ErrorKind;
+use clap::{Arg, ArgAction, ArgMatches, Command, Error};
+use std::alloc::{AllocError, Global};
 
 /// What the arguments ask for.
 #[derive(Drop)]
@@ -27,105 +31,187 @@ pub struct Arguments<'a> {
     pub reads_input: bool,
 }
 
-/// What is wrong with the arguments.
-#[derive(Clone, Copy, Debug, PartialEq, Eq)]
-pub enum Misuse<'a> {
-    /// This argument begins with `-`, and is not known.
-    Unknown(&'a str),
-    /// The argument `-` is repeated.
-    Repeated,
-    /// Nothing follows this argument.
-    Incomplete(&'a str),
-    /// This is no width: it follows `--narrowest`, and is no whole number of 32 bits.
-    Width(&'a str),
-    /// The text of a change is asked for.
-    TextOfChange,
-    /// An argument is not UTF-8.
-    NotText,
+// The argument `--name`.
+fn named<'a>(alloc: Global, name: &'a str, action: ArgAction) -> Arg<'a>
+    ensures rule { rule_of result ≡ named name.entry.now action }
+    ensures local { result.global ≡ false }
+{
+    Arg::new(alloc, name).long(name).action(action)
 }
 
-impl fmt::Display for Misuse<'_> {
-    fn fmt<W: fmt::Write>(&self, f: &mut fmt::Formatter<W>) -> fmt::Result {
-        match *self {
-            Misuse::Unknown(word) => write!(f, "unknown argument {word}"),
-            Misuse::Repeated => write!(f, "repeated argument -"),
-            Misuse::Incomplete(word) => write!(f, "nothing follows {word}"),
-            Misuse::Width(word) => {
-                write!(f, "--narrowest takes millionths of the width, not {word}")
-            }
-            Misuse::TextOfChange => write!(f, "--text does not go with --before"),
-            Misuse::NotText => write!(f, "an argument is not UTF-8"),
+// The argument `--name` with a value, which usage calls by another name.
+fn valued<'a>(alloc: Global, name: &'a str, action: ArgAction, value: &'a str) -> Arg<'a>
+    ensures rule { rule_of result ≡ valued name.entry.now action }
+    ensures local { result.global ≡ false }
+{
+    named(alloc, name, action).value_name(value)
+}
+
+// The arguments as clap reads them. Of several uses of one that has a single value the last counts.
+fn command<'a>(alloc: Global) -> Result<Command<'a>, AllocError>
+    ensures { IfOk result (λ c. app_of c ≡ picture_app) }
+{
+    Command::new(alloc, "allocative-picture")
+        .no_binary_name(true)
+        .args_override_self(true)
+        .disable_help_flag(true)
+        .arg(named(alloc, "help", ArgAction::SetTrue))?
+        .arg(named(alloc, "text", ArgAction::SetTrue))?
+        .arg(named(alloc, "not-empty", ArgAction::SetTrue))?
+        .arg(valued(alloc, "title", ArgAction::Set, "TEXT"))?
+        .arg(valued(alloc, "narrowest", ArgAction::Set, "WIDTH"))?
+        .arg(valued(alloc, "before", ArgAction::Append, "EARLIER"))?
+        .arg(Arg::new(alloc, "FILE").action(ArgAction::Append))
+}
+
+// What an error of clap says: the text before its first blank line, without `error: `.
+fn reason_of(alloc: Global, error: &Error) -> Result<String, AllocError> {
+    let text = format!(in alloc; "{error}")?;
+    let text = text.as_str();
+    let (line, _) = text.split_once("\n\n").unwrap_or((text.trim_end(), ""));
+    String::from_str(alloc, line.strip_prefix("error: ").unwrap_or(line))
+}
+
+/// The fault that the arguments are wrong for this reason, or `Fault::Memory` if there is no room for it.
+pub fn argument_fault<'a>(reason: Result<String, AllocError>) -> Fault<'a>
+    ensures { StopsAsking ⊤ result }
+{
+    match reason {
+        Ok(reason) => Fault::Arguments(reason),
+        Err(_) => Fault::Memory,
+    }
+}
+
+// The fault of an error of clap.
+fn clap_fault<'a>(alloc: Global, error: &Error) -> Fault<'a>
+    ensures { StopsAsking (kind_of error.now ≢ ErrorKind.OutOfMemory) result }
+{
+    if error.kind() == ErrorKind::OutOfMemory {
+        return Fault::Memory;
+    }
+    argument_fault(reason_of(alloc, error))
+}
+
+// The width that a text writes in decimal digits alone.
+fn width_of(text: &str) -> Option<u32>
+    ensures { SomeIff result (IsWidth text.now) (digits_value 10 text.now) }
+{
+    if text.starts_with('+') {
+        return None;
+    }
+    text.parse::<u32>().ok()
+}
+
+// Whether the flag is set.
+#[tactic(auto, using(crate::proofs::Rows::rows))]
+fn flag(matches: &ArgMatches<'_>, name: &str) -> bool
+    ensures { IsFlag name.now (rows_of (found_of matches.now)) result }
+{
+    matches.get_flag(name)
+}
+
+// The value of an argument, or another if it has none.
+#[tactic(auto, using(crate::proofs::Rows::rows))]
+fn value_of<'a>(matches: &ArgMatches<'a>, name: &str, otherwise: &'a str) -> &'a str
+    ensures { result.now ≡ value_in name.now otherwise.entry.now (rows_of (found_of matches.now)) }
+{
+    matches.get_str(name).unwrap_or(otherwise)
+}
+
+// The values of an argument.
+#[tactic(auto, using(crate::proofs::Rows::rows))]
+fn values_of<'a>(
+    alloc: Global,
+    matches: &ArgMatches<'a>,
+    name: &str,
+) -> Result<Vec<&'a str>, AllocError>
+    ensures { IfOk result (λ values. map (λ value. value.now) values.items
+        ≡ values_in name.now (rows_of (found_of matches.now))) }
+{
+    match matches.get_strs(name) {
+        Some(values) => Vec::from_slice(alloc, values),
+        None => Ok(Vec::new(alloc)),
+    }
+}
+
+// The names that are those of files.
+fn files_among<'a>(alloc: Global, names: &[&'a str]) -> Result<Vec<&'a str>, AllocError>
+    ensures { IfOk result (λ files. map (λ name. name.now) files.items
+        ≡ filter (λ name. not (is_input name)) (map (λ name. name.now) names.now)) }
+{
+    let mut files = Vec::new(alloc);
+    for name in names {
+        if *name != "-" {
+            files.push(*name)?;
         }
     }
+    Ok(files)
 }
 
-// The argument that follows an option.
-fn value_of<'a>(option: &'a str, next: Option<&'a String>) -> Result<&'a str, Fault<'a>>
-    ensures ok { IfOk result
-        (λ value. option_map (λ text. string_bytes text.now) next.entry ≡ Some value.now) }
-    ensures err { IfErr result
-        (λ f. (next.entry ≡ None) × (f ≡ Fault.Arguments (Misuse.Incomplete option.entry))) }
+// How many of the names stand for the input.
+fn inputs_among(names: &[&str]) -> usize
+    ensures { result ≡ count_by is_input (map (λ name. name.now) names.now) }
 {
-    match next {
-        Some(value) => Ok(value.as_str()),
-        None => Err(Fault::Arguments(Misuse::Incomplete(option))),
-    }
+    names.iter().filter(|name| **name == "-").count()
 }
 
-// The width that a text writes.
-fn width_of(text: &str) -> Result<u32, Fault<'_>>
-    ensures ok { IfOk result (λ width. width_of text.now ≡ Some width) }
-    ensures err { IfErr result
-        (λ f. (width_of text.now ≡ None) × (f ≡ Fault.Arguments (Misuse.Width text.entry))) }
+// Whether the input is asked for by a name, or since no file is named.
+fn is_input_asked(inputs: usize, files: &[&str]) -> bool
+    ensures { result ≡ (nat_lt 0 inputs || (length files.now == 0)) }
 {
-    match text.parse::<u32>() {
-        Ok(width) => Ok(width),
-        Err(_) => Err(Fault::Arguments(Misuse::Width(text))),
-    }
+    inputs > 0 || files.is_empty()
 }
 
-/// Reads the arguments: `--help`, `--text`, `--not-empty`, `--title` with a text, `--narrowest` with a number of
-/// millionths, `--before` with the name of a file, names of files, and `-` for the input, which is also read if no
-/// file of the profile is named. It fails with `Fault::Arguments` if another argument begins with `-`, if `-` is
-/// repeated, if nothing follows `--title`, `--narrowest` or `--before`, if what follows `--narrowest` is no whole
-/// number of 32 bits, or if the text of a change is asked for. Of several words that are wrong it tells the first. Of
-/// several titles or widths the last one counts. The only other error is `Fault::Memory`.
-pub fn read_arguments(alloc: Global, arguments: &[String]) -> Result<Arguments<'_>, Fault<'_>>
-    ensures ok { IfOk result (λ asked. asked_by (words_of arguments.now) ≡ Ok (asked_of asked)) }
-    ensures err { IfErr result (StopsAsking (asked_by (words_of arguments.now))) }
+// Whether the text of a change is asked for.
+fn is_text_of_change(as_text: bool, before: &[&str]) -> bool
+    ensures { IsTrue result ↔ (IsTrue as_text × (0 < length before.now)) }
 {
-    let mut asked = Arguments {
-        help: false,
-        as_text: false,
-        not_empty: false,
-        title: "Declared bytes",
-        narrowest: 500,
-        before: Vec::new(alloc),
-        after: Vec::new(alloc),
-        reads_input: false,
+    as_text && !before.is_empty()
+}
+
+// What is asked for.
+fn asked_by<'a>(alloc: Global, matches: &ArgMatches<'a>) -> Result<Arguments<'a>, Fault<'a>>
+    ensures ok { IfOk result (IsAsked (rows_of (found_of matches.now))) }
+    ensures err { IfErr result (StopsAsking (IsWrong (rows_of (found_of matches.now)))) }
+{
+    let width = value_of(matches, "narrowest", "500");
+    let Some(narrowest) = width_of(width) else {
+        return Err(argument_fault(format!(in alloc;
+            "--narrowest takes millionths of the width, not {width}"
+        )));
     };
-    let mut words = arguments.iter();
-    while let Some(word) = words.next() {
-        match word.as_str() {
-            "--title" => asked.title = value_of("--title", words.next())?,
-            "--narrowest" => asked.narrowest = width_of(value_of("--narrowest", words.next())?)?,
-            "--before" => asked.before.push(value_of("--before", words.next())?)?,
-            "--help" => asked.help = true,
-            "--text" => asked.as_text = true,
-            "--not-empty" => asked.not_empty = true,
-            "-" if asked.reads_input => return Err(Fault::Arguments(Misuse::Repeated)),
-            "-" => asked.reads_input = true,
-            unknown if unknown.starts_with('-') => {
-                return Err(Fault::Arguments(Misuse::Unknown(unknown)));
-            }
-            name => asked.after.push(name)?,
-        }
+    let names = values_of(alloc, matches, "FILE")?;
+    let names = names.as_slice();
+    let inputs = inputs_among(names);
+    if inputs > 1 {
+        return Err(argument_fault(String::from_str(alloc, "repeated argument -")));
     }
-    if asked.as_text && !asked.before.is_empty() {
-        return Err(Fault::Arguments(Misuse::TextOfChange));
+    let before = values_of(alloc, matches, "before")?;
+    let as_text = flag(matches, "text");
+    if is_text_of_change(as_text, before.as_slice()) {
+        return Err(argument_fault(String::from_str(alloc, "--text does not go with --before")));
     }
-    if asked.after.is_empty() {
-        asked.reads_input = true;
+    let after = files_among(alloc, names)?;
+    Ok(Arguments {
+        help: flag(matches, "help"),
+        as_text,
+        not_empty: flag(matches, "not-empty"),
+        title: value_of(matches, "title", "Declared bytes"),
+        narrowest,
+        before,
+        reads_input: is_input_asked(inputs, after.as_slice()),
+        after,
+    })
+}
+
+/// Reads the arguments.
+pub fn read_arguments<'a>(alloc: Global, words: &'a [String]) -> Result<Arguments<'a>, Fault<'a>>
+    ensures ok { IfOk result (IsAsked (matches_of picture_app (words_of words.entry.now))) }
+    ensures taken { IfOk result (λ _. fault_of picture_app (words_of words.entry.now) ≡ []) }
+    ensures err { IfErr result (StopsAsking (IsRefused (words_of words.entry.now))) }
+{
+    match command(alloc)?.try_get_matches_from(words) {
+        Ok(matches) => asked_by(alloc, &matches),
+        Err(error) => Err(clap_fault(alloc, &error)),
     }
-    Ok(asked)
 }

@@ -1,13 +1,15 @@
-//! Why a run fails.
-ghost use Rattle.std.specs.Prelude.{◌≡◌};
-ghost use Rattle.allocative_picture_filter.specs.Fault.{status_of};
+//! Why a run fails, and the line that says so.
+ghost use Rattle.std.specs.Prelude.{◌≡◌, [], ◌∷◌, OnOk, IfErr};
+ghost use Rattle.std.specs.Io.KnownBytes.{Appends};
+ghost use Rattle.allocative_io.specs.Streams.{AppendsBeginning};
+ghost use Rattle.allocative_picture_filter.specs.Fault.{cause_of, fault_line, line_saying, name_of, status_of, what_is_wrong};
 
-use crate::arguments::Misuse;
-use allocative_graph::read::{LEVELS, LineFault};
+use allocative_graph::read::LineFault;
 use allocative_graph::refusal::Refusal;
+use allocative_io::write_line;
+use itoa::Buffer;
 use std::alloc::{AllocError, AllocFailed};
-use std::fmt;
-use std::io::ErrorKind;
+use std::io::{self, ErrorKind, Write};
 
 /// Where a text comes from.
 #[derive(Clone, Copy, Debug, PartialEq, Eq)]
@@ -18,8 +20,8 @@ pub enum Source<'a> {
     File(&'a str),
 }
 
-/// Why a run failed. Its text is the line on standard error, after the program's name.
-#[derive(Clone, Copy, Debug, PartialEq, Eq)]
+/// Why a run failed.
+#[derive(Debug, Drop, PartialEq, Eq)]
 pub enum Fault<'a> {
     /// Memory ran out.
     Memory,
@@ -29,8 +31,8 @@ pub enum Fault<'a> {
     NotText(Source<'a>),
     /// The bytes of all lines together exceed `usize::MAX`.
     TooLarge,
-    /// The arguments are none, and this is wrong with them.
-    Arguments(Misuse<'a>),
+    /// The arguments are wrong, for this reason.
+    Arguments(String),
     /// A read failed, with an error of this kind.
     Reading(Source<'a>, ErrorKind),
     /// A write failed.
@@ -41,8 +43,8 @@ pub enum Fault<'a> {
 
 impl Fault<'_> {
     /// Returns the status with which the program ends.
-    pub fn status(self) -> u8
-        ensures { result ≡ status_of self.entry }
+    pub fn status(&self) -> u8
+        ensures { result ≡ status_of self.now }
     {
         match self {
             Fault::Memory => 1,
@@ -58,8 +60,20 @@ impl Fault<'_> {
     }
 }
 
+// The name of a file, or another of the input.
+fn name_of<'a>(source: Source<'a>, input: &'a str) -> &'a str
+    ensures { result.now ≡ name_of source.entry input.entry.now }
+{
+    match source {
+        Source::Input => input,
+        Source::File(name) => name,
+    }
+}
+
 // Why a read failed, as the end of a line, if there is more to say than that it did.
-fn cause(kind: ErrorKind) -> &'static str {
+fn cause(kind: ErrorKind) -> &'static str
+    ensures { result.now ≡ cause_of kind }
+{
     match kind {
         ErrorKind::NotFound => ": no such file",
         ErrorKind::PermissionDenied => ": no permission",
@@ -68,43 +82,92 @@ fn cause(kind: ErrorKind) -> &'static str {
     }
 }
 
-/// As in `line 3 of the input`.
-impl fmt::Display for Source<'_> {
-    fn fmt<W: fmt::Write>(&self, f: &mut fmt::Formatter<W>) -> fmt::Result {
-        match *self {
-            Source::Input => write!(f, "the input"),
-            Source::File(name) => write!(f, "{name}"),
-        }
+// What is wrong with a line, as the end of a line.
+fn what_is_wrong(wrong: LineFault) -> &'static str
+    ensures { result.now ≡ what_is_wrong wrong }
+{
+    match wrong {
+        LineFault::TooLarge => " has a number that does not fit",
+        LineFault::TooDeep => " has more than 10000 keys",
+        _ => " is not a path, a space and a number of bytes",
     }
 }
 
-impl fmt::Display for Fault<'_> {
-    fn fmt<W: fmt::Write>(&self, f: &mut fmt::Formatter<W>) -> fmt::Result {
-        match *self {
-            Fault::Memory => write!(f, "out of memory"),
-            Fault::Line(source, number, LineFault::TooLarge) => {
-                write!(
-                    f,
-                    "line {number} of {source} has a number that does not fit"
-                )
-            }
-            Fault::Line(source, number, LineFault::TooDeep) => {
-                write!(f, "line {number} of {source} has more than {LEVELS} keys")
-            }
-            Fault::Line(source, number, _) => {
-                write!(
-                    f,
-                    "line {number} of {source} is not a path, a space and a number of bytes"
-                )
-            }
-            Fault::NotText(Source::Input) => write!(f, "a text is not UTF-8"),
-            Fault::NotText(source) => write!(f, "{source} is not UTF-8"),
-            Fault::TooLarge => write!(f, "sizes do not fit"),
-            Fault::Arguments(misuse) => write!(f, "{misuse}"),
-            Fault::Reading(Source::Input, kind) => write!(f, "cannot read input{}", cause(kind)),
-            Fault::Reading(source, kind) => write!(f, "cannot read {source}{}", cause(kind)),
-            Fault::Writing => write!(f, "cannot write output"),
-            Fault::Empty => write!(f, "the profile has 0 bytes"),
+// Writes the line that has these pieces behind the program's name.
+fn say<'a, E: Write>(
+    errors: &mut E,
+    first: &'a str,
+    second: &'a str,
+    third: &'a str,
+    fourth: &'a str,
+    fifth: &'a str,
+) -> io::Result<()>
+    ensures whole { OnOk result (Appends (E.contents errors.old) (E.contents errors.new)
+        (line_saying (first.entry.now ∷ second.entry.now ∷ third.entry.now ∷ fourth.entry.now ∷ fifth.entry.now ∷ []))) }
+    ensures beginning { AppendsBeginning (E.contents errors.old) (E.contents errors.new)
+        (line_saying (first.entry.now ∷ second.entry.now ∷ third.entry.now ∷ fourth.entry.now ∷ fifth.entry.now ∷ [])) }
+{
+    write_line(
+        errors,
+        &["allocative-picture: ", first, second, third, fourth, fifth],
+    )
+}
+
+/// Writes the line of a fault to the errors: the program's name, and why the run failed. If a write fails, a beginning
+/// of the line is written. It takes no memory.
+pub fn report_fault<E: Write>(errors: &mut E, fault: &Fault<'_>) -> io::Result<()>
+    ensures whole { OnOk result
+        (Appends (E.contents errors.old) (E.contents errors.new) (fault_line fault.now)) }
+    ensures beginning { AppendsBeginning
+        (E.contents errors.old) (E.contents errors.new) (fault_line fault.now) }
+{
+    match fault {
+        Fault::Memory => say(errors, "out of memory", "", "", "", ""),
+        Fault::Line(source, number, wrong) => {
+            let mut digits = Buffer::new();
+            let number = digits.format(*number);
+            let text = name_of(*source, "the input");
+            say(errors, "line ", number, " of ", text, what_is_wrong(*wrong))
+        }
+        Fault::NotText(source) => {
+            say(
+                errors,
+                name_of(*source, "a text"),
+                " is not UTF-8",
+                "",
+                "",
+                "",
+            )
+        }
+        Fault::TooLarge => say(errors, "sizes do not fit", "", "", "", ""),
+        Fault::Arguments(reason) => say(errors, reason.as_str(), "", "", "", ""),
+        Fault::Reading(source, kind) => {
+            say(
+                errors,
+                "cannot read ",
+                name_of(*source, "input"),
+                cause(*kind),
+                "",
+                "",
+            )
+        }
+        Fault::Writing => say(errors, "cannot write output", "", "", "", ""),
+        Fault::Empty => say(errors, "the profile has 0 bytes", "", "", "", ""),
+    }
+}
+
+/// Returns the status of a run that ended so: 0, or that of its fault, whose line is written to the errors. A line that
+/// cannot be written does not change the status.
+pub fn report<E: Write>(ended: Result<(), Fault<'_>>, errors: &mut E) -> u8
+    ensures ok { OnOk ended.entry ((result ≡ 0) × (errors.new ≡ errors.old)) }
+    ensures fault { IfErr ended.entry (λ f. (result ≡ status_of f) × AppendsBeginning
+        (E.contents errors.old) (E.contents errors.new) (fault_line f)) }
+{
+    match ended {
+        Ok(()) => 0,
+        Err(fault) => {
+            let _unwritten = report_fault(errors, &fault);
+            fault.status()
         }
     }
 }

@@ -6,9 +6,9 @@ mod arguments;
 mod fault;
 mod run;
 
-use arguments::{Misuse, read_arguments};
-use fault::{Fault, Source};
-use run::{Text, read_text, run, show_usage, tell};
+use arguments::{Arguments, argument_fault, read_arguments};
+use fault::{Fault, Source, report};
+use run::{Text, USAGE, read_text, run, write_output};
 use std::env;
 use std::fs::File;
 use std::io::{ErrorKind, Read, Write};
@@ -16,11 +16,14 @@ use std::process::ExitCode;
 use std::rt::{Env, Files};
 
 // Returns the arguments of the program. One that is not UTF-8 is refused.
-fn arguments_of<R: Env + AllocGlobal>(rt: &R) -> Result<Vec<String>, Fault<'static>> {
+fn arguments_of<'a, R: Env + AllocGlobal>(rt: &R) -> Result<Vec<String>, Fault<'a>> {
     match env::args(rt) {
         Ok(args) => Ok(args.skip(1).collect(rt.alloc())?),
         Err(error) if error.kind() == ErrorKind::OutOfMemory => Err(Fault::Memory),
-        Err(_) => Err(Fault::Arguments(Misuse::NotText)),
+        Err(_) => {
+            let reason = String::from_str(rt.alloc(), "an argument is not UTF-8");
+            Err(argument_fault(reason))
+        }
     }
 }
 
@@ -45,36 +48,33 @@ fn read_files<'a, R: Files + AllocGlobal>(
     Ok(texts)
 }
 
-// Does what the arguments ask for, and returns the status.
-fn run_on_arguments<'a, S: Files + AllocGlobal, R: Read, W: Write, E: Write>(
+// Does what the arguments ask for.
+fn run_on_files<'a, S: Files + AllocGlobal, R: Read, W: Write>(
     rt: &S,
-    arguments: &'a [String],
+    asked: &Arguments<'a>,
     input: &mut R,
     output: &mut W,
-    errors: &mut E,
-) -> Result<u8, Fault<'a>> {
-    let asked = read_arguments(rt.alloc(), arguments)?;
+) -> Result<(), Fault<'a>> {
     if asked.help {
-        return Ok(show_usage(output, errors));
+        return write_output(output, USAGE);
     }
     let before = read_files(rt, asked.before.as_slice())?;
     let after = read_files(rt, asked.after.as_slice())?;
     let (before, after) = (before.as_slice(), after.as_slice());
-    Ok(run(rt.alloc(), &asked, before, after, input, output, errors))
+    run(rt.alloc(), asked, before, after, input, output)
 }
 
 fn main(rt: HostRuntime) -> ExitCode {
     let mut input = rt.reader();
     let mut output = std::io::writer(&rt);
     let mut errors = rt.stderr();
-    let arguments = match arguments_of(&rt) {
-        Ok(arguments) => arguments,
-        Err(fault) => return ExitCode::from(tell(&mut errors, fault)),
+    let words = match arguments_of(&rt) {
+        Ok(words) => words,
+        Err(fault) => return ExitCode::from(report(Err(fault), &mut errors)),
     };
-    let words = arguments.as_slice();
-    let status = match run_on_arguments(&rt, words, &mut input, &mut output, &mut errors) {
-        Ok(status) => status,
-        Err(fault) => tell(&mut errors, fault),
+    let ended = match read_arguments(rt.alloc(), words.as_slice()) {
+        Ok(asked) => run_on_files(&rt, &asked, &mut input, &mut output),
+        Err(fault) => Err(fault),
     };
-    ExitCode::from(status)
+    ExitCode::from(report(ended, &mut errors))
 }

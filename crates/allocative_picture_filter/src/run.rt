@@ -3,9 +3,8 @@ ghost use Rattle.std.specs.Prelude.{◌≡◌, ◌≢◌, ◌⊎◌, ◌&&◌, �
 ghost use Rattle.std.specs.Io.KnownBytes.{Appends};
 ghost use Rattle.allocative_graph.specs.Graph.{default, total};
 ghost use Rattle.allocative_io.specs.Streams.{AppendsBeginning};
-ghost use Rattle.allocative_picture_filter.specs.Fault.{status_of, IsUnread};
-ghost use Rattle.allocative_picture_filter.specs.declared.run.TheConstants.{USAGE};
-ghost use Rattle.allocative_picture_filter.specs.Run.{sourced, without_mark, later_texts, Reads, Adds, AddUp, StopsReading, StopsAdding, StopsAddingUp, StopsProfile, Stops, IsMade, IsStopped};
+ghost use Rattle.allocative_picture_filter.specs.Fault.{IsReadingOf};
+ghost use Rattle.allocative_picture_filter.specs.Run.{sourced, without_mark, later_texts, Reads, Adds, AddUp, StopsReading, StopsAdding, StopsAddingUp, StopsProfile, Stops, IsMade};
 
 use crate::arguments::Arguments;
 use crate::fault::{Fault, Source};
@@ -59,7 +58,7 @@ pub fn read_text<'a, R: Read>(
     ensures ok { IfOk result
         (λ text. IfSome (R.remaining input.old) (λ known. text.bytes.now ≡ without_mark known)) }
     ensures source { IfOk result (λ text. text.source ≡ source.entry) }
-    ensures err { IfErr result (λ f. (f ≡ Fault.Memory) ⊎ IsUnread source.entry f) }
+    ensures err { IfErr result (λ f. (f ≡ Fault.Memory) ⊎ IsReadingOf source.entry f) }
 {
     match read_input(alloc, input) {
         Ok(bytes) => Ok(Text {
@@ -71,25 +70,13 @@ pub fn read_text<'a, R: Read>(
     }
 }
 
-/// Writes the line of a fault, and returns its status. A line that cannot be written does not change the status.
-pub fn tell<E: Write>(errors: &mut E, fault: Fault<'_>) -> u8
-    ensures { result ≡ status_of fault.entry }
+/// Writes a text to the output. If a write fails, a beginning of the text is written.
+pub fn write_output<W: Write>(output: &mut W, text: &str) -> Result<(), Fault<'static>>
+    ensures whole { OnOk result (Appends (W.contents output.old) (W.contents output.new) text.now) }
+    ensures beginning { AppendsBeginning (W.contents output.old) (W.contents output.new) text.now }
+    ensures err { IfErr result (λ f. f ≡ Fault.Writing) }
 {
-    let _unwritten = writeln!(errors, "allocative-picture: {fault}");
-    let _unflushed = errors.flush();
-    fault.status()
-}
-
-/// Writes how the program is used, and returns the status: 0, or 7 if a write fails, and a beginning of it is written.
-pub fn show_usage<W: Write, E: Write>(output: &mut W, errors: &mut E) -> u8
-    ensures shown { result ≡ 0 → Appends (W.contents output.old) (W.contents output.new) USAGE.now }
-    ensures unwritten { result ≢ 0 → (result ≡ 7)
-        × AppendsBeginning (W.contents output.old) (W.contents output.new) USAGE.now }
-{
-    match write_text(output, USAGE) {
-        Ok(()) => 0,
-        Err(_) => tell(errors, Fault::Writing),
-    }
+    write_text(output, text).map_err(|_| Fault::Writing)
 }
 
 // The graph of a text.
@@ -189,44 +176,30 @@ fn make<'a, R: Read>(
     }
 }
 
-/// Runs the program but for reading its arguments and files, and returns the status.
+/// Runs the program but for reading its arguments and files.
 ///
-/// With status 0 what the arguments ask for is on the output: the picture of the graph that all texts add up to, that
-/// of the change to it from the graph of the earlier texts, or its text. With status 7 a beginning of that is on the
-/// output. With any other status nothing goes to the output. With every status but 0 the line of the fault goes to the
-/// errors. The earlier texts are added up first, then the others, and the input last. The status is that of the first
-/// fault:
-/// - 1 that memory runs out,
-/// - 2 that a line of a text is not a path, a space and a number of bytes, or has too many keys,
-/// - 3 that a text is not UTF-8,
-/// - 4 that a number, the bytes of a text, of some texts together, or of both graphs of a change exceed `usize::MAX`,
-/// - 6 that the input is not read,
-/// - 7 that all this is made, and cannot be written,
-/// - 8 that the profile has 0 bytes, and is asked not to be empty.
-pub fn run<'a, R: Read, W: Write, E: Write>(
+/// After Ok what the arguments ask for is on the output: the picture of the graph that all texts add up to, that of the
+/// change to it from the graph of the earlier texts, or its text. After `Fault::Writing` a beginning of that is on the
+/// output. After any other fault nothing goes to the output. The earlier texts are added up first, then the others, and
+/// the input last; the fault is the first one. A graph or a sum whose bytes exceed `usize::MAX` is `Fault::TooLarge`.
+pub fn run<'a, R: Read, W: Write>(
     alloc: Global,
     asked: &Arguments<'a>,
     before: &[Text<'a>],
     after: &[Text<'a>],
     input: &mut R,
     output: &mut W,
-    errors: &mut E,
-) -> u8
-    ensures made { result ≡ 0 → IfSome (R.remaining input.old)
+) -> Result<(), Fault<'a>>
+    ensures made { OnOk result (IfSome (R.remaining input.old)
         (λ known. (made : List ℕ) × IsMade asked.now before.now (later_texts after.now asked.now.reads_input known) made
-        × Appends (W.contents output.old) (W.contents output.new) made) }
-    ensures unwritten { result ≡ 7 → IfSome (R.remaining input.old)
+        × Appends (W.contents output.old) (W.contents output.new) made)) }
+    ensures unwritten { IfErr result (λ f. f ≡ Fault.Writing → IfSome (R.remaining input.old)
         (λ known. (made : List ℕ) × IsMade asked.now before.now (later_texts after.now asked.now.reads_input known) made
-        × AppendsBeginning (W.contents output.old) (W.contents output.new) made) }
-    ensures stopped { result ≢ 0 → result ≢ 7
-        → IfSome (R.remaining input.old) (λ known. IsStopped asked.now before.now after.now known result) }
-    ensures untouched { result ≢ 0 → result ≢ 7 → output.new ≡ output.old }
+        × AppendsBeginning (W.contents output.old) (W.contents output.new) made)) }
+    ensures stopped { IfErr result (λ f. f ≢ Fault.Writing
+        → IfSome (R.remaining input.old) (λ known. Stops asked.now before.now after.now known f)) }
+    ensures untouched { IfErr result (λ f. f ≢ Fault.Writing → output.new ≡ output.old) }
 {
-    match make(alloc, asked, before, after, input) {
-        Ok(text) => match write_text(output, text.as_str()) {
-            Ok(()) => 0,
-            Err(_) => tell(errors, Fault::Writing),
-        },
-        Err(fault) => tell(errors, fault),
-    }
+    let made = make(alloc, asked, before, after, input)?;
+    write_output(output, made.as_str())
 }

@@ -1,17 +1,15 @@
-use Rattle.std.proofs.Common.{sym, ◌∙◌}
 use Rattle.std.proofs.lemmas.Option.{IfSome_then}
-use Rattle.allocative_picture_filter.proofs.Faults.{stops-unwritten}
+use Rattle.allocative_picture_filter.proofs.Faults.{holds-of, made-unwritten}
 use Rattle.allocative_picture_filter.proofs.run.run.Goals as goal
 
--- No fault before the writing has status 7.
-pub returns-clause-unwritten : goal.returns-clause-unwritten
-returns-clause-unwritten g c = λ seven.
-    IfSome_then (g.R.Read.remaining c.args.input.now) c.in-Err.ensures.stops
-    (λ known h. absurd (stops-unwritten c.args.asked.now c.args.before.now c.args.after.now known c.in-Err.fault h
-    (sym c.tell-in-Err.ensures ∙ seven)))
+-- No fault before the writing is one of it.
+pub returns-in_err-made-clause-unwritten : goal.returns-in_err-made-clause-unwritten
+returns-in_err-made-clause-unwritten g c =
+    holds-of c.from_residual.result _ _ c.from_residual.ensures.1
+    (λ e. IfSome_then (g.R.Read.remaining c.args.input.now) c.in_err-made.ensures.stops
+    (λ known h. absurd (made-unwritten c.args.asked.now c.args.before.now c.args.after.now known (rw e at h))))
 
--- The status is that of the fault that stops the run.
-pub returns-clause-stopped : goal.returns-clause-stopped
-returns-clause-stopped g c = λ made written.
-    IfSome_then (g.R.Read.remaining c.args.input.now) c.in-Err.ensures.stops
-    (λ known h. (c.in-Err.fault, c.tell-in-Err.ensures, h))
+-- What stops the making stops the run.
+pub returns-in_err-made-clause-stopped : goal.returns-in_err-made-clause-stopped
+returns-in_err-made-clause-stopped g c =
+    holds-of c.from_residual.result _ _ c.from_residual.ensures.1 (λ other. c.in_err-made.ensures.stops)

@@ -1,0 +1,9 @@
+-- The line of a fault is said.
+use Rattle.allocative_picture_filter.proofs.fault.report_fault.Goals as goal
+
+pub returns-in-NotText-clause-whole : goal.returns-in-NotText-clause-whole
+returns-in-NotText-clause-whole g c =
+    rw c.in-NotText.is (rw c.name_of.ensures at c.say-in-NotText.ensures.whole)
+
+pub returns-in-TooLarge-clause-whole : goal.returns-in-TooLarge-clause-whole
+returns-in-TooLarge-clause-whole g c = rw c.in-TooLarge.is c.say-in-TooLarge.ensures.whole
