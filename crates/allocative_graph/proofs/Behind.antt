@@ -7,14 +7,14 @@ use Rattle.allocative_graph.proofs.Common.{is_some, unwrap_or, eq_by_cmp, is_eq,
 use Rattle.allocative_graph.proofs.Common.{nat_list_cmp_total, get, entries, len, len-entries, len-child, Child, Key}
 use Rattle.allocative_graph.proofs.Common.{Path, key_cmp, Graph, IsTree, IsBehind, HasNothing, begins, total_at, node}
 use Rattle.allocative_graph.proofs.Common.{IsNode, rows_of, rows_of_child, entries-node, size_under, InOrder, IsFound}
-use Rattle.allocative_graph.proofs.Common.{IsChildGap, AllAbove, fold-map, sum_by-cons}
+use Rattle.allocative_graph.proofs.Common.{IsChildGap, AllAbove, sum_by-cons}
 use Rattle.allocative_graph.proofs.Common.{tied_itself}
 use Rattle.std.proofs.lemmas.List.Folds.{fold_stays, length-flat_map-take}
-use Rattle.std.proofs.lemmas.List.Sums.{sum_by-append}
 use Rattle.std.specs.List.Sorted.{IsStrictlySortedBy}
 use Rattle.std.proofs.lemmas.Bool.{cases_lt}
 use Rattle.std.proofs.lemmas.Cmp.{eq_by_cmp_equiv}
 use Rattle.allocative_graph.proofs.ChildOrder.{rises}
+use Rattle.allocative_graph.proofs.ChildRows.{rows-cons}
 use Rattle.allocative_graph.proofs.ChildSizes.{Lacks, lacks-above, size_under-lacks}
 use Rattle.allocative_graph.proofs.ChildLookup.{get-under}
 
@@ -60,20 +60,10 @@ module _ (k : Key) (p : Path) where
       (λ c cs e. ap (λ b. cond b (get c.graph p) (size_under cs k p)) e)
       (λ c cs e none. ap (λ b. cond b (get c.graph p) (size_under cs k p)) e)
 
-  -- The bytes of one child more.
-  whole-more : (c : Child) (cs : List Child)
-      → whole_in (rows_of (c ∷ cs)) (k ∷ p) ≡ sum_by (λ r. cond (eq_by_cmp key_cmp k c.key && begins p r.0) r.1 0)
-      (entries c.graph) + whole_in (rows_of cs) (k ∷ p)
-  whole-more c cs =
-      sum_by-append (λ (e : Path × ℕ). cond (begins (k ∷ p) e.0) e.1 0) (rows_of_child c) (rows_of cs)
-      ∙ ap (λ n. n + whole_in (rows_of cs) (k ∷ p))
-      (fold-map (λ n (e : Path × ℕ). n + cond (begins (k ∷ p) e.0) e.1 0) (λ r. (c.key ∷ r.0, r.1)) 0
-      (entries c.graph))
-
   whole-past : (c : Child) (cs : List Child) → eq_by_cmp key_cmp k c.key ≡ false →
       whole_in (rows_of (c ∷ cs)) (k ∷ p) ≡ whole_in (rows_of cs) (k ∷ p)
   whole-past c cs e =
-      rw (whole-more c cs, e, fold_stays (λ n (r : Path × ℕ). n + 0) 0 (λ r. refl) (entries c.graph)) (zero-add _)
+      rw (rows-cons (λ r. cond (begins (k ∷ p) r.0) r.1 0) c cs, e, fold_stays (λ n (r : Path × ℕ). n + 0) 0 (λ r. refl) (entries c.graph)) (zero-add _)
 
   -- Nothing is below a key that no child has.
   whole-lacks : (cs : List Child) → Lacks k cs → whole_in (rows_of cs) (k ∷ p) ≡ 0
@@ -83,7 +73,7 @@ module _ (k : Key) (p : Path) where
   whole-found : (cs : List Child) (i : ℕ) (d : Child) → InOrder cs → i < length cs → (get_or cs i d).key ≡ k →
       whole_in (rows_of cs) (k ∷ p) ≡ total_at (get_or cs i d).graph p
   whole-found = read-found (λ cs. whole_in (rows_of cs) (k ∷ p)) (λ c. whole_in (entries c.graph) p) k whole-past
-      (λ c cs e none. whole-more c cs ∙ (λ i. sum_by (λ r. cond (e i && begins p r.0) r.1 0) (entries c.graph) + none i)
+      (λ c cs e none. rows-cons (λ r. cond (begins (k ∷ p) r.0) r.1 0) c cs ∙ (λ i. sum_by (λ r. cond (e i && begins p r.0) r.1 0) (entries c.graph) + none i)
       ∙ add-zero _)
 
 -- The bytes of a node below a key are those of its children.

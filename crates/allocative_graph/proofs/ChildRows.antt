@@ -9,11 +9,16 @@ use Rattle.std.proofs.lemmas.List.Sums.{sum_by-append}
 pub total_of-cons : (c : Child) (cs : List Child) → total_of (c ∷ cs) ≡ total c.graph + total_of cs
 total_of-cons = sum_by-cons (λ c. total c.graph)
 
+-- A sum over the rows of one child more in front.
+pub rows-cons : (w : Path × ℕ → ℕ) (c : Child) (cs : List Child)
+    → sum_by w (rows_of (c ∷ cs)) ≡ sum_by (λ r. w (c.key ∷ r.0, r.1)) (entries c.graph) + sum_by w (rows_of cs)
+rows-cons w c cs = sum_by-append w (rows_of_child c) (rows_of cs)
+    ∙ ap (λ n. n + sum_by w (rows_of cs)) (fold-map (λ n r. n + w r) (λ r. (c.key ∷ r.0, r.1)) 0 (entries c.graph))
+
 -- The totals of some children are the sizes of their rows, added up.
 pub total_of-rows : (cs : List Child) → sum_by (λ r. r.1) (rows_of cs) ≡ total_of cs
 total_of-rows [] = refl
-total_of-rows (c ∷ cs) =
-    omega (arith, sum_by-append (λ (r : Path × ℕ). r.1) (rows_of_child c) (rows_of cs), fold-map (λ n (r : Path × ℕ). n + r.1) (λ r. (c.key ∷ r.0, r.1)) 0 (entries c.graph), total_of-rows cs, total_of-cons c cs)
+total_of-rows (c ∷ cs) = omega (arith, rows-cons (λ r. r.1) c cs, total_of-rows cs, total_of-cons c cs)
 
 -- The rows of one child more.
 pub rows-more : (cs : List Child) (i : ℕ) (d : Child) → i < length cs →

@@ -1,5 +1,5 @@
 -- A path with an entry one key below it has an entry itself, or is the root.
-use Rattle.std.proofs.Common.{◌≡◌, ℕ, ◌+◌, false, cond, IsTrue, List, [], ◌∷◌, ◌++◌, flat_map, refl, ap, sym, ◌∙◌, ◌&&◌}
+use Rattle.std.proofs.Common.{◌≡◌, ℕ, false, cond, IsTrue, List, [], ◌∷◌, ◌++◌, flat_map, refl, ap, sym, ◌∙◌, ◌&&◌}
 use Rattle.std.proofs.Common.{◌||◌, Bool, true≢false, arith}
 use Rattle.allocative_graph.proofs.Common.{AllByRecursion, is_eq, list_any, list_any-append, eq_by_cmp}
 use Rattle.allocative_graph.proofs.Common.{nat_cmp-IsAntisymmetric, slice_cmp-IsAntisymmetric, Key, Path, key_cmp}
@@ -7,7 +7,7 @@ use Rattle.allocative_graph.proofs.Common.{is_same_path, is_one_below, Identity,
 use Rattle.allocative_graph.proofs.Common.{Again, AsInline, AsUnique, AsShared, Bag, own, own_behind, contents}
 use Rattle.allocative_graph.proofs.Common.{content_entries, all, is_entered_in, sum_by-cons}
 use Rattle.allocative_graph.specs.Forest.{Mark}
-use Rattle.allocative_graph.proofs.Basics.{each-append, and_parts, or_both, or_left, or_right, or_parts}
+use Rattle.allocative_graph.proofs.Basics.{each-append, and_parts}
 use Rattle.allocative_graph.proofs.Basics.{false_from_ne_true, is_eq-Equal, same_path, same_path_itself}
 use Rattle.allocative_graph.proofs.PathOrder.{key_itself}
 use Rattle.allocative_graph.proofs.Below.{below_in}
@@ -90,9 +90,8 @@ one_below_self (l ∷ p) k = (λ i. is_eq (key_itself l i) && is_one_below p (p 
 -- If a bag has an entry at p with one more key, it has an entry one key below p.
 pub below_entered : (p : Path) (k : Key) (b : Bag) → IsTrue (is_entered_in b (p ++ k ∷ [])) → IsTrue (has_below b p)
 below_entered p k [] h = h
-below_entered p k (e ∷ b) h = or_both (is_same_path (p ++ k ∷ []) e.path) _
-    (λ s. or_left _ _ (ap (is_one_below p) (sym (same_path (p ++ k ∷ []) e.path s)) ∙ one_below_self p k))
-    (λ w. or_right (is_one_below p e.path) _ (below_entered p k b w)) h
+below_entered p k (e ∷ b) h =
+    grind (arith, h, below_entered p k b, same_path (p ++ k ∷ []) e.path, one_below_self p k)
 
 -- In a forest, a path other than the root has an entry if a path one key below it has one.
 pub parent_entered : (f : Forest) (l : Key) (p : Path) → IsTrue (has_below (all f) (l ∷ p)) →
@@ -102,8 +101,8 @@ parent_entered f l p h = closed_all f (l ∷ p) h
 -- If a bag has no entry one key below p, it has no bytes there.
 below_none : (b : Bag) (p : Path) → has_below b p ≡ false → below_in b p ≡ 0
 below_none [] p h = refl
-below_none (e ∷ b) p h = let no = or_parts (is_one_below p e.path) _ h in
-    sum_by-cons (λ e. cond (is_one_below p e.path) e.size 0) e b ∙ (λ i. cond (no.0 i) e.size 0 + below_none b p no.1 i)
+below_none (e ∷ b) p h =
+    grind (arith, h, below_none b p, sum_by-cons (λ e. cond (is_one_below p e.path) e.size 0) e b)
 
 -- If a forest has no entry at a path other than the root, it has no bytes one key below that path.
 pub absent_below : (f : Forest) (k : Key) (p : Path) → is_entered_in (all f) (k ∷ p) ≡ false →

@@ -48,7 +48,7 @@ pub use Rattle.allocative_graph.specs.Representation.Children.{child_of_path}
 pub use Rattle.allocative_graph.specs.Representation.Node.{IsNode}
 pub use Rattle.allocative_graph.specs.Representation.NodeRows.{both, entries-node, first, len-child, node_sorted}
 pub use Rattle.allocative_graph.specs.Representation.NodeRows.{second}
-pub use Rattle.allocative_graph.specs.Representation.PathRows.{IsSumByPath, joined_on, line_from, lines_below}
+pub use Rattle.allocative_graph.specs.Representation.PathRows.{IsSumByPath, joined_on, line_from, lines_from}
 pub use Rattle.allocative_graph.specs.Representation.PathRows.{graph_of_path, one_stack, sum_of_stacks}
 pub use Rattle.allocative_graph.specs.Sums.{Node, Sums, add, add_all, below, bytes_in, is_entered_in, is_unique_in}
 pub use Rattle.allocative_graph.specs.Sums.{node_of, sums_of, together}

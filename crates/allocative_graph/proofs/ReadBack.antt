@@ -1,7 +1,7 @@
 -- A text determines the sizes, and a text of a graph that is read is the graph again.
 use Rattle.std.proofs.Common.{◌≡◌, ◌≢◌, ℕ, ◌+◌, ◌-◌, ◌^◌, ◌<◌, ◌≤◌, ◌==◌, Bool, false, cond, not, List, [], ◌∷◌, ◌++◌}
 use Rattle.std.proofs.Common.{map, flat_map, length, length-append, take, get_or, Some, None, refl, ap, sym, ◌∙◌, subst}
-use Rattle.std.proofs.Common.{true≢false, arith, unwrap_or, decimal, ne_eqb, if◌then◌else◌}
+use Rattle.std.proofs.Common.{true≢false, arith, decimal, ne_eqb, if◌then◌else◌}
 use Rattle.allocative_graph.proofs.Common.{AllByRecursion, list_any, slice_split, lines, lines_of_parts, get, entries}
 use Rattle.allocative_graph.proofs.Common.{LEVELS, LineFault, Key, Path, is_same_path, Graph, text, joined, begins}
 use Rattle.allocative_graph.proofs.Common.{size_at, Lacks, HasPlainKeys, HasWords, Stack, IsStack, IsCut, IsNumber}
@@ -15,7 +15,7 @@ use Rattle.std.proofs.lemmas.List.Elements.{All-weaker}
 use Rattle.std.proofs.lemmas.List.Filters.{sum_by-filter_both}
 use Rattle.std.proofs.lemmas.List.Splits.{slice_split_none, slice_split_at, length-slice_split}
 use Rattle.allocative_graph.specs.Read.{Exceeds, CanBeRead, keys_of}
-use Rattle.allocative_graph.proofs.Basics.{each-implies, false_from_ne_true, on_test, or_parts}
+use Rattle.allocative_graph.proofs.Basics.{each-implies}
 use Rattle.allocative_graph.proofs.Text.{Plain, Sized, Good, is_shown, full, body, written_entries, good_entries, size_shown}
 use Rattle.allocative_graph.proofs.Text.{shown_lines, full_body, body_lacks, decimal_lacks, bytes_in}
 use Rattle.allocative_graph.proofs.ReadLines.{stacks-cons, stacks-first, one_cut, cut_once}
@@ -141,11 +141,7 @@ stacks_of_text g plain fits ss h = entries_read (written_entries g) (good_entrie
 -- Stacks none of which begins with a path have no bytes there.
 bytes-absent : (ss : List Stack) (q : Path) → list_any (λ s. begins q s.path) ss ≡ false → bytes_at ss q ≡ 0
 bytes-absent [] q h = refl
-bytes-absent (s ∷ ss) q h =
-    let no = or_parts (begins q s.path) _ h in
-    let apart = false_from_ne_true (is_same_path q s.path) (λ t. true≢false (sym (same_begins q s.path t) ∙ no.0)) in
-    sum_by-cons (λ (t : Stack). cond (is_same_path q t.path) t.size 0) s ss
-    ∙ (λ i. cond (apart i) s.size 0 + bytes-absent ss q no.1 i)
+bytes-absent (s ∷ ss) q h = grind (arith, h, bytes-absent ss q, same_begins q s.path, sum_by-cons (λ (t : Stack). cond (is_same_path q t.path) t.size 0) s ss)
 
 -- ---- what is read
 -- A graph that has the bytes of some stacks at a path other than the root has their size there.
@@ -153,10 +149,7 @@ size_at-read : (ss : List Stack) (h : Graph) (k : Key) (p : Path) →
     get h (k ∷ p) ≡ cond (is_path_of ss (k ∷ p)) (Some (bytes_at ss (k ∷ p))) None →
     size_at h (k ∷ p) ≡ bytes_at ss (k ∷ p)
 size_at-read ss h k p e =
-    ap (λ o. unwrap_or o 0) e
-    ∙ on_test (λ t. is_path_of ss (k ∷ p) ≡ t →
-    unwrap_or (cond t (Some (bytes_at ss (k ∷ p))) None) 0 ≡ bytes_at ss (k ∷ p)) (is_path_of ss (k ∷ p))
-    (λ t s. refl) (λ t s. sym (bytes-absent ss (k ∷ p) t)) refl
+    rw e (grind (arith, bytes-absent ss (k ∷ p)))
 
 -- What is read of the text of a graph has its sizes, but for the root.
 pub reads_back : (g h : Graph) → HasPlainKeys g → HasWords g → IsRead (text g) h → (k : Key) (p : Path) →

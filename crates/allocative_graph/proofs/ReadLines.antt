@@ -1,5 +1,5 @@
 -- The lines of a text that is read: where one is cut, which are none, and one after another.
-use Rattle.std.proofs.Common.{◌≡◌, ◌≢◌, ℕ, suc, ◌+◌, ◌^◌, ◌<◌, ◌≤◌, ◌==◌, true, false, cond, List, [], ◌∷◌, ◌++◌}
+use Rattle.std.proofs.Common.{◌≡◌, ◌≢◌, ℕ, suc, ◌+◌, ◌^◌, ◌<◌, ◌≤◌, ◌==◌, true, false, List, [], ◌∷◌, ◌++◌}
 use Rattle.std.proofs.Common.{length, get_or, take, drop, None, Some, refl, ap, sym, ◌∙◌, subst, arith, Bor, eqb-true}
 use Rattle.std.proofs.Common.{take-append-drop, Bool, map, subst₂, append-nil, drop-cons}
 use Rattle.allocative_graph.proofs.Common.{LEVELS, LineFault, NoSpace, Lacks, Stack, IsStack, IsNumber, IsCut, IsWrong}
@@ -13,7 +13,6 @@ use Rattle.std.proofs.lemmas.Str.Parse.{digit_at, without_leading_plus_none}
 use Rattle.std.proofs.lemmas.Str.Pattern.{NoCharPasses-char, drop_at_char}
 use Rattle.allocative_graph.specs.declared.read.LineFault.TheVariants.{NoPath, NoNumber, TooLarge, TooDeep}
 use Rattle.allocative_graph.specs.Read.{keys_of}
-use Rattle.allocative_graph.proofs.Basics.{on_test}
 use Rattle.allocative_graph.proofs.Text.{lacks_not, last_split}
 use Rattle.std.proofs.lemmas.List.Splits.{length-slice_split}
 use Rattle.std.proofs.lemmas.List.Sums.{count_by-le-length}
@@ -100,8 +99,7 @@ stack_of {front = front} {back = back} cut e reads fits = record {
 -- A text has at most as many lines as parts.
 parts_fit : (ps : List (List ℕ)) → length (lines_of_parts ps) ≤ length ps
 parts_fit [] = omega arith
-parts_fit (x ∷ []) = on_test (λ t. length (cond t [] (x ∷ [])) ≤ 1) (length x == 0) (λ e. omega arith)
-    (λ e. omega arith)
+parts_fit (x ∷ []) = grind arith
 parts_fit (x ∷ y ∷ ps) = omega (arith, parts_fit (y ∷ ps))
 
 -- A text has at most one line more than bytes.

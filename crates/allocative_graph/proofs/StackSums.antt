@@ -11,7 +11,7 @@ use Rattle.std.specs.Option.{SomeIff}
 use Rattle.std.proofs.lemmas.List.Sums.{fold-append, sum_by_push, sum_by-take-le}
 use Rattle.std.proofs.lemmas.List.Sorted.{IsPermutation-map}
 use Rattle.allocative_graph.specs.Read.{line_stack, IsGraphOfStacks, Exceeds}
-use Rattle.allocative_graph.proofs.Basics.{on_test, path_total, same_path}
+use Rattle.allocative_graph.proofs.Basics.{path_total, same_path}
 use Rattle.std.specs.Cmp.{tied_then}
 use Rattle.allocative_graph.proofs.PathOrder.{key_itself}
 use Rattle.allocative_graph.proofs.Graphs.{size_at-default, is_some-cond, get-default, get-under, get-under-root}
@@ -43,11 +43,7 @@ one_at ks n p = cond (is_root p || begins p ks) (Some (cond (is_same_path p ks) 
 below_key : (k : Key) (ks : Path) (n : ℕ) (l : Key) (p : Path) →
     cond (is_eq (key_cmp l k)) (one_at ks n p) None ≡ one_at (k ∷ ks) n (l ∷ p)
 below_key k ks n l p =
-    on_test (λ b. cond b (one_at ks n p) None ≡ cond (b && begins p ks) (Some (cond (b && is_same_path p ks) n 0)) None)
-    (is_eq (key_cmp l k))
-    (λ e. ap (λ b. cond b (Some (cond (is_same_path p ks) n 0)) None) (root_begins p ks)) (λ e. refl)
-    ∙ ap (λ t. cond (is_eq (key_cmp l k) && begins p ks) (Some (cond t n 0)) None)
-    (tied_then (key_cmp l k) (path_cmp p ks))
+    grind (arith, root_begins p ks, tied_then (key_cmp l k) (path_cmp p ks))
 
 -- What a path has in the graph of one path.
 get-path : (ks : Path) (n : ℕ) (p : Path) → get (graph_of_path ks n) p ≡ one_at ks n p
@@ -60,10 +56,7 @@ get-path (k ∷ ks) n (l ∷ p) = rw (get-under k (graph_of_path ks n) l p, get-
 -- The graph of a path has its bytes at that path alone.
 pub size_at-path : (ks : Path) (n : ℕ) (p : Path) → size_at (graph_of_path ks n) p ≡ cond (is_same_path p ks) n 0
 size_at-path ks n p =
-    rw (get-path ks n p, root_begins p ks)
-    (on_test (λ t. unwrap_or (cond (begins p ks) (Some (cond t n 0)) None) 0 ≡ cond t n 0) (is_same_path p ks)
-    (λ e. rw (same_begins p ks e)) (λ e. on_test (λ b. ◌≡◌ {A = ℕ} (unwrap_or (cond b (Some 0) None) 0) 0) (begins p ks)
-    (λ t. refl) (λ t. refl)))
+    rw (get-path ks n p, root_begins p ks) (grind (arith, same_begins p ks))
 
 -- The paths of the graph of a path are the root and the beginnings of the path.
 contains_key-path : (ks : Path) (n : ℕ) (p : Path) → contains_key (graph_of_path ks n) p ≡ (is_root p || begins p ks)
@@ -80,8 +73,7 @@ has-stacks ss (k ∷ p) = has-added_up one_stack default ss (k ∷ p)
 
 -- Whether a path is there, and its size, determine what a graph has at the path.
 from_parts : (x : Option ℕ) (b : Bool) (n : ℕ) → is_some x ≡ b → unwrap_or x 0 ≡ n → x ≡ cond b (Some n) None
-from_parts None b n s e = ap (λ c. cond c (Some n) None) s
-from_parts (Some m) b n s e = ap Some e ∙ ap (λ c. cond c (Some n) None) s
+from_parts x b n s e = grind (arith, s, e)
 
 -- The stacks one after another are their graph.
 graph-stacks : (ss : List Stack) → IsGraphOfStacks ss (sum_of_stacks default ss)

@@ -1,8 +1,8 @@
 -- A text determines the sizes: it splits into lines at the line feeds, a line at its last space, and a path at each
 -- `;`.
-use Rattle.std.proofs.Common.{◌≡◌, ◌≢◌, ℕ, zero, suc, ◌+◌, ◌^◌, ◌<◌, ◌≤◌, ◌/◌, ◌%◌, ◌==◌, Bool, false, cond, not, ◌||◌}
-use Rattle.std.proofs.Common.{T, IsTrue, List, [], ◌∷◌, ◌++◌, map, flat_map, filter, Some, refl, ap, sym, ◌∙◌, subst}
-use Rattle.std.proofs.Common.{arith, add-zero, zero-add, unwrap_or, append_assoc, decimal, sum_by, nat_lt, eqb-true}
+use Rattle.std.proofs.Common.{◌≡◌, ◌≢◌, ℕ, zero, suc, ◌^◌, ◌<◌, ◌≤◌, ◌/◌, ◌%◌, ◌==◌, Bool, false, cond, not, ◌||◌}
+use Rattle.std.proofs.Common.{T, IsTrue, List, [], ◌∷◌, ◌++◌, map, flat_map, filter, refl, ap, sym, ◌∙◌, subst}
+use Rattle.std.proofs.Common.{arith, unwrap_or, append_assoc, decimal, sum_by, eqb-true}
 use Rattle.std.proofs.Common.{if◌then◌else◌}
 use Rattle.allocative_graph.proofs.Common.{AllByRecursion, entries, get-entries, entries_sorted, find, is_sorted}
 use Rattle.allocative_graph.proofs.Common.{below_all, first, second, Key, Path, path_cmp, is_same_path, Graph}
@@ -31,7 +31,7 @@ last_split c (d ∷ a) (e ∷ b) x y f g h = let rest = last_split c a b x y f g
 -- ---- decimals
 -- The glyph of a digit is at least the glyph of 0.
 high : (d : ℕ) → 48 ≤ digit_glyph false d
-high d = on_test (λ t. 48 ≤ (if t then 48 + d else 87 + d)) (nat_lt d 10) (λ e. omega arith) (λ e. omega arith)
+high d = grind arith
 
 -- If all bytes of a list are at least 48, so are all once digits are written before them.
 high_digits : (k n : ℕ) (acc : List ℕ) → AllByRecursion (λ b. 48 ≤ b) acc →
@@ -75,9 +75,7 @@ body e = joined e.0 ++ 32 ∷ decimal e.1
 -- The text of some entries is the lines of those that are shown.
 pub shown_lines : (es : List Sized) → text_of_entries es ≡ flat_map full (filter is_shown es)
 shown_lines [] = refl
-shown_lines (e ∷ es) = on_test (λ t. cond t [] (full e) ++ text_of_entries es
-    ≡ flat_map full (cond (not t) (e ∷ filter is_shown es) (filter is_shown es))) (is_root e.0 || (e.1 == 0))
-    (λ h. shown_lines es) (λ h. ap (λ x. full e ++ x) (shown_lines es))
+shown_lines (e ∷ es) = grind (arith, shown_lines es)
 
 -- The line of an entry is its keys and its size, and after these a line feed.
 pub full_body : (e : Sized) (rest : List ℕ) → full e ++ rest ≡ body e ++ 10 ∷ rest
@@ -115,10 +113,7 @@ bytes_in es q = sum_by (λ e. cond (is_same_path q e.0) e.1 0) es
 -- If an entry has no line, it has no bytes at a path that is not the root.
 unseen : (e : Sized) (k : Key) (p : Path) → is_shown e ≡ false → cond (is_same_path (k ∷ p) e.0) e.1 0 ≡ 0
 unseen ([], n) k p h = refl
-unseen (l ∷ q, n) k p h = zero_at (is_same_path (k ∷ p) (l ∷ q)) (eqb-true n 0 (not-false (n == 0) h))
-  where
-    zero_at : (t : Bool) → n ≡ 0 → cond t n 0 ≡ 0
-    zero_at t e = grind arith
+unseen (l ∷ q, n) k p h = let zero = eqb-true n 0 (not-false (n == 0) h) in grind arith
 
 -- If the items that fail a test have none, the sum over the other items is the sum over all.
 sum-filter : {X : Type 0} (t : X → Bool) (f : X → ℕ) → ((x : X) → t x ≡ false → f x ≡ 0) → (xs : List X) →
@@ -134,13 +129,8 @@ bytes-find q [] h = refl
 bytes-find q (e ∷ es) h =
     let rest = bytes-find q es (second (below_all path_cmp e.0 es) (is_sorted path_cmp es) h) in
     let above = first (below_all path_cmp e.0 es) (is_sorted path_cmp es) h in
-    sum_by-cons (λ (x : Sized). cond (is_same_path q x.0) x.1 0) e es
-    ∙ on_test (λ t. cond t e.1 0 + bytes_in es q ≡ unwrap_or (cond t (Some e.1) (find path_cmp q es)) 0)
-    (is_same_path q e.0)
-    (λ same. ap (λ n. e.1 + n) (rest ∙ ap (λ o. unwrap_or o 0)
-    (find-below_all path_cmp q es (subst (λ (p : Path). T (below_all path_cmp p es)) (sym (same_path q e.0 same))
-    above))) ∙ add-zero e.1)
-    (λ apart. zero-add (bytes_in es q) ∙ rest)
+    let none = find-below_all path_cmp e.0 es above in
+    grind (arith, rest, none, same_path q e.0, sum_by-cons (λ (x : Sized). cond (is_same_path q x.0) x.1 0) e es)
 
 -- A size of a graph, but for the root's, is that of the lines.
 pub size_shown : (g : Graph) (k : Key) (p : Path) → size_at g (k ∷ p) ≡ bytes_in (written_entries g) (k ∷ p)

@@ -1,12 +1,11 @@
 //! Flame graphs: maps from paths of keys to sizes.
 ghost use Rattle.std.specs.Prelude.{◌≡◌, ◌+◌, ◌^◌, ◌<◌, ◌≤◌, ◌↔◌, ◌++◌, [], ◌∷◌, IfOk, IfErr, IfSome, IfNone, OnOk, OnErr, IsErrOf, MatchResult, string_bytes, length, is_ok};
-ghost use Rattle.std.specs.Bool.{OnFalse};
 ghost use Rattle.std.specs.List.{insert};
 ghost use Rattle.std.specs.FinMap as map;
 ghost use Rattle.allocative_graph.specs.Path.{key_cmp, texts};
-ghost use Rattle.allocative_graph.specs.Format.{semicolon, AppendsText, ReturnsText};
+ghost use Rattle.allocative_graph.specs.Format.{AppendsText, ReturnsText};
 ghost use Rattle.allocative_graph.specs.Graph.{add_self, total, text, default, sum_of, under, joined, ExceedWord, IsTree, IsPartOfSum};
-ghost use Rattle.allocative_graph.specs.Representation.PathRows.{size_text, lines_from, lines_below, HasRootAlone};
+ghost use Rattle.allocative_graph.specs.Representation.PathRows.{line_from, lines_from};
 ghost use Rattle.allocative_graph.specs.Rows.{AreChildren};
 ghost use Rattle.allocative_graph.specs.Many.{total_of};
 ghost use Rattle.allocative_graph.specs.Representation.Children.{front_order, InOrder, IsFound, IsChildGap, Added, Merged, MergesFirst};
@@ -242,47 +241,29 @@ impl FlameGraph {
         let alloc = *self.children.allocator();
         let mut text = String::new(alloc);
         let mut start = String::new(alloc);
-        self.write_below(&mut start, &mut text)?;
+        for child in &self.children {
+            start.clear();
+            start.push_str(child.key.as_str())?;
+            child.graph.write_lines(&mut start, &mut text)?;
+        }
         Ok(text)
     }
 
-    // Appends the lines of all paths but the root, each after the given start of a line.
-    fn write_below(&self, start: &mut String, text: &mut String) -> Result<(), AllocError>
+    // Appends the lines of all paths, each after the given start of a line.
+    fn write_lines(&self, start: &mut String, text: &mut String) -> Result<(), AllocError>
         ensures start { OnOk result (string_bytes start.new ≡ string_bytes start.old) }
         ensures text { OnOk result (AppendsText text.old text.new
-            (lines_below (string_bytes start.old) (map.entries self.now))) }
+            (lines_from (string_bytes start.old) (map.entries self.now))) }
     {
+        push_line(start.as_str(), self.node_size, text)?;
         let length = start.len();
         for child in &self.children {
+            start.push(';')?;
             start.push_str(child.key.as_str())?;
-            child.graph.write_own(start.as_str(), text)?;
-            if child.graph.has_children() {
-                start.push(';')?;
-                child.graph.write_below(start, text)?;
-            }
+            child.graph.write_lines(start, text)?;
             start.truncate(length);
         }
         Ok(())
-    }
-
-    // Appends the root's own line after the keys of its path.
-    #[tactic(auto, using(crate::proofs::NodeText::own_written, crate::proofs::NodeText::line_of_some, crate::proofs::NodeText::nothing_written))]
-    fn write_own(&self, path: &str, text: &mut String) -> Result<(), AllocError>
-        ensures { OnOk result
-            (string_bytes text.new ++ lines_below (path.now ++ semicolon ∷ []) (map.entries self.now)
-            ≡ string_bytes text.old ++ lines_from path.now (map.entries self.now)) }
-    {
-        if self.node_size != 0 {
-            push_line(path, self.node_size, text)?;
-        }
-        Ok(())
-    }
-
-    // Whether there are paths other than the root.
-    fn has_children(&self) -> bool
-        ensures { OnFalse result (HasRootAlone self.now) }
-    {
-        !self.children.is_empty()
     }
 }
 
@@ -310,10 +291,14 @@ impl Clone for FlameGraph {
     }
 }
 
-// Appends a path, and then the size that ends its line.
+// Appends the line of a path with a size other than 0.
+#[tactic(auto, using(crate::proofs::NodeText::line_of_some, crate::proofs::NodeText::line_of_none))]
 fn push_line(path: &str, size: usize, text: &mut String) -> Result<(), AllocError>
-    ensures { OnOk result (AppendsText text.old text.new (path.now ++ size_text size)) }
+    ensures { OnOk result (AppendsText text.old text.new (line_from path.now ([], size))) }
 {
+    if size == 0 {
+        return Ok(());
+    }
     let mut digits = Buffer::new();
     text.push_str(path)?;
     text.push(' ')?;

@@ -1,9 +1,9 @@
 -- The lines of rows, the sum of two graphs path by path, and the graphs of paths and stacks.
 use Rattle.std.specs.Prelude.{◌≡◌, ℕ, ◌+◌, ◌||◌, ◌==◌, if◌then◌else◌, List, [], ◌∷◌, ◌++◌, flat_map, decimal, fold}
-use Rattle.std.specs.FinMap.{contains_key, entries}
+use Rattle.std.specs.FinMap.{contains_key}
 use Rattle.allocative_graph.specs.Path.{Path}
 use Rattle.allocative_graph.specs.Format.{semicolon, space, newline}
-use Rattle.allocative_graph.specs.Graph.{Graph, size_at, is_root, joined, default, sum_of, under, add_self}
+use Rattle.allocative_graph.specs.Graph.{Graph, size_at, default, sum_of, under, add_self}
 use Rattle.allocative_graph.specs.Read.{Stack}
 
 -- The keys, with a `;` before each.
@@ -22,18 +22,6 @@ line_from t r = if r.1 == 0 then [] else (t ++ (joined_on r.0 ++ size_text r.1))
 -- The lines of some paths, each with t as the text of its first keys.
 abbrev pub lines_from : List ℕ → List (Path × ℕ) → List ℕ
 lines_from t rs = flat_map (line_from t) rs
-
--- The line of a path with t before it; the root has none.
-abbrev pub line_below : List ℕ → Path × ℕ → List ℕ
-line_below t r = if is_root r.0 || r.1 == 0 then [] else (t ++ (joined r.0 ++ size_text r.1))
-
--- The lines of some paths, with t before each.
-abbrev pub lines_below : List ℕ → List (Path × ℕ) → List ℕ
-lines_below t rs = flat_map (line_below t) rs
-
--- The root is the only path.
-abbrev pub HasRootAlone : Graph → Type 0
-HasRootAlone g = (n : ℕ) × (entries g ≡ ([], n) ∷ [])
 
 -- Path by path r is the sum of g and h, and it has the paths of both.
 abbrev pub IsSumByPath : Graph → Graph → Graph → Type 0
