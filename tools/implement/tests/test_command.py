@@ -312,6 +312,8 @@ class CommandTest(unittest.TestCase):
         self.assertEqual((new["other/src/a/shown.rt"], run(path, "--output", other, "--check")[0]), (output, 0))
         self.assertEqual((run(path, "--output", self.crate)[1], self.get("src/a/shown.rt")), ("", output))
         self.assertEqual((self.get(ANSWERS), run(path, "--check")[0]), (new[f"other/{ANSWERS}"], 0))
+        self.assertEqual((run(path, "--in-place", "--output", other)[0], self.get("src/a.rt")), (0, CASES))
+        self.assertIn("\n// allocative: begin\n", self.get("../../other/src/a.rt"))
 
     def test_answers_go_with_the_file_of_the_module(self) -> None:
         self.put("src/a.rt", CASES)
