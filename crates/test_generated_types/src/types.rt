@@ -79,8 +79,6 @@ pub struct Category {
 #[derive(Drop)]
 pub enum Json {
     Null,
-    Bool(bool),
-    Pair(u64, String, u64, u64, String),
     List(Vec<Json>),
     Table(BTreeMap<String, Json>),
     Boxed(Box<Json>),

@@ -75,28 +75,26 @@ fn a_lifetime_and_a_number(rt: HostRuntime) -> Result<(), Fail> {
 #[test]
 fn variants_of_an_enum_that_holds_itself(rt: HostRuntime) -> Result<(), Fail> {
     let alloc = rt.alloc();
-    expect(&rt, &Json::Null, "Json 80\n", 80)?;
+    expect(&rt, &Json::Null, "Json 32\n", 32)?;
     let list = Json::List(vec![in alloc; Json::Null]?);
-    let text = "Json 56\nJson;List;Vec 16\nJson;List;Vec;ptr 8\nJson;List;Vec;ptr;Json 80\n";
-    expect_holding(&rt, &list, text, 160, 80)?;
+    let text = "Json 8\nJson;List;Vec 16\nJson;List;Vec;ptr 8\nJson;List;Vec;ptr;Json 32\n";
+    expect_holding(&rt, &list, text, 64, 32)?;
     let table = Json::Table(BTreeMap::new(alloc));
-    let text = "Json 56\nJson;Table;BTreeMap 16\nJson;Table;BTreeMap;data 8\n";
-    expect(&rt, &table, text, 80)
+    let text = "Json 8\nJson;Table;BTreeMap 16\nJson;Table;BTreeMap;data 8\n";
+    expect(&rt, &table, text, 32)
 }
 
 #[test]
 fn values_in_boxes(rt: HostRuntime) -> Result<(), Fail> {
-    let alloc = rt.alloc();
-    let boxed = Json::Boxed(Box::new(alloc, Json::Bool(true))?);
-    let text =
-        "Json 72\nJson;Boxed;Box;ptr 8\nJson;Boxed;Box;ptr;Json 79\nJson;Boxed;Box;ptr;Json;Bool;bool 1\n";
-    expect_holding(&rt, &boxed, text, 160, 80)?;
+    let boxed = Json::Boxed(Box::new(rt.alloc(), Json::Null)?);
+    let text = "Json 24\nJson;Boxed;Box;ptr 8\nJson;Boxed;Box;ptr;Json 32\n";
+    expect_holding(&rt, &boxed, text, 64, 32)?;
     let maybe = Json::Maybe {
         first: None,
         number: 5,
     };
-    let text = "Json 56\nJson;Maybe 4\nJson;Maybe;first;Option 16\nJson;Maybe;number;u32 4\n";
-    expect(&rt, &maybe, text, 80)
+    let text = "Json 8\nJson;Maybe 4\nJson;Maybe;first;Option 16\nJson;Maybe;number;u32 4\n";
+    expect(&rt, &maybe, text, 32)
 }
 
 #[test]

@@ -539,13 +539,11 @@ type JsonLayout = Record<
     (
         u8,
         Or<
-            Or<(bool, ()), Or<(u64, (String, (u64, (u64, (String, ()))))), (Vec<()>, ())>>,
-            Or<(BTreeMap<(), ()>, ()), Or<(Box<()>, ()), (Option<Box<()>>, (u32, ()))>>,
+            Or<(Vec<()>, ()), (BTreeMap<(), ()>, ())>,
+            Or<(Box<()>, ()), (Option<Box<()>>, (u32, ()))>,
         >,
     ),
 >;
-
-type JsonPairFields = Record<(u64, (String, (u64, (u64, (String, ())))))>;
 
 type JsonMaybeFields = Record<(Option<Box<()>>, (u32, ()))>;
 
@@ -578,13 +576,6 @@ impl Described for Json {
 impl Allocative for Json {
     ghost may_show = { recursive (opened out-Json (λ x. field (codes "Json") ⟦<JsonLayout as Described>⟧.size (elim x [
       | Json-F.Null ↦ plain shows.Nothing
-      | Json-F.Bool a ↦ plain (shows.Field (codes "Bool") ⟦<bool as Described>⟧.size (⟦<bool as Allocative>⟧.may_show a))
-      | Json-F.Pair a b c d e ↦ field (codes "Pair") ⟦<JsonPairFields as Described>⟧.size (both
-          (plain (shows.Field (codes "0") ⟦<u64 as Described>⟧.size (⟦<u64 as Allocative>⟧.may_show a))) (both
-          (plain (shows.Field (codes "1") ⟦<String as Described>⟧.size (⟦<String as Allocative>⟧.may_show b))) (both
-          (plain (shows.Field (codes "2") ⟦<u64 as Described>⟧.size (⟦<u64 as Allocative>⟧.may_show c))) (both
-          (plain (shows.Field (codes "3") ⟦<u64 as Described>⟧.size (⟦<u64 as Allocative>⟧.may_show d)))
-          (plain (shows.Field (codes "4") ⟦<String as Described>⟧.size (⟦<String as Allocative>⟧.may_show e)))))))
       | Json-F.List a ↦ field (codes "List") ⟦<Vec<()> as Described>⟧.size (vec_in ⟦<JsonLayout as Described>⟧.size child a)
       | Json-F.Table a ↦ field (codes "Table") ⟦<BTreeMap<(), ()> as Described>⟧.size (btree_map_of (pair_in ⟦<String as Described>⟧.size ⟦<String as Allocative>⟧.may_show ⟦<JsonLayout as Described>⟧.size child) a.entries)
       | Json-F.Boxed a ↦ field (codes "Boxed") ⟦<Box<()> as Described>⟧.size (box_of (child a.value))
@@ -598,19 +589,6 @@ impl Allocative for Json {
     fn visit(&self, visitor: &mut Visitor<'_>) -> Result<(), Refusal> {
         match self {
             Json::Null => Declared("Json", <Self as Described>::size(), ()).enter(visitor),
-            Json::Bool(a) => {
-                let a = Field("Bool", a);
-                Declared("Json", <Self as Described>::size(), a).enter(visitor)
-            }
-            Json::Pair(a, b, c, d, e) => {
-                let a = Field("0", a);
-                let b = Field("1", b);
-                let c = Field("2", c);
-                let d = Field("3", d);
-                let e = Field("4", e);
-                let inside = Declared("Pair", <JsonPairFields>::size(), (a, b, c, d, e));
-                Declared("Json", <Self as Described>::size(), inside).enter(visitor)
-            }
             Json::List(a) => {
                 let a = Field("List", a);
                 Declared("Json", <Self as Described>::size(), a).enter(visitor)

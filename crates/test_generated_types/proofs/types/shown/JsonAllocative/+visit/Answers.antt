@@ -11,18 +11,6 @@ returns-in-Null t c =
     (means_opened _ _ refl (let e : out-Json c.args.self.now ≡ Json-F.Null = ap out-Json c.in-Null.is ∙ search the_lemmas in e)
     (means_field refl c.size.ensures means_same))
 
-pub returns-in-Bool : goal.returns-in-Bool
-returns-in-Bool t c =
-    visited_as c.enter-in-Bool.ensures
-    (means_opened _ _ refl (let e : out-Json c.args.self.now ≡ Json-F.Bool c.in-Bool.a = ap out-Json c.in-Bool.is ∙ search the_lemmas in e)
-    (means_field refl c.size-in-Bool.ensures means_same))
-
-pub returns-in-Pair : goal.returns-in-Pair
-returns-in-Pair t c =
-    visited_as c.enter-in-Pair.ensures
-    (means_opened _ _ refl (let e : out-Json c.args.self.now ≡ Json-F.Pair c.in-Pair.a c.in-Pair.b c.in-Pair.c c.in-Pair.d c.in-Pair.e = ap out-Json c.in-Pair.is ∙ search the_lemmas in e)
-    (means_field refl c.size-in-Pair-2.ensures (means_field refl c.size-in-Pair.ensures means_same)))
-
 pub returns-in-List : goal.returns-in-List
 returns-in-List t c =
     visited_as c.enter-in-List.ensures
