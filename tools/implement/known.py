@@ -6,7 +6,7 @@ import re
 from functools import cache
 from typing import Callable, Container, Iterable
 
-from .types import Definition, Module, Type
+from .types import Definition, Module, Type, type_of
 
 # The declared bytes of the types that are as large as their alignment.
 FORMS = ("u", "i", "NonZeroU", "NonZeroI", "AtomicU", "AtomicI")
@@ -27,6 +27,8 @@ POINTERS = {"Vec", "Box", "VecDeque", "Slab", "IdRc", "IdArc", "OnceBox", *KEYS}
 # Traits with their paths, of which `Ord` alone implies another that a key needs.
 TRAITS = set("std cmp hash fmt Allocative Described Drop Clone Copy Debug PartialEq PartialOrd Eq Ord Hash".split())
 FUNCTIONS = ("fn(", "unsafe fn", "extern ", "unsafe extern")
+# A name that stands alone, and not in a path.
+NAME = re.compile(r"(?<![\w:'])[A-Za-z_]\w*(?!\w|::)")
 Path = tuple[str, ...]
 NOT_STRICT = {"OnceBox"}
 # Types that need no `use`.
@@ -55,11 +57,10 @@ class Scope:
         return any(each.name in names and self.own(each) for each in self.real(kind).all())
 
     def real(self, kind: Type) -> Type:
-        """The type itself, if a name of the module stands for it."""
-        seen: set[str] = set()
-        while len(kind.path) == 1 and kind.name in self.module.aliases and kind.name not in seen:
-            seen.add(kind.name)
-            kind = self.module.aliases[kind.name]
+        """The type with the types themselves in it, where names of the module stand for them."""
+        aliases = self.module.aliases
+        for _ in aliases:
+            kind = type_of(NAME.sub(lambda found: aliases[found[0]].text if found[0] in aliases else found[0], kind.text))
         return kind
 
     def path(self, kind: Type) -> Path:
