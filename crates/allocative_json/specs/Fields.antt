@@ -91,14 +91,14 @@ RefusesGraph g refused.Open = ⊥
 abbrev pub Makes : Graph → Result Graph Refusal → Type 0
 Makes g r = MatchResult r (λ made. made ≡ g) (RefusesGraph g)
 
--- The input is a document, and `made` is the text of its fields.
+-- The input is a document, and `made` is the text of its fields, with some room in its texts, names and arrays.
 pub record AreFields (input made : List ℕ) : Type 0 where
   pub document : Value
   pub is_read : IsDocument input (view document)
   pub is_text : made ≡ text (document_fields document)
 
 -- Why there is no text of the fields of an input: Memory only if the input is not empty; NotJson only if it is no
--- document; TooLarge only if it is one whose bytes exceed a word; and no other.
+-- document; TooLarge only if it is one whose bytes, with some room, exceed a word; and no other.
 abbrev pub RefusesFields : List ℕ → Fault → Type 0
 RefusesFields input Memory = 0 < length input
 RefusesFields input NotJson = (d : Data) → ¬ IsDocument input d

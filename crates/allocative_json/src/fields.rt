@@ -107,8 +107,11 @@ fn graph_of_document(alloc: Global, document: &'static Value) -> Result<FlameGra
 /// carriage return are `%25`, `%3B`, `%5B`, `%0A` and `%0D`, and all items of an array stand under `[]`. A value has 32
 /// bytes, a text also its capacity, an array 32 for each unused place, and a member 24 and the capacity of its name.
 ///
-/// It returns `Fault::NotJson` if `serde_json` refuses the input for a reason other than memory, `Fault::TooLarge` only
-/// if the bytes of the document exceed `usize::MAX`, and otherwise `Fault::Memory`, which an empty input never causes.
+/// It returns `Fault::NotJson` if `serde_json` refuses the input for a reason other than memory, and `Fault::TooLarge`
+/// only if the bytes of the document exceed `usize::MAX`, with some room in its texts, names and arrays. No contract of
+/// `serde_json` bounds the room that its reader leaves. So the clause says nothing of `Fault::TooLarge` for a document
+/// with a text, an array or a member of an object. Otherwise the error is `Fault::Memory`, which an empty input never
+/// causes.
 #[tactic(auto, using(crate::proofs::FieldsLemmas::ending))]
 pub fn fields_json(alloc: Global, input: &[u8]) -> Result<String, Fault>
     ensures ok { IfOk result (λ made. AreFields input.now (string_bytes made)) }

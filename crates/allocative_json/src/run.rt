@@ -4,7 +4,7 @@ ghost use Rattle.allocative_io.specs.Streams.{AppendsBeginning};
 ghost use Rattle.allocative_json.specs.Fault.{status_of, line_of};
 ghost use Rattle.allocative_json.specs.Profile.{IsRightReport, RefusesReport};
 ghost use Rattle.allocative_json.specs.Run.{StopsReading, IsReportFor, IsWritten, IsBegun, EndsWell, EndsCutOff, EndsIn, MayEndRun, program};
-ghost use Rattle.allocative_json.specs.Words.{words_of};
+ghost use Rattle.allocative_json.specs.Words.{words_of, AreWords};
 
 use crate::fault::Fault;
 use crate::printed::Report;
@@ -61,6 +61,7 @@ fn profile_as_asked(alloc: Global, asked: Words, input: &[u8]) -> Result<Report,
 fn make_report<R: Read>(alloc: Global, words: &[String], input: &mut R) -> Result<Report, Fault>
     ensures ok { IfOk result (IsReportFor (words_of words.now) (R.remaining input.old)) }
     ensures err { IfErr result (MayEndRun (words_of words.now) (R.remaining input.old)) }
+    ensures unread { ¬ AreWords (words_of words.now) → input.new ≡ input.old }
 {
     let asked = read_words(words)?;
     let bytes = read_bytes(alloc, input)?;
@@ -89,7 +90,7 @@ fn write_report<W: Write, E: Write>(
 /// warnings are on the errors. With status 7 a beginning of the profile is on the output, and no warning is on the
 /// errors unless the whole profile is written. With any other status nothing is written to the output. With every
 /// status but 0 the line of the fault is written last to the errors, or a beginning of it if that fails, and the status
-/// is that of the fault. It is 4 only if `profile_json` may return `Fault::TooLarge`, and never 8. With the word
+/// is that of the fault. If the words are not accepted, nothing is read. The status is 4 only if `profile_json` may return `Fault::TooLarge`, and never 8. With the word
 /// `registry` the roots are boxed and visited by a registry, and the same clauses hold.
 pub fn run_json<R: Read, W: Write, E: Write>(
     alloc: Global,
@@ -108,6 +109,7 @@ pub fn run_json<R: Read, W: Write, E: Write>(
         → EndsIn program (MayEndRun (words_of words.now) (R.remaining input.old))
         (E.contents errors.old) (E.contents errors.new) result }
     ensures untouched { result ≢ 0 → result ≢ 7 → output.new ≡ output.old }
+    ensures unread { ¬ AreWords (words_of words.now) → input.new ≡ input.old }
 {
     match make_report(alloc, words, input) {
         Ok(report) => match write_report(&report, output, errors) {

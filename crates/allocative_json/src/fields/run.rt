@@ -1,5 +1,5 @@
 //! The program `allocative-fields`, over any reader and two writers.
-ghost use Rattle.std.specs.Prelude.{◌≡◌, ◌≢◌, length, IfOk, IfErr, string_bytes};
+ghost use Rattle.std.specs.Prelude.{◌≡◌, ◌≢◌, ◌<◌, length, IfOk, IfErr, string_bytes};
 ghost use Rattle.allocative_json.specs.Fields.{AreFieldsFor, MayEndFields, EndsWithFields, CutsOffFields, program};
 ghost use Rattle.allocative_json.specs.Run.{EndsIn};
 
@@ -16,6 +16,7 @@ fn make_fields<R: Read>(alloc: Global, words: &[String], input: &mut R) -> Resul
     ensures ok { IfOk result
         (λ made. AreFieldsFor (length words.now) (R.remaining input.old) (string_bytes made)) }
     ensures err { IfErr result (MayEndFields (length words.now) (R.remaining input.old)) }
+    ensures unread { 0 < length words.now → input.new ≡ input.old }
 {
     if words.len() > 0 {
         return Err(Fault::Words);
@@ -24,7 +25,7 @@ fn make_fields<R: Read>(alloc: Global, words: &[String], input: &mut R) -> Resul
     fields_json(alloc, bytes.as_slice())
 }
 
-/// Runs the whole program and returns its status. It accepts no word.
+/// Runs the whole program and returns its status. It accepts no word: if there is one, nothing is read.
 ///
 /// The text is made before anything is written. With status 0 it is on the output, and with status 7 a beginning of it.
 /// With any other status nothing is written to the output. With every status but 0 the line of the fault is written to
@@ -45,6 +46,7 @@ pub fn run_fields<R: Read, W: Write, E: Write>(
         → EndsIn program (MayEndFields (length words.now) (R.remaining input.old))
         (E.contents errors.old) (E.contents errors.new) result }
     ensures untouched { result ≢ 0 → result ≢ 7 → output.new ≡ output.old }
+    ensures unread { 0 < length words.now → input.new ≡ input.old }
 {
     match make_fields(alloc, words, input) {
         Ok(text) => match write_text(output, text.as_str()) {
