@@ -115,7 +115,8 @@ impl FlameGraphBuilder {
     pub(crate) fn check(&self) -> Result<(), Refusal>
         ensures { Settles self.now result }
     {
-        self.collector.check_graph()
+        self.collector.graph()?;
+        Ok(())
     }
 
     /// The graph and the warnings of all that was entered. The total of the graph is at most `isize::MAX`.
@@ -126,7 +127,7 @@ impl FlameGraphBuilder {
         ensures ends { Ends IsProfile self result }
         ensures total { IfOk result (λ o. total o.graph < 2 ^ 63) }
     {
-        self.collector.finish()
+        self.collector.graph()?.finish()
     }
 
     /// Finishes the builder and returns the text of the graph. The errors are those of `finish`.

@@ -1,15 +1,14 @@
 //! The collectors: that of a flame graph, that of held bytes and that of owned bytes.
 #![tactic(auto, using(crate::proofs::Opening::opening))]
 
-ghost use Rattle.std.specs.Prelude.{◌≡◌, ◌<◌, ◌^◌, Some, true, false, IfOk, IfErr, OnOk, IsTrue, ◌↔◌};
-ghost use Rattle.allocative_graph.specs.Collector.{State, Going, OfGraph, OfHeld, OfOwned, no_entries, nothing_held, nothing_owned, enter, leave, begin, outer_of, failed_with, IsClosed, IsAtRoot};
-ghost use Rattle.allocative_graph.specs.Graph.{total};
-ghost use Rattle.allocative_graph.specs.Visits.{HasFailed, RefusesSized, OpensEntry, ClosesEntry, OpensShared, OpensRoot, Settles, Ends, IsProfile};
+ghost use Rattle.std.specs.Prelude.{◌≡◌, false, IfOk, IfErr};
+ghost use Rattle.allocative_graph.specs.Collector.{Going, OfGraph, OfHeld, OfOwned, no_entries, nothing_held, nothing_owned, failed_with, IsClosed};
+ghost use Rattle.allocative_graph.specs.Visits.{HasFailed, OpensEntry, ClosesEntry, OpensShared, OpensRoot, Settles};
 ghost use Rattle.allocative.specs.Kinds.{IsHeldSum};
 ghost use Rattle.allocative.specs.Built.{as_graph};
 ghost use Rattle.allocative.specs.Making.{Makes, Done, one};
 
-use crate::{Allocative, FlameGraphOutput, Identity, Key, Refusal, Visitor};
+use crate::{Allocative, Identity, Key, Refusal, Visitor};
 use allocative_collectors::graph_collector::GraphCollector;
 use allocative_collectors::held_collector::HeldCollector;
 use allocative_collectors::owned_collector::OwnedCollector;
@@ -221,14 +220,16 @@ impl Collector {
         }
     }
 
-    /// Checks the collector of a flame graph: the first cause if it has failed, `Open` if a visitor is
-    /// open, and otherwise `Ok`. Another collector counts as failed with `Open`.
-    pub(crate) fn check_graph(&self) -> Result<(), Refusal>
-        ensures { Settles (as_graph self.now) result }
+    /// The collector of a flame graph if no visitor is open, otherwise the first cause, or `Open`. Another collector
+    /// counts as failed with `Open`.
+    pub(crate) fn graph(&self) -> Result<&GraphCollector, Refusal>
+        ensures closed { IfOk result
+            (λ graph. IsClosed (OfGraph graph.now) × (self.now ≡ Going (OfGraph graph.now))) }
+        ensures refused { IfErr result (λ e. Settles (as_graph self.now) (Err e)) }
     {
-        self.check()?;
         match &self.kind {
-            Kind::Graph(_) => Ok(()),
+            Kind::Graph(graph) if graph.is_closed() => Ok(graph),
+            Kind::Failed(cause) => Err(*cause),
             _ => Err(Refusal::Open),
         }
     }
@@ -241,18 +242,6 @@ impl Collector {
             Kind::Held(held) => held.sum(),
             Kind::Owned(owned) => owned.sum(),
             _ => 0,
-        }
-    }
-
-    /// The graph and the warnings of a flame graph's collector. Another collector counts as failed with `Open`.
-    pub(crate) fn finish(&self) -> Result<FlameGraphOutput, Refusal>
-        ensures ends { Ends IsProfile (as_graph self.now) result }
-        ensures total { IfOk result (λ o. total o.graph < 2 ^ 63) }
-    {
-        self.check()?;
-        match &self.kind {
-            Kind::Graph(graph) => graph.finish(),
-            _ => Err(Refusal::Open),
         }
     }
 }
@@ -323,7 +312,7 @@ impl Collector {
         ensures begun { IfOk result (OpensRootAt (as_graph self.old)) }
         ensures refused { IfErr result (λ e. Settles (as_graph self.old) (Err e)) }
     {
-        self.check_graph()?;
+        self.graph()?;
         self.root_visitor()
     }
 
