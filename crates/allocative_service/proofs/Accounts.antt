@@ -1,13 +1,13 @@
 -- The accounts of a ledger after one of them has changed.
 use Rattle.std.proofs.Common.{◌≡◌, ◌≢◌, ◌∙◌, ℕ, ◌+◌, ◌≤◌, Bool, false, List, Option, Some, None, refl, sym, ap, arith}
-use Rattle.std.proofs.Common.{subst, nat_cmp, string_bytes, IfNone, IfSome, OnErr, OnOk, Result, Ok, Err, String}
-use Rattle.std.proofs.Common.{unwrap_or, Global}
+use Rattle.std.proofs.Common.{subst, nat_cmp, string_bytes, IfNone, OnErr, OnOk, Result, Ok, Err, String}
+use Rattle.std.proofs.Common.{Global}
 use Rattle.allocative_service.proofs.Common.{AccountData, ChangesAccount, is_at, lookup, remove_entry}
 use Rattle.std.specs.BTreeMap.{BTreeMap, UpdatesBy, WritesThrough, get_by_text, insert_entry}
 use Rattle.std.specs.Cmp.Lexicographic.{slice_cmp}
 use Rattle.std.specs.List.Sorted.{IsStrictlySortedBy}
 use Rattle.std.specs.Map.{keys_of}
-use Rattle.std.specs.Option.{is_some, option_and_then}
+use Rattle.std.specs.Option.{is_some}
 use Rattle.std.specs.Str.{bytes_eq}
 use Rattle.std.specs.String.{string_cmp, string_cmp_total}
 use Rattle.std.proofs.lemmas.Bool.{false_from_ne_true}
@@ -17,9 +17,8 @@ use Rattle.std.proofs.lemmas.Map.Steps.{set_value_same}
 use Rattle.std.proofs.lemmas.Map.Text.{btree_map_updates_text}
 use Rattle.std.proofs.lemmas.Slice.Eq.{bytes_eq-Decides}
 use Rattle.allocative_service.specs.declared.ledger.Ledger.{Ledger}
-use Rattle.allocative_service.specs.AccountData.{all_bytes, bytes_at, sum_of}
+use Rattle.allocative_service.specs.AccountData.{all_bytes, sum_of}
 use Rattle.allocative_service.specs.Accounts.{SameTerms}
-use Rattle.allocative_service.proofs.Sums.{had_within}
 
 -- All accounts, by their tenants' names.
 abbrev Accounts : Type 0
@@ -99,12 +98,6 @@ all_bytes-close tenant old h account = rw (sym account)
 pub account_within : (tenant : List ℕ) (old : Accounts) (h : AccountData) → get_by_text old tenant ≡ Some h →
     sum_of h.entries ≤ all_bytes old.entries
 account_within tenant old h account = omega (arith, all_bytes-close tenant old h (sym account))
-
--- The bytes under a number of an account are part of its bytes.
-pub had_in_account : (number had : ℕ) (o : Option AccountData) → had ≡ unwrap_or (option_and_then (bytes_at number) o) 0 →
-    IfSome o (λ h. had ≤ sum_of h.entries)
-had_in_account number had None is = tt
-had_in_account number had (Some h) is = rw is (had_within number h.entries)
 
 -- ---- results
 -- What holds holds also if the result is an Err.

@@ -1,14 +1,13 @@
 -- What a ledger holds, and how its calls change it.
-use Rattle.std.specs.Prelude.{◌≡◌, ◌≢◌, ℕ, ◌+◌, ◌^◌, ◌<◌, ◌≤◌, List, Option, Some, String, unwrap_or}
+use Rattle.std.specs.Prelude.{◌≡◌, ◌≢◌, ℕ, ◌+◌, ◌≤◌, List, Option, Some, String, unwrap_or}
 use Rattle.std.specs.BTreeMap.{get_by_text}
 use Rattle.std.specs.Global.{Global}
 use Rattle.std.specs.Option.{option_and_then}
 use Rattle.allocative_service.specs.declared.ledger.Ledger.{Ledger}
 use Rattle.allocative_service.specs.declared.ledger.rejection.Rejection.{Rejection}
-use Rattle.allocative_service.specs.declared.ledger.rejection.Rejection.TheVariants.{LedgerFull, NotKept, OverBudget}
-use Rattle.allocative_service.specs.declared.ledger.rejection.Rejection.TheVariants.{TooLarge}
 use Rattle.allocative_service.specs.declared.measure.Measure.{Measure}
 use Rattle.allocative_service.specs.AccountData.{AccountData, all_bytes, bytes_at, sum_of, without, Puts}
+use Rattle.allocative_service.specs.Rejected.{RejectsWithin}
 
 -- All accounts, each with its tenant's name.
 abbrev pub accounts_of : Ledger → List (String Global × AccountData)
@@ -76,15 +75,7 @@ pub record Releases (tenant : List ℕ) (number : ℕ) (old new : Ledger) (bytes
   pub change : ChangesAccount tenant (Some (without number before)) old new
   pub all_is : total_of new + bytes ≡ total_of old
 
--- Replacing the `had` bytes of one entry of this account by `bytes` is rejected, by the first of these that holds: the
--- new sum of all accounts does not fit a word, that of the account exceeds its limit, that of all accounts exceeds the
--- ledger's, memory runs out.
+-- Replacing the `had` bytes of one entry of this account by `bytes` is rejected. The bytes and the limit of all accounts
+-- are the ledger's.
 abbrev pub RejectsPut : Ledger → ℕ → ℕ → AccountData → Rejection → Type 0
-RejectsPut l had bytes h TooLarge = 2 ^ 64 + had ≤ total_of l + bytes
-RejectsPut l had bytes h (OverBudget b n) = (total_of l + bytes < 2 ^ 64 + had)
-    × (b + had ≡ sum_of h.entries + bytes) × (n ≡ h.limit) × (h.limit < b)
-RejectsPut l had bytes h (LedgerFull b n) = (total_of l + bytes < 2 ^ 64 + had)
-    × (sum_of h.entries + bytes ≤ h.limit + had) × (b + had ≡ total_of l + bytes) × (n ≡ limit_of l) × (limit_of l < b)
-RejectsPut l had bytes h NotKept = (total_of l + bytes < 2 ^ 64 + had)
-    × (sum_of h.entries + bytes ≤ h.limit + had) × (total_of l + bytes ≤ limit_of l + had)
-RejectsPut l had bytes h _ = ⊥
+RejectsPut l = RejectsWithin (total_of l) (limit_of l)

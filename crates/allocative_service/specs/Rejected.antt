@@ -33,6 +33,19 @@ RejectsBytes had bytes h NotKept =
     (sum_of h.entries + bytes < 2 ^ 64 + had) × (sum_of h.entries + bytes ≤ h.limit + had)
 RejectsBytes had bytes h _ = ⊥
 
+-- Replacing the `had` bytes of one entry of an account by `bytes` is rejected, where all accounts have `all` bytes and
+-- may have `most`, by the first of these that holds: the new sum of all accounts does not fit a word, that of the account
+-- exceeds its limit, that of all accounts exceeds `most`, memory runs out.
+abbrev pub RejectsWithin : ℕ → ℕ → ℕ → ℕ → AccountData → Rejection → Type 0
+RejectsWithin all most had bytes h TooLarge = 2 ^ 64 + had ≤ all + bytes
+RejectsWithin all most had bytes h (OverBudget b l) =
+    (all + bytes < 2 ^ 64 + had) × (b + had ≡ sum_of h.entries + bytes) × (l ≡ h.limit) × (h.limit < b)
+RejectsWithin all most had bytes h (LedgerFull b l) = (all + bytes < 2 ^ 64 + had)
+    × (sum_of h.entries + bytes ≤ h.limit + had) × (b + had ≡ all + bytes) × (l ≡ most) × (most < b)
+RejectsWithin all most had bytes h NotKept = (all + bytes < 2 ^ 64 + had)
+    × (sum_of h.entries + bytes ≤ h.limit + had) × (all + bytes ≤ most + had)
+RejectsWithin all most had bytes h _ = ⊥
+
 -- Taking `less` bytes off the `had` bytes of an entry is rejected. There are fewer, as the rejection says, or memory
 -- runs out.
 abbrev pub RejectsCredit : ℕ → ℕ → AccountData → Rejection → Type 0

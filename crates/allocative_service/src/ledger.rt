@@ -344,40 +344,12 @@ impl Ledger {
             (RejectsIn (RejectsPut self.old had bytes) (account_of tenant.now self.old)) }
         ensures unchanged { OnErr result (IsUnchanged self.old self.new) }
     {
-        let all = self.check(tenant, had, bytes)?;
         let Some(account) = self.accounts.get_mut(tenant) else {
             return Err(Rejection::NoAccount);
         };
+        let all = account.check_room(had, bytes, self.bytes, self.limit)?;
         let total = account.put(number, had, bytes)?;
         self.bytes = all;
         Ok(total)
-    }
-
-    /// The bytes of all accounts together if `bytes` took the place of `had` bytes of the tenant. The error is
-    /// `NoAccount` if the tenant has no account, otherwise `TooLarge` if they do not fit a word, otherwise `OverBudget`
-    /// if those of the tenant exceed its limit, and otherwise `LedgerFull` if they exceed the limit of the ledger.
-    fn check(&self, tenant: &str, had: usize, bytes: usize) -> Result<usize, Rejection>
-        requires { IfSome (account_of tenant.now self.now) (λ h. had ≤ sum_of h.entries) }
-        ensures all { IfOk result
-            (λ all. (all + had ≡ total_of self.now + bytes) × (all ≤ limit_of self.now)) }
-        ensures rejected { IfErr result
-            (RejectsIn (RejectsPut self.now had bytes) (account_of tenant.now self.now)) }
-    {
-        let account = self.account(tenant)?;
-        let Some(all) = (self.bytes - had).checked_add(bytes) else {
-            return Err(Rejection::TooLarge);
-        };
-        let (total, limit) = (account.bytes() - had + bytes, account.limit());
-        if total > limit {
-            return Err(Rejection::OverBudget {
-                bytes: total,
-                limit,
-            });
-        }
-        let limit = self.limit;
-        if all > limit {
-            return Err(Rejection::LedgerFull { bytes: all, limit });
-        }
-        Ok(all)
     }
 }

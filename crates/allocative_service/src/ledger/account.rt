@@ -1,7 +1,7 @@
 //! The admitted bytes of one tenant, within a limit.
 ghost use Rattle.std.specs.Prelude.{◌≡◌, ℕ, ◌+◌, ◌<◌, ◌≤◌, ◌↔◌, Some, None, IsSome, IsTrue, IfOk, IfErr, IfNone, OnOk, OnErr, unwrap_or};
 ghost use Rattle.allocative_service.specs.AccountData.{IsSummed, bytes_at, new_account, sum_of, with_limit, with_peak_reset, with_soft_limit, without, Puts};
-ghost use Rattle.allocative_service.specs.Rejected.{RejectsBytes, RejectsNew, RejectsChange, RejectsLimit};
+ghost use Rattle.allocative_service.specs.Rejected.{RejectsBytes, RejectsNew, RejectsChange, RejectsLimit, RejectsWithin};
 
 use crate::ledger::budget::Budget;
 use crate::ledger::rejection::Rejection;
@@ -206,6 +206,35 @@ impl Account {
         self.bytes = total;
         self.peak = self.peak.max(total);
         Ok(total)
+    }
+
+    /// The bytes of all accounts together, which are `all` before, if `bytes` took the place of `had` bytes of an entry.
+    ///
+    /// The error is `TooLarge` if they do not fit a word, otherwise `OverBudget` if the bytes of all entries exceed the
+    /// limit, and otherwise `LedgerFull` if those of all accounts exceed `most`.
+    pub(crate) fn check_room(
+        &self,
+        had: usize,
+        bytes: usize,
+        all: usize,
+        most: usize,
+    ) -> Result<usize, Rejection>
+        requires part { had ≤ sum_of self.now.entries }
+        requires within { sum_of self.now.entries ≤ all }
+        ensures sum { IfOk result (λ sum. (sum + had ≡ all + bytes) × (sum ≤ most)) }
+        ensures rejected { IfErr result (RejectsWithin all most had bytes self.now) }
+    {
+        let Some(sum) = (all - had).checked_add(bytes) else {
+            return Err(Rejection::TooLarge);
+        };
+        self.budget.check(self.bytes - had + bytes)?;
+        if sum > most {
+            return Err(Rejection::LedgerFull {
+                bytes: sum,
+                limit: most,
+            });
+        }
+        Ok(sum)
     }
 
     /// Removes the entry under the number. It returns the bytes of the entry, or None if there is none. The peak stays.

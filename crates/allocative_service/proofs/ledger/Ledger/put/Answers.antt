@@ -2,13 +2,28 @@ use Rattle.std.proofs.Common.{◌≡◌, arith, ap, refl, subst, sym, unwrap_or}
 use Rattle.std.specs.Option.{option_and_then}
 use Rattle.std.proofs.lemmas.Result.{on_err_weaker}
 use Rattle.allocative_service.proofs.Common.{AccountData}
-use Rattle.allocative_service.proofs.Accounts.{OnErr-always, had_in_account, in_ledger, written}
-use Rattle.allocative_service.specs.Accounts.{account_of}
+use Rattle.allocative_service.proofs.Accounts.{OnErr-always, in_ledger, written}
+use Rattle.allocative_service.proofs.Sums.{had_within}
 use Rattle.allocative_service.specs.AccountData.{bytes_at, sum_of, Puts}
 use Rattle.allocative_service.proofs.ledger.Ledger.put.Goals as goal
 
-pub check-requires : goal.check-requires
-check-requires c = had_in_account c.args.number c.args.had (account_of c.args.tenant.now c.args.self.now) c.requires
+pub check_room-requires-clause-part : goal.check_room-requires-clause-part
+check_room-requires-clause-part c =
+    let had : c.args.had ≡ unwrap_or (bytes_at c.args.number c.in-Some.account.now) 0 =
+    rw (sym c.in-Some.ensures.value) at c.requires in
+    rw had (had_within c.args.number c.in-Some.account.now.entries)
+
+pub invariant_of-self-in-Break-1 : goal.invariant_of-self-in-Break-1
+invariant_of-self-in-Break-1 c =
+    let w = written c.args.tenant.now _ _ c.args.self.now.accounts (c.get_mut.follows.lender c.in-Some.account.now)
+    c.in-Some.ensures.value (c.get_mut.follows.holds c.in-Some.account.now) in
+    record { summed = rw (w.same refl) c.args.self.now.summed; within = c.args.self.now.within; fits = c.args.self.now.fits }
+
+pub returns-in_err-all-clause-unchanged : goal.returns-in_err-all-clause-unchanged
+returns-in_err-all-clause-unchanged c =
+    let w = written c.args.tenant.now _ _ c.args.self.now.accounts (c.get_mut.follows.lender c.in-Some.account.now)
+    c.in-Some.ensures.value (c.get_mut.follows.holds c.in-Some.account.now) in
+    OnErr-always c.from_residual.result (w.same refl, (refl, refl))
 
 pub invariant_of-self-in-Break-branch-2 : goal.invariant_of-self-in-Break-branch-2
 invariant_of-self-in-Break-branch-2 c =
@@ -30,9 +45,16 @@ invariant_of-self-2 c =
     let had : c.args.had ≡ unwrap_or (bytes_at c.args.number c.in-Some.account.now) 0 =
     rw (sym c.in-Some.ensures.value) at c.requires in
     record {
-      summed = omega
-          (arith, w.all, c.in_ok-total.ensures.sum, c.in_ok-total.ensures.put.total_is, had, c.in_ok-all.ensures.all.0);
-      within = c.in_ok-all.ensures.all.1;
+      summed = omega (
+        arith,
+        w.all,
+        c.in_ok-total.ensures.sum,
+        c.in_ok-total.ensures.put.total_is,
+        had,
+        c.in_ok-all.ensures.sum.0,
+        c.args.self.now.summed,
+      );
+      within = c.in_ok-all.ensures.sum.1;
       fits = c.args.self.now.fits;
     }
 
@@ -58,7 +80,7 @@ returns-clause-put c =
         c.in_ok-total.ensures.sum,
         puts.total_is,
         had,
-        c.in_ok-all.ensures.all.0,
-        c.in_ok-all.ensures.all.1,
+        c.in_ok-all.ensures.sum.0,
+        c.in_ok-all.ensures.sum.1,
       );
     }
