@@ -204,7 +204,11 @@ fn asked_by<'a>(alloc: Global, matches: &ArgMatches<'a>) -> Result<Arguments<'a>
     })
 }
 
-/// Reads the arguments.
+/// Reads the arguments by `clap`: `--help`, `--text`, `--not-empty`, `--title` with a text, `--narrowest` with a number of
+/// millionths, `--before` with the name of a file, names of files, and `-` for the input, which is also read if no file
+/// of the profile is named. Of several titles or widths the last one counts. It fails with `Fault::Arguments` if `clap`
+/// refuses the words, if the width is not a number below 2^32 in decimal digits alone, if `-` is repeated, or if the text
+/// of a change is asked for. The only other error is `Fault::Memory`.
 pub fn read_arguments<'a>(alloc: Global, words: &'a [String]) -> Result<Arguments<'a>, Fault<'a>>
     ensures ok { IfOk result (IsAsked (matches_of picture_app (words_of words.entry.now))) }
     ensures taken { IfOk result (λ _. fault_of picture_app (words_of words.entry.now) ≡ []) }

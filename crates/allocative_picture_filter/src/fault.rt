@@ -103,9 +103,11 @@ fn say<'a, E: Write>(
     fifth: &'a str,
 ) -> io::Result<()>
     ensures whole { OnOk result (Appends (E.contents errors.old) (E.contents errors.new)
-        (line_saying (first.entry.now ∷ second.entry.now ∷ third.entry.now ∷ fourth.entry.now ∷ fifth.entry.now ∷ []))) }
+        (line_saying (first.entry.now ∷ second.entry.now ∷ third.entry.now
+        ∷ fourth.entry.now ∷ fifth.entry.now ∷ []))) }
     ensures beginning { AppendsBeginning (E.contents errors.old) (E.contents errors.new)
-        (line_saying (first.entry.now ∷ second.entry.now ∷ third.entry.now ∷ fourth.entry.now ∷ fifth.entry.now ∷ [])) }
+        (line_saying (first.entry.now ∷ second.entry.now ∷ third.entry.now
+        ∷ fourth.entry.now ∷ fifth.entry.now ∷ [])) }
 {
     write_line(
         errors,
