@@ -15,9 +15,7 @@ use Rattle.allocative_graph.proofs.Text.{decimal_lacks}
 -- What was read and what comes before the next line feed is one line. The rest is read as further lines.
 line_read : (acc a rest : List ℕ) → Lacks 10 a → lines_from acc (a ++ 10 ∷ rest) ≡ (acc ++ a) ∷ lines_from [] rest
 line_read acc [] rest h = λ i. sym (append-nil acc) i ∷ lines_from [] rest
-line_read acc (b ∷ a) rest h = ap (λ t. cond t (acc ∷ lines_from [] (a ++ 10 ∷ rest))
-    (lines_from (acc ++ b ∷ []) (a ++ 10 ∷ rest))) (ne_eqb b 10 h.0) ∙ line_read (acc ++ b ∷ []) a rest h.1
-    ∙ (λ i. append_assoc acc (b ∷ []) a i ∷ lines_from [] rest)
+line_read acc (b ∷ a) rest h = rw (ne_eqb b 10 h.0, line_read (acc ++ b ∷ []) a rest h.1) (simp append_assoc)
 
 -- Lines of paths with plain keys, one after another, are read as these lines without their line feeds.
 lines_read : (es : List Sized) → AllByRecursion (λ e. AllByRecursion Plain e.0) es →
@@ -30,8 +28,7 @@ lines_read (e ∷ es) h = ap (lines_from []) (full_body e (flat_map full es))
 -- If c does not come again, what comes before the last c is the best found so far.
 none_before : (c : ℕ) (best acc d : List ℕ) → Lacks c d → before_last c best acc d ≡ best
 none_before c best acc [] h = refl
-none_before c best acc (b ∷ d) h = ap (λ t. cond t (before_last c acc (acc ++ b ∷ []) d)
-    (before_last c best (acc ++ b ∷ []) d)) (ne_eqb b c h.0) ∙ none_before c best (acc ++ b ∷ []) d h.1
+none_before c best acc (b ∷ d) h = rw (ne_eqb b c h.0) (none_before c best (acc ++ b ∷ []) d h.1)
 
 -- If both branches of a choice are z, the choice is z.
 same_cond : {A : Type 0} (t : Bool) (x y z : A) → x ≡ z → y ≡ z → cond t x y ≡ z
@@ -52,8 +49,7 @@ after_skip acc (b ∷ a) x = same_cond (b == 59) _ _ _ (after_skip [] a x) (afte
 -- If no `;` comes again, the bytes after the last `;` are those read since then and all the rest.
 after_read : (acc a : List ℕ) → Lacks 59 a → after_last 59 acc a ≡ acc ++ a
 after_read acc [] h = sym (append-nil acc)
-after_read acc (b ∷ a) h = ap (λ t. cond t (after_last 59 [] a) (after_last 59 (acc ++ b ∷ []) a)) (ne_eqb b 59 h.0)
-    ∙ after_read (acc ++ b ∷ []) a h.1 ∙ append_assoc acc (b ∷ []) a
+after_read acc (b ∷ a) h = rw (ne_eqb b 59 h.0) (after_read (acc ++ b ∷ []) a h.1 ∙ append_assoc acc (b ∷ []) a)
 
 -- A path with plain keys ends in a key exactly if its text has that key after the last `;`.
 last_of : (key k : Key) (p : Path) → AllByRecursion Plain (k ∷ p) →

@@ -1,7 +1,7 @@
 -- One forest followed by another: their entries, their contents, and what they fit.
-use Rattle.std.proofs.Common.{◌≡◌, ◌↔◌, Bool, false, ◌||◌, List, [], ◌∷◌, ◌++◌, refl, ap, sym, ◌∙◌, append_assoc, arith}
+use Rattle.std.proofs.Common.{◌≡◌, ◌↔◌, Bool, false, ◌||◌, List, [], ◌∷◌, ◌++◌, refl, ap, ◌∙◌, append_assoc, arith}
 use Rattle.allocative_graph.proofs.Common.{AllByRecursion, Sums, add, add_all, contains, Path, Identities, Identity}
-use Rattle.allocative_graph.proofs.Common.{Forest, Empty, Inline, Unique, First, Again, AsInline, AsUnique, AsShared}
+use Rattle.allocative_graph.proofs.Common.{Forest, Empty, Inline, Unique, First, Again}
 use Rattle.allocative_graph.proofs.Common.{Bag, own_behind, contents, content_identities, followed_by, insert_all, met_after, Fits}
 use Rattle.allocative_graph.proofs.Common.{entries_at, flat_map-append}
 use Rattle.std.specs.FinSet.{insert}
@@ -13,29 +13,17 @@ use Rattle.allocative_graph.proofs.Reach.{ids, met-append, contains-insert_all}
 -- The own entries of two forests one after another are those of the first, then those of the second.
 pub own-following : (p : Path) (f g : Forest) → own_behind p (followed_by f g) ≡ own_behind p f ++ own_behind p g
 own-following p Empty g = refl
-own-following p (Inline k n f after) g = λ i. record { path = p ++ k ∷ []; size = n; mark = AsInline }
-    ∷ (ap (λ b. own_behind (p ++ k ∷ []) f ++ b) (own-following p after g)
-    ∙ sym (append_assoc (own_behind (p ++ k ∷ []) f) (own_behind p after) (own_behind p g))) i
-own-following p (Unique k n f after) g = λ i. record { path = p ++ k ∷ []; size = n; mark = AsUnique }
-    ∷ (ap (λ b. own_behind (p ++ k ∷ []) f ++ b) (own-following p after g)
-    ∙ sym (append_assoc (own_behind (p ++ k ∷ []) f) (own_behind p after) (own_behind p g))) i
-own-following p (First k n j f after) g =
-    λ i. record { path = p ++ k ∷ []; size = n; mark = AsShared j } ∷ own-following p after g i
-own-following p (Again k n j after) g = λ i. record { path = p ++ k ∷ []; size = n; mark = AsShared j } ∷ own-following
-    p after g i
+own-following p (Inline k n f after) g = rw (own-following p after g) (simp append_assoc)
+own-following p (Unique k n f after) g = rw (own-following p after g) (simp append_assoc)
+own-following p (First k n j f after) g = rw (own-following p after g)
+own-following p (Again k n j after) g = rw (own-following p after g)
 
 -- The contents of two forests one after another are those of the first, then those of the second.
 pub contents-following : (f g : Forest) → contents (followed_by f g) ≡ contents f ++ contents g
 contents-following Empty g = refl
-contents-following (Inline k n f after) g =
-    ap (λ b. contents f ++ b) (contents-following after g)
-    ∙ sym (append_assoc (contents f) (contents after) (contents g))
-contents-following (Unique k n f after) g =
-    ap (λ b. contents f ++ b) (contents-following after g)
-    ∙ sym (append_assoc (contents f) (contents after) (contents g))
-contents-following (First k n j f after) g =
-    λ i. (j, own_behind [] f) ∷ (ap (λ b. contents f ++ b) (contents-following after g)
-    ∙ sym (append_assoc (contents f) (contents after) (contents g))) i
+contents-following (Inline k n f after) g = rw (contents-following after g) (simp append_assoc)
+contents-following (Unique k n f after) g = rw (contents-following after g) (simp append_assoc)
+contents-following (First k n j f after) g = rw (contents-following after g) (simp append_assoc)
 contents-following (Again k n j after) g = contents-following after g
 
 -- The identities met after two forests are those met after the first one and then the second.

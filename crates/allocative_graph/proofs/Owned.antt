@@ -5,7 +5,7 @@ use Rattle.allocative_graph.proofs.Common.{sum_by-cons, map-append, AsInline, As
 use Rattle.allocative_graph.proofs.Common.{contains_key, Key, Path, is_same_path, is_one_below, Forest, Empty, Inline}
 use Rattle.allocative_graph.proofs.Common.{Unique, First, Again, own, own_behind, followed_by, bytes_in, is_entered_in}
 use Rattle.allocative_graph.proofs.Common.{is_unique_in, sums_of, below, Node, remaining, option_map, Graph, graph}
-use Rattle.allocative_graph.proofs.Common.{default, size_at, total}
+use Rattle.allocative_graph.proofs.Common.{default, size_at, total, Entry}
 use Rattle.std.proofs.lemmas.List.Sums.{sum_by-append}
 use Rattle.allocative_graph.specs.Forest.{Mark}
 use Rattle.allocative_graph.specs.Owned.{direct, owned, Owner, owners_behind, owns_all, EachAt, AreAlike, Reordered}
@@ -82,23 +82,13 @@ at-cons : (w : Owner → ℕ) (q : Path) (x : Owner) (xs : List Owner) →
     at w q (x ∷ xs) ≡ cond (is_same_path q x.entry.path) (w x) 0 + at w q xs
 at-cons w q x xs = sum_by-cons (λ x. cond (is_same_path q x.entry.path) (w x) 0) x xs
 
--- The entries of two lists, one after another, are those of the first and then those of the second.
-entries-both : (xs ys : List Owner) (b c : Bag) → entries_of xs ≡ b → entries_of ys ≡ c → entries_of (xs ++ ys) ≡ b ++ c
-entries-both xs ys b c d e = map-append (λ x. x.entry) xs ys ∙ (λ i. d i ++ e i)
-
 -- The entries that `owners_behind` lists are the own entries of the forest.
 own_entries : (p : Path) (f : Forest) → entries_of (owners_behind p f) ≡ own_behind p f
 own_entries p Empty = refl
-own_entries p (Inline k n f after) = ap (λ b. record { path = p ++ k ∷ []; size = n; mark = AsInline } ∷ b)
-    (entries-both (owners_behind (p ++ k ∷ []) f) (owners_behind p after) _ _ (own_entries (p ++ k ∷ []) f)
-    (own_entries p after))
-own_entries p (Unique k n f after) = ap (λ b. record { path = p ++ k ∷ []; size = n; mark = AsUnique } ∷ b)
-    (entries-both (owners_behind (p ++ k ∷ []) f) (owners_behind p after) _ _ (own_entries (p ++ k ∷ []) f)
-    (own_entries p after))
-own_entries p (First k n i f after) = ap (λ b. record { path = p ++ k ∷ []; size = n; mark = AsShared i } ∷ b)
-    (own_entries p after)
-own_entries p (Again k n i after) = ap (λ b. record { path = p ++ k ∷ []; size = n; mark = AsShared i } ∷ b)
-    (own_entries p after)
+own_entries p (Inline k n f after) = rw (map-append {B = Entry} (λ x. x.entry) (owners_behind (p ++ k ∷ []) f) (owners_behind p after), own_entries (p ++ k ∷ []) f, own_entries p after)
+own_entries p (Unique k n f after) = rw (map-append {B = Entry} (λ x. x.entry) (owners_behind (p ++ k ∷ []) f) (owners_behind p after), own_entries (p ++ k ∷ []) f, own_entries p after)
+own_entries p (First k n i f after) = rw (own_entries p after)
+own_entries p (Again k n i after) = rw (own_entries p after)
 
 -- A sum over an entry, those inside it and those after it.
 sum-entry : (w : Owner → ℕ) (x : Owner) (xs ys : List Owner) →
