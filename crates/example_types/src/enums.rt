@@ -1,4 +1,4 @@
-//! Enums of up to ten variants.
+//! An enum whose variants have none to five fields.
 #![tactic(auto, using(allocative::proofs::Parts::parts))]
 
 ghost use Rattle.std.specs.Prelude.{true, codes, Some};
@@ -10,37 +10,20 @@ use allocative::{Allocative, Field, Inside, Part, Refusal, Visitor};
 #[derive(Drop)]
 pub enum Request {
     Ping,
-    Stop,
-    Reset,
     Count(u64),
-    Find(String),
-    Drop(Vec<u32>),
     Move(u32, u32),
-    Put(String, u64),
-    Swap(u32, String, u32),
     Draw(u16, u16, u16, u16, String),
 }
 
 impl Allocative for Request {
-    ghost use Rattle.example_types.specs.declared.enums.Request.TheVariants.{Ping, Stop, Reset, Count, Find, Drop, Move, Put, Swap, Draw};
+    ghost use Rattle.example_types.specs.declared.enums.Request.TheVariants.{Ping, Count, Move, Draw};
 
     ghost may_show = { λ r. Inside (codes "Request") 40 (elim r [
       | Ping ↦ Nothing
-      | Stop ↦ Nothing
-      | Reset ↦ Nothing
       | Count n ↦ Field (codes "Count") (Some 8) (⟦<u64 as Allocative>⟧.may_show n)
-      | Find s ↦ Field (codes "Find") (Some 24) (⟦<String as Allocative>⟧.may_show s)
-      | Drop v ↦ Field (codes "Drop") (Some 24) (⟦<Vec<u32> as Allocative>⟧.may_show v)
       | Move n m ↦ Both
           (Field (codes "from") (Some 4) (⟦<u32 as Allocative>⟧.may_show n))
           (Field (codes "to") (Some 4) (⟦<u32 as Allocative>⟧.may_show m))
-      | Put s n ↦ Both
-          (Field (codes "name") (Some 24) (⟦<String as Allocative>⟧.may_show s))
-          (Field (codes "value") (Some 8) (⟦<u64 as Allocative>⟧.may_show n))
-      | Swap n s m ↦ Both
-          (Field (codes "from") (Some 4) (⟦<u32 as Allocative>⟧.may_show n)) (Both
-          (Field (codes "by") (Some 24) (⟦<String as Allocative>⟧.may_show s))
-          (Field (codes "to") (Some 4) (⟦<u32 as Allocative>⟧.may_show m)))
       | Draw a b w h s ↦ Both
           (Field (codes "left") (Some 2) (⟦<u16 as Allocative>⟧.may_show a)) (Both
           (Field (codes "top") (Some 2) (⟦<u16 as Allocative>⟧.may_show b)) (Both
@@ -54,28 +37,15 @@ impl Allocative for Request {
     fn visit(&self, visitor: &mut Visitor<'_>) -> Result<(), Refusal> {
         let key = "Request";
         match self {
-            Request::Ping | Request::Stop | Request::Reset => Inside(key, 40, ()).enter(visitor),
+            Request::Ping => Inside(key, 40, ()).enter(visitor),
             Request::Count(count) => {
                 let count = Field("Count", count);
                 Inside(key, 40, count).enter(visitor)
             }
-            Request::Find(name) => Inside(key, 40, Field("Find", name)).enter(visitor),
-            Request::Drop(names) => Inside(key, 40, Field("Drop", names)).enter(visitor),
             Request::Move(from, to) => {
                 let from = Field("from", from);
                 let to = Field("to", to);
                 Inside(key, 40, (from, to)).enter(visitor)
-            }
-            Request::Put(name, value) => {
-                let name = Field("name", name);
-                let value = Field("value", value);
-                Inside(key, 40, (name, value)).enter(visitor)
-            }
-            Request::Swap(from, by, to) => {
-                let from = Field("from", from);
-                let by = Field("by", by);
-                let to = Field("to", to);
-                Inside(key, 40, (from, by, to)).enter(visitor)
             }
             Request::Draw(left, top, width, height, text) => {
                 let left = Field("left", left);

@@ -1,13 +1,13 @@
-//! Services that keep their roots in a struct of their own, and are profiled by a method.
+//! A service that keeps its roots in a struct of its own, and is profiled by a method.
 #![tactic(auto, using(allocative::proofs::Parts::parts))]
 
-ghost use Rattle.std.specs.Prelude.{◌≡◌, ◌++◌, ◌∷◌, [], codes, false, string_bytes, IfOk, MatchResult, Some};
-ghost use Rattle.allocative.specs.Shows.{Inside, Field, Both, each_shows};
+ghost use Rattle.std.specs.Prelude.{◌≡◌, ◌++◌, ◌∷◌, [], codes, false, IfOk, MatchResult, Some};
+ghost use Rattle.allocative.specs.Shows.{Inside, Field, each_shows};
 ghost use Rattle.allocative.specs.Visits.{IsProfileOf};
 
 use allocative::{
-    Allocative, Described, Field, FlameGraphOutput, Inside, Key, Named, Part, Refusal, Registry,
-    Visitor, profile_roots, profile_value, profile_values,
+    Allocative, Described, Field, FlameGraphOutput, Inside, Named, Part, Refusal, Visitor,
+    profile_values,
 };
 use std::alloc::Global;
 use std::mem;
@@ -51,35 +51,6 @@ impl Allocative for Sensor {
     fn visit(&self, visitor: &mut Visitor<'_>) -> Result<(), Refusal> {
         let count = Field("count", &self.count);
         Inside("Sensor", 8, count).enter(visitor)
-    }
-}
-
-/// A service that owns its parts, and is one root.
-#[derive(Drop)]
-pub struct Station {
-    pub sensors: Vec<Sensor>,
-    pub log: String,
-}
-
-impl Allocative for Station {
-    ghost may_show = { λ s. Inside (codes "Station") 48 (Both
-        (Field (codes "sensors") (Some 24) (⟦<Vec<Sensor> as Allocative>⟧.may_show s.sensors))
-        (Field (codes "log") (Some 24) (⟦<String as Allocative>⟧.may_show s.log))) };
-
-    fn visit(&self, visitor: &mut Visitor<'_>) -> Result<(), Refusal> {
-        let sensors = Field("sensors", &self.sensors);
-        let log = Field("log", &self.log);
-        Inside("Station", 48, (sensors, log)).enter(visitor)
-    }
-}
-
-impl Station {
-    /// The graph and the warnings of the station. It fails if memory runs out, or if a part's own visit
-    /// fails.
-    pub fn profile(&self, alloc: Global) -> Result<FlameGraphOutput, Refusal>
-        ensures { IfOk result (IsProfileOf (⟦<Station as Allocative>⟧.may_show self.now)) }
-    {
-        profile_value(alloc, self)
     }
 }
 
@@ -127,27 +98,4 @@ impl Sensors {
     {
         profile_values(*self.roots.allocator(), &self.roots)
     }
-}
-
-/// The profile of a sensor and of some numbers.
-pub fn profile_of_two(
-    alloc: Global,
-    sensor: Sensor,
-    numbers: Vec<u64>,
-) -> Result<FlameGraphOutput, Refusal> {
-    let mut registry = Registry::new(alloc);
-    registry.add_root(Box::new(alloc, sensor)?)?;
-    registry.add_root(Box::new(alloc, numbers)?)?;
-    profile_roots(&registry)
-}
-
-/// The key of a text that is made at run time. A key's text lasts as long as the program, so the memory of
-/// this text is never freed: a service makes one key for each name, and copies it.
-pub fn key_of(text: String) -> Key
-    ensures { result ≡ string_bytes text }
-{
-    let Ok(text) = str::from_utf8(text.into_bytes().leak()) else {
-        unreachable!()
-    };
-    Key::new(text)
 }

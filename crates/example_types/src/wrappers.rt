@@ -1,42 +1,11 @@
-//! Wrapped arrays, entries inside entries, and parts that show less than they hold.
+//! Values that show less than they hold: a part is skipped, or shown by its size alone.
 #![tactic(auto, using(allocative::proofs::Parts::parts))]
 
 ghost use Rattle.std.specs.Prelude.{codes, Some};
-ghost use Rattle.allocative.specs.Shows.{Nothing, Inside, Unique, Field, Both};
+ghost use Rattle.allocative.specs.Shows.{Nothing, Inside, Field, Both};
 
-use allocative::{Allocative, Field, Inside, Part, Refusal, Unique, Visitor};
+use allocative::{Allocative, Field, Inside, Part, Refusal, Visitor};
 use std::path::PathBuf;
-
-/// A colour, as the amounts of red, green and blue.
-#[derive(Drop)]
-pub struct Colour(pub [u16; 3]);
-
-impl Allocative for Colour {
-    ghost may_show = { λ c. Inside (codes "Colour") 6 (⟦<[u16; 3] as Allocative>⟧.may_show c.0) };
-
-    fn visit(&self, visitor: &mut Visitor<'_>) -> Result<(), Refusal> {
-        Inside("Colour", 6, &self.0).enter(visitor)
-    }
-}
-
-/// A block on the heap: its header, and inside the header the number of its bytes.
-#[derive(Drop)]
-pub struct Block {
-    pub count: u64,
-}
-
-impl Allocative for Block {
-    ghost may_show = { λ b. Inside (codes "Block") 8
-        (Unique (codes "ptr") 8 (Inside (codes "head") 16
-        (Inside (codes "counts") 8 (⟦<u64 as Allocative>⟧.may_show b.count)))) };
-
-    fn visit(&self, visitor: &mut Visitor<'_>) -> Result<(), Refusal> {
-        let counts = Inside("counts", 8, &self.count);
-        let head = Inside("head", 16, counts);
-        let pointer = Unique("ptr", 8, head);
-        Inside("Block", 8, pointer).enter(visitor)
-    }
-}
 
 /// A document and where it is stored. The path is of a foreign type and is not shown.
 #[derive(Drop)]

@@ -1,0 +1,94 @@
+//! What no clause of the services says: that nothing is measured too early, texts of errors, and the order of paths that
+//! grew alike.
+#![tactic(auto, using(allocative::proofs::Parts::parts))]
+
+ghost use Rattle.allocative.specs.Shows.{Nothing};
+
+use crate::texts::is_text;
+use allocative::{Allocative, FlameGraph, Part, Refusal, Visitor};
+use allocative_service::cache::CacheError;
+use allocative_service::history::{compare, grew_most, report};
+use allocative_service::ledger::{Budget, Ledger, Rejection};
+use allocative_service::measure::Measure;
+use std::alloc::Global;
+use std::cell::Cell;
+use std::test::Fail;
+
+/// A value without entries that counts its visits.
+#[derive(Drop)]
+struct Watched(Cell<u8>);
+
+impl Allocative for Watched {
+    ghost may_show = { λ _. Nothing };
+
+    fn visit(&self, visitor: &mut Visitor<'_>) -> Result<(), Refusal> {
+        self.0.set(self.0.get().wrapping_add(1));
+        ().enter(visitor)
+    }
+}
+
+/// What a ledger answers without an account, without a number, to the first value of a number and to the second.
+fn answers(
+    alloc: Global,
+    watched: &Box<Watched>,
+) -> Result<[Result<usize, Rejection>; 5], Rejection> {
+    let mut ledger = Ledger::new(alloc, Measure::Owned);
+    let without_account = ledger.admit("a", 1, watched);
+    let also_without = ledger.measure_again("a", 1, watched);
+    ledger.open("a", Budget { limit: 8 })?;
+    let without_number = ledger.measure_again("a", 1, watched);
+    let first = ledger.admit("a", 1, watched);
+    let second = ledger.admit("a", 1, watched);
+    Ok([without_account, also_without, without_number, first, second])
+}
+
+#[test]
+fn only_what_may_be_admitted_is_measured(rt: HostRuntime) -> Result<(), Fail> {
+    let watched = Box::new(rt.alloc(), Watched(Cell::new(0)))?;
+    let found = answers(rt.alloc(), &watched)?;
+    let wanted = [
+        Err(Rejection::NoAccount),
+        Err(Rejection::NoAccount),
+        Err(Rejection::NotThere { number: 1 }),
+        Ok(8),
+        Err(Rejection::Taken { number: 1 }),
+    ];
+    assert!(rt; found == wanted && watched.0.get() == 1);
+    Ok(())
+}
+
+#[test]
+fn services_say_why(rt: HostRuntime) -> Result<(), Fail> {
+    let (bytes, bound) = (88, 48);
+    for (error, text) in [
+        (
+            CacheError::TooLarge { bytes, bound },
+            "88 bytes do not fit a bound of 48",
+        ),
+        (
+            CacheError::NotMeasured(Refusal::Open),
+            "not measured: a visitor was forgotten",
+        ),
+        (CacheError::Memory, "out of memory"),
+    ] {
+        is_text(format!(in rt.alloc(); "{error}")?.as_str(), text)?;
+    }
+    let rejection = Rejection::NotMeasured(Refusal::TooLarge);
+    let text = format!(in rt.alloc(); "{rejection}")?;
+    is_text(text.as_str(), "not measured: sizes do not fit")
+}
+
+/// Changes of three paths, of which two grew alike.
+#[test]
+fn paths_that_grew_alike_are_in_order(rt: HostRuntime) -> Result<(), Fail> {
+    let alloc = rt.alloc();
+    let earlier = FlameGraph::read(alloc, "d 5\n")?;
+    let later = FlameGraph::read(alloc, "c 1\nb 2\na 1\nd 5\n")?;
+    let changes = compare(alloc, &earlier, &later)?;
+    let top = grew_most(alloc, changes.as_slice(), 2)?;
+    let text = report(alloc, top.as_slice())?;
+    is_text(
+        text.as_str(),
+        "3 bytes more, 0 bytes less\n0 -> 2 b\n0 -> 1 a\n",
+    )
+}

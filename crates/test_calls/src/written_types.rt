@@ -1,0 +1,230 @@
+//! The text of types by hand, of `example_types`, and of those whose implementations `bin/implement` wrote.
+use crate::texts::{is_text, show, shows};
+use allocative::{Key, Named as Root, Refusal, profile_values};
+use example_types::enums::Request;
+use example_types::gauges::Gauge;
+use example_types::groups::Sale;
+use example_types::nodes::Node;
+use example_types::pointers::PageLink;
+use example_types::services::{Sensor, Sensors};
+use example_types::structs::{Named, Point};
+use example_types::trees::Tree;
+use example_types::wrappers::{Day, Document, Weather};
+use std::alloc::{AllocError, Global};
+use std::collections::{BTreeMap, HashMap};
+use std::path::PathBuf;
+use std::rc::Rc;
+use std::test::Fail;
+use test_generated_types::placed::{Nowhere, OfOne};
+use test_generated_types::types::{
+    Category, Event, Found, Job, Json, Payload, Sextet, Table, Trigger,
+};
+
+#[test]
+fn types_in_place(rt: HostRuntime) -> Result<(), Fail> {
+    let weather = Weather { warmth: 1, rain: 2 };
+    show(
+        rt.alloc(),
+        &[
+            (&Point { x: 1, y: 2 }, "Point;x;u32 4\nPoint;y;u32 4\n"),
+            (
+                &Day { number: 3, weather },
+                "Day 2\nDay;number;u16 2\nDay;weather 8\n",
+            ),
+            (&Gauge { reading: 5 }, "Gauge;reading;u64 8\n"),
+            (
+                &Request::Move(1, 2),
+                "Request 32\nRequest;from;u32 4\nRequest;to;u32 4\n",
+            ),
+            (&OfOne { number: 5 }, "OfOne;number;u64 8\n"),
+            (&Nowhere, ""),
+            (
+                &Sextet(1, 2, 3, 4, 5, 6, 0.5, 1.5),
+                "Sextet 9\nSextet;0;u8 1\nSextet;1;u8 1\nSextet;2;u8 1\nSextet;3;u8 1\nSextet;4;u8 1\nSextet;5;u16 2\nSextet;7 8\n",
+            ),
+        ],
+    )
+}
+
+fn named(alloc: Global) -> Result<Named<Option<u16>>, AllocError> {
+    Ok(Named {
+        name: String::from_str(alloc, "ab")?,
+        value: Some(3),
+        is_read: true,
+    })
+}
+
+fn document(alloc: Global) -> Result<Document, AllocError> {
+    Ok(Document {
+        title: String::new(alloc),
+        path: PathBuf::from_str(alloc, "a/b")?,
+        pages: 3,
+    })
+}
+
+fn sale(alloc: Global) -> Sale {
+    Sale {
+        name: String::new(alloc),
+        number: 7,
+        amount: 2,
+    }
+}
+
+#[test]
+fn structs(rt: HostRuntime) -> Result<(), Fail> {
+    let alloc = rt.alloc();
+    let text =
+        "Named 35\nNamed;is_read;bool 1\nNamed;name;String 16\nNamed;name;String;ptr 8\nNamed;name;String;ptr;capacity;u8 2\nNamed;value;Option 2\nNamed;value;Option;Some;u16 2\n";
+    shows(alloc, &named(alloc)?, text)?;
+    let text =
+        "Document 36\nDocument;pages;u32 4\nDocument;title;String 16\nDocument;title;String;ptr 8\n";
+    shows(alloc, &document(alloc)?, text)?;
+    let text =
+        "Sale 4\nSale;amount;u32 4\nSale;name;String 16\nSale;name;String;ptr 8\nSale;number;u64 8\n";
+    shows(alloc, &sale(alloc), text)
+}
+
+fn node(alloc: Global) -> Result<Node, AllocError> {
+    let child = Node {
+        label: 2,
+        children: Vec::new(alloc),
+    };
+    Ok(Node {
+        label: 1,
+        children: vec![in alloc; child]?,
+    })
+}
+
+fn tree(alloc: Global) -> Result<Tree, AllocError> {
+    let left = Box::new(alloc, Tree::Leaf(1))?;
+    let right = Box::new(alloc, Tree::Leaf(2))?;
+    Ok(Tree::Fork(left, right))
+}
+
+#[test]
+fn types_that_hold_themselves(rt: HostRuntime) -> Result<(), Fail> {
+    let alloc = rt.alloc();
+    let text =
+        "Node 4\nNode;children;Vec 16\nNode;children;Vec;ptr 8\nNode;children;Vec;ptr;Node 4\nNode;children;Vec;ptr;Node;children;Vec 24\nNode;children;Vec;ptr;Node;label;u32 4\nNode;label;u32 4\n";
+    shows(alloc, &node(alloc)?, text)?;
+    let text =
+        "Tree 8\nTree;left;Box;ptr 8\nTree;left;Box;ptr;Tree 16\nTree;left;Box;ptr;Tree;Leaf;u64 8\nTree;right;Box;ptr 8\nTree;right;Box;ptr;Tree 16\nTree;right;Box;ptr;Tree;Leaf;u64 8\n";
+    shows(alloc, &tree(alloc)?, text)
+}
+
+/// The text of two pointers to one page.
+fn text_of_links(alloc: Global) -> Result<String, Refusal> {
+    let page = Rc::new(alloc, 1u16)?;
+    let left = PageLink {
+        number: 7,
+        page: page.clone()?,
+    };
+    let right = PageLink { number: 7, page };
+    profile_values(alloc, &[left, right])?.flamegraph().write()
+}
+
+/// The text of two sensors with names.
+fn text_of_sensors(alloc: Global) -> Result<String, Refusal> {
+    let mut sensors = Sensors::new(alloc);
+    for (name, count) in [("door", 1), ("wall", 2)] {
+        let sensor = Root(Key::new(name), Sensor { count });
+        sensors.register(sensor).or(Err(Refusal::Memory))?;
+    }
+    sensors.profile()?.flamegraph().write()
+}
+
+#[test]
+fn roots_of_one_type(rt: HostRuntime) -> Result<(), Fail> {
+    let text = "Page;u16 2\nPageLink 16\nPageLink;page 16\n";
+    is_text(text_of_links(rt.alloc())?.as_str(), text)?;
+    let text = "door;Sensor;count;u64 8\nwall;Sensor;count;u64 8\n";
+    is_text(text_of_sensors(rt.alloc())?.as_str(), text)
+}
+
+fn event(alloc: Global) -> Result<Event, AllocError> {
+    Ok(Event::Sale {
+        shelf: 3,
+        prices: vec![in alloc; 4, 5]?,
+    })
+}
+
+fn table(alloc: Global) -> Table<u32, u16> {
+    Table {
+        values: HashMap::new(alloc),
+        last: 1,
+        spare: None,
+    }
+}
+
+fn found(alloc: Global) -> Found<'static, 2> {
+    Found {
+        text: "ab",
+        places: [1, 2],
+        counts: BTreeMap::new(alloc),
+    }
+}
+
+#[test]
+fn written_structs_and_enums(rt: HostRuntime) -> Result<(), Fail> {
+    let alloc = rt.alloc();
+    let text =
+        "Event 8\nEvent;Sale;prices;Vec 16\nEvent;Sale;prices;Vec;ptr 8\nEvent;Sale;prices;Vec;ptr;u64 16\nEvent;Sale;shelf;u64 8\n";
+    shows(alloc, &event(alloc)?, text)?;
+    let text =
+        "Table 2\nTable;last;u16 2\nTable;spare;Option 4\nTable;values;HashMap 40\nTable;values;HashMap;data 8\n";
+    shows(alloc, &table(alloc), text)?;
+    let text =
+        "Found 16\nFound;counts;BTreeMap 16\nFound;counts;BTreeMap;data 8\nFound;places;u32;data;u32 8\n";
+    shows(alloc, &found(alloc), text)
+}
+
+/// A list of nothing, of a box, and of an absent box beside a number.
+fn json(alloc: Global) -> Result<Json, AllocError> {
+    let boxed = Json::Boxed(Box::new(alloc, Json::Null)?);
+    let maybe = Json::Maybe {
+        first: None,
+        number: 5,
+    };
+    Ok(Json::List(vec![in alloc; Json::Null, boxed, maybe]?))
+}
+
+fn category(alloc: Global) -> Category {
+    Category {
+        name: String::new(alloc),
+        children: Vec::new(alloc),
+        rank: None,
+        by_name: HashMap::new(alloc),
+    }
+}
+
+/// A job that starts once another one is done.
+fn job(alloc: Global) -> Result<Job, AllocError> {
+    let first = Job {
+        id: 1,
+        payload: Payload::Nothing,
+        after: Vec::new(alloc),
+    };
+    let trigger = Trigger::Done {
+        job: Box::new(alloc, first)?,
+        within: 5,
+    };
+    Ok(Job {
+        id: 2,
+        payload: Payload::When(Some(trigger)),
+        after: Vec::new(alloc),
+    })
+}
+
+#[test]
+fn written_types_that_hold_themselves(rt: HostRuntime) -> Result<(), Fail> {
+    let alloc = rt.alloc();
+    let text =
+        "Json 8\nJson;List;Vec 16\nJson;List;Vec;ptr 8\nJson;List;Vec;ptr;Json 64\nJson;List;Vec;ptr;Json;Boxed;Box;ptr 8\nJson;List;Vec;ptr;Json;Boxed;Box;ptr;Json 32\nJson;List;Vec;ptr;Json;Maybe 4\nJson;List;Vec;ptr;Json;Maybe;first;Option 16\nJson;List;Vec;ptr;Json;Maybe;number;u32 4\n";
+    shows(alloc, &json(alloc)?, text)?;
+    let text =
+        "Category;by_name;HashMap 40\nCategory;by_name;HashMap;data 8\nCategory;children;Vec 24\nCategory;name;String 16\nCategory;name;String;ptr 8\nCategory;rank;Option 16\n";
+    shows(alloc, &category(alloc), text)?;
+    let text =
+        "Job;after;Vec 24\nJob;id;u64 8\nJob;payload;Payload 8\nJob;payload;Payload;When;Option 8\nJob;payload;Payload;When;Option;Some;Trigger 8\nJob;payload;Payload;When;Option;Some;Trigger;Done;job;Box;ptr 8\nJob;payload;Payload;When;Option;Some;Trigger;Done;job;Box;ptr;Job;after;Vec 24\nJob;payload;Payload;When;Option;Some;Trigger;Done;job;Box;ptr;Job;id;u64 8\nJob;payload;Payload;When;Option;Some;Trigger;Done;job;Box;ptr;Job;payload;Payload 40\nJob;payload;Payload;When;Option;Some;Trigger;Done;within;u64 8\n";
+    shows(alloc, &job(alloc)?, text)
+}
