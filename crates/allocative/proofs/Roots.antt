@@ -1,5 +1,5 @@
 -- What a visit by a root visitor amounts to.
-use Rattle.std.proofs.Common.{◌≡◌, ℕ, suc, min, ◌+◌, ◌-◌, ◌<◌, ◌≤◌, ◌^◌, inl, inr, Option, Some, None, List, length}
+use Rattle.std.proofs.Common.{◌≡◌, ℕ, suc, min, ◌+◌, ◌-◌, ◌<◌, ◌≤◌, ◌^◌, inr, Option, Some, None, List, length}
 use Rattle.std.proofs.Common.{take, get_or, Bool, IsTrue, Result, Ok, Err, IsErr, refl, ap, sym, subst, ◌∙◌, arith}
 use Rattle.std.proofs.Common.{IfOk, IfErr}
 use Rattle.allocative.proofs.Common.{Outer, Refusal, TooLarge, Forest, followed_by, add_all, held, ShowsNoContent, Kind}
@@ -8,10 +8,9 @@ use Rattle.allocative.proofs.Common.{is_graph, begin, outer_of, close_entry, not
 use Rattle.allocative.proofs.Common.{each_shows, AddsForest, refused, hidden, forgotten, OpensRoot, Settles, VisitsRoot}
 use Rattle.allocative.proofs.Common.{Profile, IsProfileOf, IsHeldSum, MayRefuse, FailsOnlyIfFull, has_added}
 use Rattle.allocative.proofs.Common.{has_refused, RootFailsOnlyIfFull, ClosesEntry}
-use Rattle.allocative.specs.SizeOf.{AnswersSize, AnswersVisit, AnswersVisitOf, AnswersOwned, IsSizeOfOwned}
+use Rattle.allocative.specs.SizeOf.{AnswersSize, AnswersVisit, AnswersVisitOf, IsSizeOfOwned}
 use Rattle.allocative.specs.RefusedVisits.{RefusesVisit}
 use Rattle.allocative.specs.Built.{as_graph}
-use Rattle.allocative.specs.Closures.{AnswersSum}
 use Rattle.allocative.proofs.Within.{err_or, same_err}
 use Rattle.allocative.specs.Visited.{Effect, WasVisited, VisitsRootWithEffect, not_begun, root_visited}
 use Rattle.allocative_graph.specs.Forest.{met_after, Fits, own, all}
@@ -127,13 +126,13 @@ owned_by_visit p (Going b) (Going c) u n e (z, f, a, t, g) k =
     let k' : n ≡ 0 + (owned f - min 0 (direct f)) = subst (λ (x : Kind). IsHeldSum (Going x) n) g' k in
     (f, a, t', omega (arith, k'))
 
--- What is answered of the bytes that a visit left, from a collector to which nothing was added.
-visit_answered_of : {T : Type 0} (z : Kind) {p : Showing} {effect : Effect} (answers : State → Result T Refusal → Type 0)
+-- After a visit at a closed collector, the result is what is answered of the collector that the visit left.
+pub visit_answered : {T : Type 0} {z : Kind} {p : Showing} {effect : Effect} {answers : State → Result T Refusal → Type 0}
     {s t : State} {q : Result Unit Refusal} {r : Result T Refusal} →
     IsClosed z → outer_of 0 z ≡ no_outer → VisitsRootWithEffect p effect s t q → s ≡ Going z →
     (Settles t q → answers t r) → AnswersVisitOf z p effect answers r
-visit_answered_of z answers closed none (not_begun x b) is up = absurd ((rw is at b).1 closed)
-visit_answered_of z {p} {effect} answers {r = r} closed none (root_visited {o = o} {a = a} {c = c} b v l e k) is up =
+visit_answered closed none (not_begun x b) is up = absurd ((rw is at b).1 closed)
+visit_answered {z = z} {p} {effect} {answers} {r = r} closed none (root_visited {o = o} {a = a} {c = c} b v l e k) is up =
     let b' : OpensRoot (Going z) (Ok o) a = rw is at b in
     record {
       after = c;
@@ -142,64 +141,25 @@ visit_answered_of z {p} {effect} answers {r = r} closed none (root_visited {o = 
           (up k);
     }
 
--- After a visit at an empty collector of held bytes, the result is what is answered of that collector.
-visit_answered : {p : Showing} {effect : Effect} (answers : State → Result ℕ Refusal → Type 0) {s t : State}
-    {q : Result Unit Refusal} {r : Result ℕ Refusal} →
-    VisitsRootWithEffect p effect s t q → s ≡ Going (OfHeld nothing_held) → (Settles t q → answers t r) →
-    AnswersVisit p effect answers r
-visit_answered answers = visit_answered_of (OfHeld nothing_held) answers refl refl
-
--- If a visit at an empty collector of owned bytes returns Ok, their sum is the answer.
-pub owned_answered : {p : Showing} {effect : Effect} {s t : State} {u : Unit} {n : ℕ} →
-    VisitsRootWithEffect p effect s t (Ok u) → s ≡ Going (OfOwned nothing_owned) → IsHeldSum t n →
-    AnswersOwned p effect (Ok n)
-owned_answered v is h = visit_answered_of (OfOwned nothing_owned) AnswersSum (refl, refl) refl v is (λ k. (k, h))
-
--- If a visit at an empty collector of owned bytes returns an error, that error is the answer.
-pub owned_refused : {p : Showing} {effect : Effect} {s t : State} {e : Refusal} {r : Result ℕ Refusal} →
-    VisitsRootWithEffect p effect s t (Err e) → s ≡ Going (OfOwned nothing_owned) → IsErr r → e ≡ err_or e r →
-    AnswersOwned p effect r
-owned_refused v is h i = rw (same_err _ h i)
-    (visit_answered_of (OfOwned nothing_owned) AnswersSum (refl, refl) refl v is (λ k. k))
-
--- If a visit at an empty collector of held bytes returns Ok, their sum is the answer.
-pub held_answered : {p : Showing} {effect : Effect} {s t : State} {u : Unit} {n : ℕ} →
-    VisitsRootWithEffect p effect s t (Ok u) → s ≡ Going (OfHeld nothing_held) → IsHeldSum t n →
-    AnswersVisit p effect AnswersSum (Ok n)
-held_answered v is h = visit_answered AnswersSum v is (λ k. (k, h))
-
--- If a visit at an empty collector of held bytes returns an error, that error is the answer.
-pub held_refused : {p : Showing} {effect : Effect} {s t : State} {e : Refusal} {r : Result ℕ Refusal} →
-    VisitsRootWithEffect p effect s t (Err e) → s ≡ Going (OfHeld nothing_held) → IsErr r → e ≡ err_or e r →
-    AnswersVisit p effect AnswersSum r
-held_refused v is h i = rw (same_err _ h i) (visit_answered AnswersSum v is (λ k. k))
-
--- If the visit returns Ok, the size is the sum of the held bytes and the declared size.
-pub size_answered : {p : Showing} {effect : Effect} {size : Option ℕ} {s t : State} {u : Unit} (n : ℕ) {own m : ℕ} →
-    VisitsRootWithEffect p effect s t (Ok u) → s ≡ Going (OfHeld nothing_held) → IsHeldSum t n → size ≡ Some own →
-    m ≡ n + own → AnswersVisit p effect (AnswersSize size) (Ok m)
-size_answered {size = size} n {own = own} v is h y e =
-    visit_answered (AnswersSize size) v is (λ k. (n, own, (k, h), y, e))
-
--- If the visit returns an error, the size is refused with that error.
-pub size_refused : {p : Showing} {effect : Effect} {size : Option ℕ} {s t : State} {e : Refusal}
-    {r : Result ℕ Refusal} →
-    VisitsRootWithEffect p effect s t (Err e) → s ≡ Going (OfHeld nothing_held) → IsErr r → e ≡ err_or e r →
-    AnswersVisit p effect (AnswersSize size) r
-size_refused {size = size} v is h i = rw (same_err _ h i) (visit_answered (AnswersSize size) v is (λ k. inl k))
+-- If the visit returns an error, so does the call, with that error.
+pub visit_refused : {T : Type 0} {z : Kind} {p : Showing} {effect : Effect} {answers : State → Result T Refusal → Type 0}
+    {s t : State} {e : Refusal} {r : Result T Refusal} →
+    IsClosed z → outer_of 0 z ≡ no_outer → VisitsRootWithEffect p effect s t (Err e) → s ≡ Going z →
+    (Settles t (Err e) → answers t (Err e)) → IsErr r → e ≡ err_or e r → AnswersVisitOf z p effect answers r
+visit_refused closed none v is up h i = rw (same_err _ h i) (visit_answered closed none v is up)
 
 -- If the visit returns Ok and there is no declared size, the size is refused with TooLarge.
 pub size_not_there : {p : Showing} {effect : Effect} {size : Option ℕ} {s t : State} {u : Unit} (n : ℕ) →
     VisitsRootWithEffect p effect s t (Ok u) → s ≡ Going (OfHeld nothing_held) → IsHeldSum t n → size ≡ None →
     AnswersVisit p effect (AnswersSize size) (Err TooLarge)
-size_not_there {size = size} n v is h y =
-    visit_answered (AnswersSize size) v is (λ k. inr (n, (k, h), refl, λ own z. absurd (cc)))
+size_not_there n v is h y =
+    visit_answered refl refl v is (λ k. inr (n, (k, h), refl, λ own z. absurd (cc)))
 
 -- If held bytes and declared size together do not fit a word, the size is refused with TooLarge.
 pub size_too_large : {p : Showing} {effect : Effect} {size : Option ℕ} {s t : State} {u : Unit} (n : ℕ) {own : ℕ} →
     VisitsRootWithEffect p effect s t (Ok u) → s ≡ Going (OfHeld nothing_held) → IsHeldSum t n → size ≡ Some own →
     2 ^ 64 ≤ n + own → AnswersVisit p effect (AnswersSize size) (Err TooLarge)
-size_too_large {size = size} n {own = own} v is h y l = visit_answered (AnswersSize size) v is (λ k. inr (
+size_too_large n {own = own} v is h y l = visit_answered refl refl v is (λ k. inr (
   n,
   (k, h),
   refl,
@@ -214,7 +174,7 @@ pub root_refused : {p : Showing} {effect : Effect} (s : State) {t : State} {u : 
 root_refused s (Ok v) k h = tt
 root_refused (Failed x) (Err e) k h = absurd (cc)
 root_refused (Going (OfGraph c)) (Err e) k h =
-    inr (OfGraph c, refl, visit_answered_of (OfGraph c) Settles k refl h refl (λ y. y))
+    inr (OfGraph c, refl, visit_answered k refl h refl (λ y. y))
 root_refused (Going (OfHeld k)) (Err e) h v = absurd (cc)
 root_refused (Going (OfOwned k)) (Err e) h v = absurd (cc)
 
