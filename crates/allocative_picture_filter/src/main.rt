@@ -2,6 +2,11 @@
 //! Files of an earlier profile may be named, and the picture then shows the change.
 #![tactic(auto)]
 
+ghost use Rattle.std.specs.Prelude.{◌≡◌, IsTrue, OnOk};
+ghost use Rattle.std.specs.Io.KnownBytes.{Appends};
+ghost use Rattle.allocative_io.specs.Streams.{AppendsBeginning};
+ghost use Rattle.allocative_picture_filter.specs.declared.run.TheConstants.{USAGE};
+
 mod arguments;
 mod fault;
 mod run;
@@ -48,13 +53,19 @@ fn read_files<'a, R: Files + AllocGlobal>(
     Ok(texts)
 }
 
-// Does what the arguments ask for.
+// Does what the arguments ask for. With `help` it writes the usage, and reads nothing.
 fn run_on_files<'a, S: Files + AllocGlobal, R: Read, W: Write>(
     rt: &S,
     asked: &Arguments<'a>,
     input: &mut R,
     output: &mut W,
-) -> Result<(), Fault<'a>> {
+) -> Result<(), Fault<'a>>
+    ensures unread { IsTrue asked.now.help → input.new ≡ input.old }
+    ensures shown { IsTrue asked.now.help
+        → OnOk result (Appends (W.contents output.old) (W.contents output.new) USAGE.now) }
+    ensures beginning { IsTrue asked.now.help
+        → AppendsBeginning (W.contents output.old) (W.contents output.new) USAGE.now }
+{
     if asked.help {
         return write_output(output, USAGE);
     }
