@@ -26,6 +26,8 @@ FIXED |= {"url": of((88, 8), "Url"), "uuid": of((16, 1), "Uuid")}
 # What stands before the value in a type that holds one.
 BEFORE = {("std", "Mutex"): (5, 4), ("std", "RwLock"): (9, 4), ("std", "RefCell"): (8, 8), ("std", "Cell"): (0, 1)}
 BEFORE |= {("parking_lot", "Mutex"): (1, 1), ("parking_lot", "RwLock"): (8, 8)}
+# How many parameters stand before the one that makes hashes, whose size counts.
+BEFORE_HASHER = {"HashMap": 2, "HashSet": 1}
 POINTERS = ("Rc", "Arc", "Weak", "Box")
 # Types that are no larger in an `Option`.
 WITH_ROOM = {"Rc", "Arc", "Box", "NonNull", "String", "Vec", "VecDeque", "PathBuf", "HashMap", "HashSet", "bool", "char"}
@@ -38,8 +40,10 @@ def layout_of(scope: Scope, kind: Type) -> Layout | None:
     home, name = path[0] if len(path) > 1 else "std", kind.name
     if kind.form == "reference" or (name in POINTERS and kind.parts):
         return 16 if is_unsized(kind.parts[0]) else 8, 8
-    if scope.own(kind) or name in FIXED.get(home, ()):
-        return None if scope.own(kind) else FIXED[home][name]
+    if scope.own(kind) or any(part.name != "RandomState" for part in kind.parts[BEFORE_HASHER.get(name, len(kind.parts)) :]):
+        return None
+    if name in FIXED.get(home, ()):
+        return FIXED[home][name]
     if name in NUMBERS:
         return NUMBERS[name], NUMBERS[name]
     parts = [layout for part in kind.parts if (layout := layout_of(scope, part))]
@@ -50,19 +54,25 @@ def layout_of(scope: Scope, kind: Type) -> Layout | None:
 def composed(kind: Type, name: tuple[str, str], parts: list[Layout]) -> Layout | None:
     """The same of a type that holds values of known layouts."""
     size, align = sum(part[0] for part in parts), max([1, *(part[1] for part in parts)])
-    start, least, length = 0, 1, kind.text.rpartition("; ")[2][:-1]
     if kind.form == "array":
+        length = kind.text.rpartition("; ")[2][:-1]
         return (size * int(length), align) if length.isdigit() else None
-    if name[1] == "Option" and kind.parts[0].name not in WITH_ROOM:
-        size += 1
-        if kind.parts[0].name not in NUMBERS or kind.parts[0].name.startswith("NonZero"):
-            return None
-    elif kind.form != "tuple" and name[1] != "Option":
-        if name not in BEFORE:
-            return None
-        start, least = BEFORE[name]
-    least = max(least, align)
-    return -(-(-(-start // align) * align + size) // least) * least, least
+    if kind.form == "tuple":
+        return rounded(size, align), align
+    held = kind.parts[0].name
+    if name[1] == "Option" and (held in WITH_ROOM or held.startswith("NonZero")):
+        return size, align
+    if name[1] == "Option":
+        return (rounded(size + 1, align), align) if held in NUMBERS else None
+    if name not in BEFORE:
+        return None
+    start, least = BEFORE[name]
+    return rounded(rounded(start, align) + size, max(least, align)), max(least, align)
+
+
+def rounded(size: int, align: int) -> int:
+    """The least multiple of an alignment that is not below a size."""
+    return -(-size // align) * align
 
 
 def is_unsized(kind: Type) -> bool:

@@ -173,6 +173,11 @@ class CommandTest(unittest.TestCase):
             ("std::cell::RefCell<(u8, u16, u8)>", 16),
             ("std::cell::RefCell<[u16; 5]>", 24),
             ("std::cell::RefCell<Rc<str>>", 24),
+            ("std::cell::RefCell<Option<NonZeroU16>>", 16),
+            ("std::cell::Cell<Option<f64>>", 16),
+            ("std::sync::Mutex<(u8, u64, u16)>", 24),
+            ("std::sync::Mutex<[Option<u8>; 3]>", 12),
+            ("std::sync::RwLock<()>", 12),
             ("File", 4),
             ("SocketAddr", 32),
             ("&'static str", 16),
@@ -181,7 +186,7 @@ class CommandTest(unittest.TestCase):
             with self.subTest(kind):
                 told = self.run_it(f"{head}#[derive(Drop)]\nstruct A {{\n    a: {kind},\n}}\n")[2]
                 self.assertIn(f"write above it `// allocative: size {size}`,", told[0])
-        for kind in ("Mutex<Own>", "Mutex<Option<(u8, bool)>>", "Mutex<[u8; N]>"):
+        for kind in ("Mutex<Own>", "Mutex<Option<(u8, bool)>>", "Mutex<[u8; N]>", "Mutex<HashMap<u8, u8, Own>>"):
             told = self.run_it(f"{head}#[derive(Drop)]\nstruct A {{\n    a: {kind},\n}}\n#[derive(Drop)]\nstruct Own;\n")[2]
             self.assertIn("// allocative: size N`, where N is what `size_of::<", told[0])
 
