@@ -25,69 +25,23 @@ held_in-following u (Unique k n f after) g = grind (arith, held_in-following u a
 held_in-following u (First k n j f after) g = held_in-following u after g
 held_in-following u (Again k n j after) g = held_in-following u after g
 
--- The empty forest changes nothing in the collector of held bytes.
-holding-nothing : (h : Holding) → plus_holding h Empty ≡ h
-holding-nothing h = let same : h.sum + (0 + cond h.is_in_unique 0 0) ≡ h.sum = grind arith in
-    λ i. record h { sum = same i }
-
--- What an entry adds, and what is inside it, is what the entry with all inside it adds.
-inside_sum : (is_in_unique is_unique : Bool) (s n h b : ℕ) →
-    (s + held_bytes is_in_unique is_unique n) + (h + cond is_unique b 0)
-    ≡ s + (cond is_unique (b + h + 0) (h + 0) + cond is_in_unique (cond is_unique 0 (n + 0)) 0)
-inside_sum v u s n h b = grind arith
-
 -- ---- the collector of owned bytes
--- An empty forest leaves the state of owned bytes unchanged.
-owning-nothing : (o : Owning) → plus_owning o Empty ≡ o
-owning-nothing o =
-    let sum : o.sum + (0 - min o.spare 0) ≡ o.sum = omega arith in
-    let spare : o.spare - 0 ≡ o.spare = omega arith in
-    λ i. record o { sum = sum i; spare = spare i }
-
 -- For the collector of owned bytes, adding two forests in one is adding the first and then the second.
 owning-following : (o : Owning) (f g : Forest) → plus_owning o (followed_by f g) ≡ plus_owning (plus_owning o f) g
-owning-following o f g =
-    let d = direct-following f g in
-    let w = owned-following f g in
-    let sum : o.sum + (owned (followed_by f g) - min o.spare (direct (followed_by f g)))
-    ≡ (o.sum + (owned f - min o.spare (direct f))) + (owned g - min (o.spare - direct f) (direct g)) =
-    omega (arith, d, w, direct-owned f, direct-owned g) in
-    let spare : o.spare - direct (followed_by f g) ≡ (o.spare - direct f) - direct g = omega (arith, d) in
-    λ i. record o { sum = sum i; spare = spare i }
-
--- Entering an entry and adding what is inside it gives the same owned bytes as adding the whole entry at once.
-owning_inside : (is_unique : Bool) (s t n w d : ℕ) → d ≤ w → (s + (n - t)) + (w - min (cond is_unique 0 n) d)
-    ≡ s + ((cond is_unique n (n - d) + w + 0) - min t (n + 0))
-owning_inside true s t n w d h = omega (arith, h)
-owning_inside false s t n w d h = omega (arith, h)
-
--- An entry with nothing beside it takes exactly its own bytes from the spare ones.
-spare_left : (t n : ℕ) → t - n ≡ t - (n + 0)
-spare_left t n = omega arith
-
--- A shared entry without its content counts, for owned bytes, as an entry with nothing inside it.
-owning-again : (k : Key) (n : ℕ) (j : Identity) (o : Owning) → plus_owning o (Again k n j Empty) ≡ count_owning n o
-owning-again k n j o =
-    let sum : o.sum + ((n + 0) - min o.spare (n + 0)) ≡ o.sum + (n - o.spare) = omega arith in
-    let spare : o.spare - (n + 0) ≡ o.spare - n = omega arith in
-    λ i. record o { sum = sum i; spare = spare i }
+owning-following o f g = grind (arith, direct-following f g, owned-following f g, direct-owned f, direct-owned g)
 
 -- ---- each
 -- An empty forest leaves a collector unchanged.
 pub plus-nothing : (c : Kind) → plus c Empty ≡ c
 plus-nothing (OfGraph c) = refl
-plus-nothing (OfHeld h) = ap OfHeld (holding-nothing h)
-plus-nothing (OfOwned o) = ap OfOwned (owning-nothing o)
+plus-nothing (OfHeld h) = grind arith
+plus-nothing (OfOwned o) = grind arith
 
 -- A collector has after two forests in one what it has after the first and then the second.
 pub plus-following : (c : Kind) (f g : Forest) → plus c (followed_by f g) ≡ plus (plus c f) g
 plus-following (OfGraph c) f g = λ i. OfGraph
     (record c { sums = entries_at-following c.sums c.here f g i; met = met-following c.met f g i })
-plus-following (OfHeld h) f g =
-    let both : h.sum + held_in h.is_in_unique (followed_by f g)
-    ≡ (h.sum + held_in h.is_in_unique f) + held_in h.is_in_unique g =
-    omega (arith, held_in-following h.is_in_unique f g) in
-    λ i. OfHeld (record h { sum = both i })
+plus-following (OfHeld h) f g = grind (arith, held_in-following h.is_in_unique f g)
 plus-following (OfOwned o) f g = ap OfOwned (owning-following o f g)
 
 -- A collector takes the empty forest.
@@ -113,12 +67,10 @@ pub inside_entry : (u : Bool) (k : Key) (n : ℕ) (c : Kind) (f : Forest) →
     leave (outer_of n c) (plus (enter u k n c) f) ≡ plus c (entry_of u k n f)
 inside_entry true k n (OfGraph c) f = rw (append-nil (own_behind (c.here ++ k ∷ []) f), append-nil (contents f))
 inside_entry false k n (OfGraph c) f = rw (append-nil (own_behind (c.here ++ k ∷ []) f), append-nil (contents f))
-inside_entry true k n (OfHeld h) f = λ i. OfHeld
-    (record h { sum = inside_sum h.is_in_unique true h.sum n (held f) (inline_bytes f) i })
-inside_entry false k n (OfHeld h) f = λ i. OfHeld
-    (record h { sum = inside_sum h.is_in_unique false h.sum n (held f) (inline_bytes f) i })
-inside_entry true k n (OfOwned o) f = λ i. OfOwned (record o { sum = owning_inside true o.sum o.spare n (owned f) (direct f) (direct-owned f) i; spare = spare_left o.spare n i })
-inside_entry false k n (OfOwned o) f = λ i. OfOwned (record o { sum = owning_inside false o.sum o.spare n (owned f) (direct f) (direct-owned f) i; spare = spare_left o.spare n i })
+inside_entry true k n (OfHeld h) f = grind arith
+inside_entry false k n (OfHeld h) f = grind arith
+inside_entry true k n (OfOwned o) f = grind (arith, direct-owned f)
+inside_entry false k n (OfOwned o) f = grind (arith, direct-owned f)
 
 -- A collector takes an entry with a forest inside it if, once the entry is entered, it takes that forest.
 pub takes_entry : (u : Bool) (k : Key) (n : ℕ) (c : Kind) (f : Forest) → Takes (enter u k n c) f →
@@ -142,12 +94,12 @@ takes_shared k n j c f new w = (new, w, tt)
 
 -- A shared entry without its content leaves a collector of held bytes as it is.
 pub held_again : (k : Key) (n : ℕ) (j : Identity) (h : Holding) → plus (OfHeld h) (Again k n j Empty) ≡ OfHeld h
-held_again k n j h = ap OfHeld (holding-nothing h)
+held_again k n j h = grind arith
 
 -- A shared entry without its content adds to a collector of owned bytes what it has beyond the spare ones.
 pub owned_again : (k : Key) (n : ℕ) (j : Identity) (o : Owning) →
     plus (OfOwned o) (Again k n j Empty) ≡ OfOwned (count_owning n o)
-owned_again k n j o = ap OfOwned (owning-again k n j o)
+owned_again k n j o = grind arith
 
 -- ---- the count of visitors
 -- A closed collector has no open visitor.

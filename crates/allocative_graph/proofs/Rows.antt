@@ -16,9 +16,7 @@ figured t ks rs = map (λ e. record { path = ks ++ e.0; self_size = e.1; total_s
 figured-under : (t u : Path → ℕ) (ks : Path) (k : Key) (rs : List (Path × ℕ)) → ((q : Path) → t (k ∷ q) ≡ u q) →
     figured u (ks ++ k ∷ []) rs ≡ figured t ks (under_rows k rs)
 figured-under t u ks k [] h = refl
-figured-under t u ks k (r ∷ rs) h =
-    λ i. record { path = append_assoc ks (k ∷ []) r.0 i; self_size = r.1; total_size = sym (h r.0) i } ∷ figured-under t
-    u ks k rs h i
+figured-under t u ks k (r ∷ rs) h = rw (append_assoc ks (k ∷ []) r.0, ← h r.0, figured-under t u ks k rs h)
 
 -- The rows of one child more.
 pub child_read : (n : ℕ) (cs : List Child) (i : ℕ) (d : Child) (ks : Path) → InOrder cs → i < length cs
