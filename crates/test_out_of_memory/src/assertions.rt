@@ -50,8 +50,7 @@ pub(crate) fn assert_text(rt: &impl Abort, graph: &FlameGraph, want: &str) {
     assert_same(rt, written(rt, graph).as_str(), want);
 }
 
-/// Asserts the text and the warnings of an output, of which only that of a node `a` is outside std's maps and sets, or
-/// that it was refused.
+/// Asserts the text and the warnings of an output, none of which is outside std's maps and sets, or that it was refused.
 pub(crate) fn assert_output(
     rt: &impl Abort,
     answer: Result<FlameGraphOutput, Refusal>,
@@ -63,11 +62,7 @@ pub(crate) fn assert_output(
             let copy = made(rt, || Ok(output.warnings()?));
             assert_same(rt, copy.as_str(), warnings);
             let outside = made(rt, || Ok(output.warned_paths_outside_std()?));
-            assert_count(
-                rt,
-                outside.len(),
-                usize::from(warnings.contains("node `a`")),
-            );
+            assert_count(rt, outside.len(), 0);
             assert_text(rt, output.flamegraph(), text);
         }
         Err(refusal) => assert_refused(rt, refusal),

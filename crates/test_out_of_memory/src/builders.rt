@@ -1,8 +1,6 @@
 //! A builder that ran out of memory has failed with that cause for good.
-use crate::assertions::{assert_count, assert_output, assert_refused, assert_same, made};
-use allocative::{FlameGraphBuilder, Identity, Key, Refusal, Visitor, size_of_owned};
-use allocative_tally::counted::CountedValue;
-use allocative_tally::profile::profile_counted;
+use crate::assertions::{assert_output, assert_refused, assert_same, made};
+use allocative::{FlameGraphBuilder, Identity, Key, Refusal, Visitor};
 use std::alloc::AllocGlobal;
 use std::process::Abort;
 
@@ -65,33 +63,11 @@ fn enter_sharer(root: &mut Visitor<'_>) -> Result<(), Refusal> {
     enter_fields(&mut outer)
 }
 
-/// Children of one node in falling order, and then once more in mixed order.
-const OUT_OF_ORDER: [&str; 20] = [
-    "j", "i", "h", "g", "f", "e", "d", "c", "b", "a", "d", "g", "j", "c", "f", "i", "b", "e", "h",
-    "a",
-];
-
-/// Enters one byte for each key.
-fn enter_each(root: &mut Visitor<'_>, keys: &[&'static str]) -> Result<(), Refusal> {
-    for key in keys {
-        enter_last(root, key, 1)?;
-    }
-    Ok(())
-}
-
-/// Enters `a 10 {b 13}`.
-fn enter_short(root: &mut Visitor<'_>) -> Result<(), Refusal> {
-    let mut outer = root.enter(Key::new("a"), 10)?;
-    enter_last(&mut outer, "b", 13)
-}
-
 /// What a test enters at a root visitor.
 #[derive(Clone, Copy)]
 enum Entries {
     Owner,
     Sharer,
-    OutOfOrder,
-    Short,
 }
 
 fn enter(builder: &mut FlameGraphBuilder, entries: Entries) -> Result<(), Refusal> {
@@ -99,8 +75,6 @@ fn enter(builder: &mut FlameGraphBuilder, entries: Entries) -> Result<(), Refusa
     match entries {
         Entries::Owner => enter_owner(&mut root),
         Entries::Sharer => enter_sharer(&mut root),
-        Entries::OutOfOrder => enter_each(&mut root, &OUT_OF_ORDER),
-        Entries::Short => enter_short(&mut root),
     }
 }
 
@@ -116,43 +90,24 @@ fn enter_times(
     Ok(())
 }
 
-/// Asserts what a builder is after entries: the text and the warnings of its graph, or that it has failed.
-fn assert_entered(
-    rt: &(impl Abort + AllocGlobal),
-    entries: Entries,
-    times: usize,
-    text: &str,
-    warnings: &str,
-) {
+/// Asserts what a builder is after entries: the text of its graph, or that it has failed.
+fn assert_entered(rt: &(impl Abort + AllocGlobal), entries: Entries, times: usize, text: &str) {
     let mut builder = new_builder(rt);
     match enter_times(&mut builder, entries, times) {
-        Ok(()) => assert_output(rt, builder.finish(), text, warnings),
+        Ok(()) => assert_output(rt, builder.finish(), text, ""),
         Err(refusal) => has_failed(rt, builder, refusal),
     }
 }
 
 #[test]
 fn entries_are_refused(rt: HostRuntime) {
-    assert_entered(&rt, Entries::Owner, 1, "T;ptr 8\nT;ptr;u8 3\n", "");
+    assert_entered(&rt, Entries::Owner, 1, "T;ptr 8\nT;ptr;u8 3\n");
 }
 
 #[test]
 fn shared_entries_are_refused(rt: HostRuntime) {
     let text = "Shared 13\nStruct 2\nStruct;a 6\nStruct;p 12\n";
-    assert_entered(&rt, Entries::Sharer, 2, text, "");
-}
-
-#[test]
-fn entries_out_of_order_are_refused(rt: HostRuntime) {
-    let text = "a 2\nb 2\nc 2\nd 2\ne 2\nf 2\ng 2\nh 2\ni 2\nj 2\n";
-    assert_entered(&rt, Entries::OutOfOrder, 1, text, "");
-}
-
-#[test]
-fn warnings_are_refused(rt: HostRuntime) {
-    let warnings =
-        "Incorrect size declaration for node `a`, size of self: 10, size of inline children: 13\n";
-    assert_entered(&rt, Entries::Short, 1, "a;b 13\n", warnings);
+    assert_entered(&rt, Entries::Sharer, 2, text);
 }
 
 /// Asserts the text of what a builder wrote, or that it was refused.
@@ -181,13 +136,4 @@ fn a_root_is_refused(rt: HostRuntime) {
     let mut builder = new_builder(&rt);
     let visited = builder.visit_root(&Some(7u32));
     assert_visited(&rt, builder, visited, "Option 4\nOption;Some;u32 4\n");
-}
-
-#[test]
-fn counting_takes_no_memory(rt: HostRuntime) {
-    let numbers = made(&rt, || Ok(vec![in rt.alloc(); 1u64, 2]?));
-    let bytes = size_of_owned(&CountedValue(&numbers)).expect(&rt, "the bytes");
-    assert_count(&rt, bytes, 40);
-    let text = "Vec 16\nVec;ptr 8\nVec;ptr;u64 16\n";
-    assert_output(&rt, profile_counted(rt.alloc(), &numbers), text, "");
 }

@@ -1,9 +1,8 @@
 //! The calls of the JSON program after a refused growth: Memory is their only fault, and a lent output is unchanged.
 use crate::assertions::{assert_same, made};
-use allocative::{FlameGraphBuilder, FlameGraphOutput, Key, Registry, Visitor, profile_roots};
+use allocative::{FlameGraphOutput, Registry, profile_roots};
 use allocative_json::{Fault, Report, profile_json, read_roots, report};
-use std::alloc::{AllocGlobal, Global};
-use std::collections::BTreeSet;
+use std::alloc::Global;
 use std::process::Abort;
 
 pub(crate) const FAR_NUMBERS: &[u8] =
@@ -26,76 +25,18 @@ fn a_profile_of_json_is_refused(rt: HostRuntime) {
     assert_texts(&rt, &report, THREE_NUMBERS, SHORT_DATA);
 }
 
-/// The whole numbers of a document.
-fn numbers(alloc: Global) -> Result<BTreeSet<i128>, Fault> {
-    let input = b"[1,[2,{\"a\":3,\"b\":[2,-4]}],{\"c\":1}]";
-    let (_document, numbers) = read_roots(alloc, input, true)?;
-    numbers.ok_or(Fault::NotWhole)
-}
-
-#[test]
-fn reading_roots_is_refused(rt: HostRuntime) {
-    let numbers = made(&rt, || numbers(rt.alloc()));
-    assert!(rt; numbers.len() == 4);
-    for number in [-4i128, 1, 2, 3] {
-        assert!(rt; numbers.contains(&number));
-    }
-}
-
-/// The profile of an input by roots that are boxed here.
-fn boxed(alloc: Global, input: &[u8], index: bool) -> Result<FlameGraphOutput, Fault> {
-    let (document, numbers) = read_roots(alloc, input, index)?;
+/// The profile of a document and its numbers, by roots that are boxed here.
+fn boxed(alloc: Global) -> Result<FlameGraphOutput, Fault> {
+    let (document, numbers) = read_roots(alloc, FAR_NUMBERS, true)?;
     let mut registry = Registry::new(alloc);
-    if registry.register_root(Box::new(alloc, document)?).is_err() {
-        return Err(Fault::Memory);
-    }
-    if let Some(numbers) = numbers {
-        if registry.register_root(Box::new(alloc, numbers)?).is_err() {
-            return Err(Fault::Memory);
-        }
-    }
+    registry.add_root(Box::new(alloc, document)?)?;
+    registry.add_root(Box::new(alloc, numbers.ok_or(Fault::NotWhole)?)?)?;
     Ok(profile_roots(&registry)?)
-}
-
-/// The report of an output without unused capacities.
-fn reported(rt: &(impl Abort + AllocGlobal), output: &FlameGraphOutput) -> Report {
-    made(rt, || report(rt.alloc(), output, true))
-}
-
-#[test]
-fn a_report_of_a_boxed_document_is_refused(rt: HostRuntime) {
-    let output = made(&rt, || boxed(rt.alloc(), b"true", false));
-    assert_texts(&rt, &reported(&rt, &output), "Value 32\n", "");
 }
 
 #[test]
 fn a_report_of_boxed_numbers_is_refused(rt: HostRuntime) {
-    let output = made(&rt, || boxed(rt.alloc(), FAR_NUMBERS, true));
-    assert_texts(&rt, &reported(&rt, &output), THREE_NUMBERS, SHORT_DATA);
-}
-
-/// Enters keys that have a `;`, a line feed or a space in them.
-fn enter_odd_keys(root: &mut Visitor<'_>) -> Result<(), Fault> {
-    root.visit_simple(Key::new("a;unused_capacity"), 1)?;
-    root.visit_simple(Key::new("b\nunused_capacity"), 2)?;
-    root.visit_simple(Key::new("c unused_capacity"), 3)?;
-    root.visit_simple(Key::new("unused_capacity\nd"), 4)?;
-    Ok(())
-}
-
-/// The profile of these keys.
-fn odd_keys(alloc: Global) -> Result<FlameGraphOutput, Fault> {
-    let mut builder = FlameGraphBuilder::new(alloc)?;
-    let mut root = builder.root_visitor()?;
-    let entered = enter_odd_keys(&mut root);
-    root.exit();
-    entered?;
-    Ok(builder.finish()?)
-}
-
-#[test]
-fn a_report_without_some_lines_is_refused(rt: HostRuntime) {
-    let text = "b\nc unused_capacity 3\nunused_capacity\nd 4\n";
-    let output = made(&rt, || odd_keys(rt.alloc()));
-    assert_texts(&rt, &reported(&rt, &output), text, "");
+    let output = made(&rt, || boxed(rt.alloc()));
+    let report = made(&rt, || report(rt.alloc(), &output, true));
+    assert_texts(&rt, &report, THREE_NUMBERS, SHORT_DATA);
 }

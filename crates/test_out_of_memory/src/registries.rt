@@ -8,7 +8,7 @@ use crate::assertions::{assert_count, assert_output, assert_refused, assert_text
 use crate::builders::{assert_visited, new_builder};
 use allocative::{
     Allocative, Field, IdArc, IdRc, Identity, Inside, Part, Refusal, Registry, Visitor,
-    profile_in_two, profile_roots, size_of_owned,
+    profile_in_two, profile_roots,
 };
 use std::alloc::AllocGlobal;
 use std::cell::Cell;
@@ -95,27 +95,6 @@ fn a_map_is_refused(rt: HostRuntime) {
 fn two_collections_are_refused(rt: HostRuntime) {
     match profile_in_two(rt.alloc(), &[1u8, 2], &[3]) {
         Ok(graph) => assert_text(&rt, &graph, "u8 3\n"),
-        Err(refusal) => assert_refused(&rt, refusal),
-    }
-}
-
-/// Measuring grows nothing, so no refused growth changes what it returns.
-#[test]
-fn owned_bytes_take_no_memory(rt: HostRuntime) {
-    let map = map_of_one(&rt);
-    assert!(rt; size_of_owned(&map) == Ok(32));
-    let boxed = boxed(&rt, map);
-    assert!(rt; size_of_owned(&boxed) == Ok(40));
-}
-
-#[test]
-fn shared_values_are_refused(rt: HostRuntime) {
-    match IdRc::new(rt.alloc(), 5usize, Identity::from(7)) {
-        Ok(value) => assert_count(&rt, *value.get(), 5),
-        Err(refusal) => assert_refused(&rt, refusal),
-    }
-    match IdArc::new(rt.alloc(), 5usize, Identity::from(7)) {
-        Ok(value) => assert_count(&rt, *value.get(), 5),
         Err(refusal) => assert_refused(&rt, refusal),
     }
 }
