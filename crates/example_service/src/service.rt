@@ -45,8 +45,8 @@ impl Service {
         })
     }
 
-    /// Does what is asked for, and returns the text that says what comes of it. The error is `Memory`, or `TooLarge` if
-    /// two profiles together do not fit a word.
+    /// Does what is asked for, and returns the text that says what comes of it. The error is `Memory`, or that of a
+    /// profile, a comparison or a picture.
     pub fn answer(&mut self, request: &Request<'_>) -> Result<String, Refusal> {
         let alloc = self.alloc;
         let ledger = &mut self.ledger;
@@ -55,10 +55,7 @@ impl Service {
             Request::Limit(tenant, limit) => {
                 tell(alloc, ledger.set_budget(tenant, budget_of(limit)))
             }
-            Request::Soft(tenant, bytes) => {
-                let set = ledger.set_soft_limit(tenant, bytes);
-                tell(alloc, set.ok_or(Rejection::NoAccount))
-            }
+            Request::Soft(tenant, bytes) => self.set_soft_limit(tenant, bytes),
             Request::Whole(limit) => tell(alloc, ledger.set_limit(limit)),
             Request::Attach(tenant, key, bytes) => {
                 tell_entered(alloc, tenant, ledger.record(tenant, key, bytes))
@@ -74,26 +71,22 @@ impl Service {
             Request::Put(tenant, key, draft) => self.put(tenant, key, draft),
             Request::Get(tenant, key) => self.get(tenant, key),
             Request::Drop(tenant, key) => self.remove(tenant, key),
-            Request::Bill => self.bill(),
-            _ => self.answer_whole(request),
-        }
-    }
-
-    /// Answers a request that names no tenant.
-    fn answer_whole(&mut self, request: &Request<'_>) -> Result<String, Refusal> {
-        match *request {
             Request::Bound(bytes) => self.set_bound(bytes),
+            Request::Clear => Ok(self.clear()),
             Request::Pages => self.list_pages(),
+            Request::Bill => self.bill(),
             Request::Profile => self.profile(),
             Request::Report => self.report(),
             Request::Most(count) => self.tell_most(count),
             Request::Picture => self.draw(),
             Request::Change => self.draw_change(),
-            _ => {
-                self.pages.clear();
-                Ok(String::new(self.alloc))
-            }
         }
+    }
+
+    /// Changes the soft limit of a tenant.
+    fn set_soft_limit(&mut self, tenant: &str, bytes: usize) -> Result<String, Refusal> {
+        let set = self.ledger.set_soft_limit(tenant, bytes);
+        tell(self.alloc, set.ok_or(Rejection::NoAccount))
     }
 
     /// Makes a document of the draft, enters it into the ledger, and keeps it in place of the one that the key has.
@@ -240,6 +233,12 @@ impl Service {
         });
         written?;
         Ok(text)
+    }
+
+    /// Drops all pages. Nothing is said.
+    fn clear(&mut self) -> String {
+        self.pages.clear();
+        String::new(self.alloc)
     }
 
     /// The pages that are kept, the most recently used first, and their bytes.
