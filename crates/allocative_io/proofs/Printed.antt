@@ -1,6 +1,6 @@
 -- Texts in a line, byte by byte.
-use Rattle.std.proofs.Common.{◌≡◌, ℕ, map, Bor, ◌+◌, ◌/◌, ◌%◌, ◌<◌, ◌≤◌, Bool, true, false, cond, List, [], ◌∷◌, ◌++◌, length, take, drop, refl}
-use Rattle.std.proofs.Common.{sym, ap, ◌∙◌, append_assoc, append-nil, take-append-drop, slice_index, get_or, arith}
+use Rattle.std.proofs.Common.{◌≡◌, ℕ, map, Bor, ◌+◌, ◌/◌, ◌%◌, ◌<◌, ◌≤◌, Bool, true, false, cond, List, [], ◌∷◌, ◌++◌, length, take, drop}
+use Rattle.std.proofs.Common.{refl, sym, ap, ◌∙◌, append_assoc, append-nil, take-append-drop, slice_index, get_or, arith}
 use Rattle.std.proofs.lemmas.Grind.{flat_map-append}
 use Rattle.std.proofs.Math.Nat.{add-zero}
 use Rattle.std.proofs.lemmas.List.{take_more, drop_more, drop_all, length-drop, get_or-drop}
@@ -8,7 +8,8 @@ use Rattle.std.specs.Char.{digit_char, is_ascii_control}
 use Rattle.allocative_io.specs.Lines.{printable_byte, printable, line_of}
 
 -- A byte that is no control character is as it is.
-same_byte : (b : ℕ) (t : Bool) → t ≡ false → cond t (92 ∷ 120 ∷ digit_char (b / 16 % 16) ∷ digit_char (b % 16) ∷ []) (b ∷ []) ≡ b ∷ []
+same_byte : (b : ℕ) (t : Bool) → t ≡ false →
+    cond t (92 ∷ 120 ∷ digit_char (b / 16 % 16) ∷ digit_char (b % 16) ∷ []) (b ∷ []) ≡ b ∷ []
 same_byte b t e = rw e refl
 
 -- Bytes without a control character are as they are, with one more such byte.
