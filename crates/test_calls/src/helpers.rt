@@ -68,14 +68,19 @@ enum Helper {
     Field,
     Closure,
     OwnNames,
+    Size,
     BoxedSlice,
 }
 
-/// Enters one byte three times, by each call that enters a type's own name and size, and then by a declared size.
+/// Enters one byte three times, by each call that enters a type's own name and size.
 fn enter_names(root: &mut Visitor<'_>) -> Result<(), Refusal> {
     root.enter_self(&1u8)?.exit();
     root.enter_self_sized::<u8>()?.exit();
-    root.visit_simple_sized::<u8>()?;
+    root.visit_simple_sized::<u8>()
+}
+
+/// Enters a declared size.
+fn enter_size(root: &mut Visitor<'_>) -> Result<(), Refusal> {
     root.enter_sized(Key::new("table"), Some(5))?.exit();
     Ok(())
 }
@@ -111,6 +116,7 @@ fn call(root: &mut Visitor<'_>, alloc: Global, helper: Helper) -> Result<(), Ref
             inner.visit_simple(Key::new("x"), 1)
         }),
         Helper::OwnNames => enter_names(root),
+        Helper::Size => enter_size(root),
         Helper::BoxedSlice => enter_boxed_slice(root, alloc),
     }
 }
@@ -140,7 +146,8 @@ fn helpers(rt: HostRuntime) -> Result<(), Fail> {
         (Helper::Boxed, "Box;ptr 8\nBox;ptr;u8 1\n"),
         (Helper::Field, "f;u8 1\n"),
         (Helper::Closure, "f 3\nf;x 1\n"),
-        (Helper::OwnNames, "table 5\nu8 3\n"),
+        (Helper::OwnNames, "u8 3\n"),
+        (Helper::Size, "table 5\n"),
         (
             Helper::BoxedSlice,
             "TestData 7\nTestData;b;u8 1\nTestData;data;Box;ptr 16\nTestData;data;Box;ptr;u8;data;u8 100\n",

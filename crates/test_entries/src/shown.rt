@@ -1,6 +1,5 @@
 //! What the roots of a row show, and whether it is what the row wants.
 use allocative::{FlameGraph, FlameGraphOutput, Refusal};
-use std::alloc::{AllocError, Global};
 
 /// The text of a graph. Where it is of a whole graph, the graph's total, and of a whole output, the warnings.
 #[derive(Debug, Drop)]
@@ -20,49 +19,12 @@ pub(crate) fn graph_shown(graph: FlameGraph) -> Result<Shown, Refusal> {
 }
 
 /// What an output shows.
-pub(crate) fn output_shown(alloc: Global, output: FlameGraphOutput) -> Result<Shown, Refusal> {
-    let warnings = Some(warnings_of(alloc, &output)?);
+pub(crate) fn output_shown(output: FlameGraphOutput) -> Result<Shown, Refusal> {
+    let warnings = Some(output.warnings()?);
     Ok(Shown {
         warnings,
         ..graph_shown(output.into_flamegraph())?
     })
-}
-
-/// Adds the keys of a path, with `;` between them.
-fn push_path(text: &mut String, path: &[&'static str]) -> Result<(), AllocError> {
-    for (place, key) in path.iter().enumerate() {
-        if place > 0 {
-            text.push_str(";")?;
-        }
-        text.push_str(key)?;
-    }
-    Ok(())
-}
-
-/// The warnings of an output, made of its paths that have one.
-fn text_of(alloc: Global, output: &FlameGraphOutput) -> Result<String, AllocError> {
-    let mut text = String::new(alloc);
-    for warned in output.warned_paths() {
-        text.push_str("Incorrect size declaration for node `")?;
-        push_path(&mut text, &warned.path)?;
-        let (own, inside) = (warned.self_size, warned.children_size);
-        write!(
-            text,
-            "`, size of self: {own}, size of inline children: {inside}\n"
-        )?;
-    }
-    Ok(text)
-}
-
-/// The text of an output's warnings, with a line more if the copy of it or what its paths tell is another one.
-fn warnings_of(alloc: Global, output: &FlameGraphOutput) -> Result<String, Refusal> {
-    let written = text_of(alloc, output)?;
-    let mut copy = output.warnings()?;
-    let text = output.warnings_text();
-    if copy.as_str() != text || written.as_str() != text {
-        copy.push_str("the warnings do not agree\n")?;
-    }
-    Ok(copy)
 }
 
 /// Whether a text has these lines and no other, each with its line feed.

@@ -139,10 +139,10 @@ pub(crate) fn collect(
 ) -> Result<Shown, Refusal> {
     let middle = left.min(roots.len());
     match way {
-        Way::ByHand => output_shown(alloc, output_of(alloc, &roots, true)?),
-        Way::Visited => output_shown(alloc, output_of(alloc, &roots, false)?),
+        Way::ByHand => output_shown(output_of(alloc, &roots, true)?),
+        Way::Visited => output_shown(output_of(alloc, &roots, false)?),
         Way::Values => values(alloc, &roots),
-        Way::Registered => output_shown(alloc, registered(alloc, roots)?),
+        Way::Registered => output_shown(registered(alloc, roots)?),
         Way::Added => graph_shown(sum_of_two(alloc, &roots[..middle], &roots[middle..])?),
         Way::InTwo => graph_shown(profile_in_two(alloc, &roots[..middle], &roots[middle..])?),
     }
