@@ -1,13 +1,12 @@
 -- What a collector has after forests, entries and leaving.
-use Rattle.std.proofs.Common.{◌≡◌, ◌↔◌, ◌≤◌, suc, min, ℕ, ◌+◌, ◌-◌, Bool, true, false, cond, [], ◌∷◌, ◌++◌, refl, ap}
+use Rattle.std.proofs.Common.{◌≡◌, ◌↔◌, ◌≤◌, suc, ℕ, ◌+◌, Bool, true, false, cond, [], ◌∷◌, ◌++◌, refl, ap}
 use Rattle.std.proofs.Common.{arith, append-nil}
 use Rattle.allocative_graph.proofs.Common.{contains, Key, Identity, Forest, Empty, Inline, Unique, First, Again}
 use Rattle.allocative_graph.proofs.Common.{own_behind, contents, followed_by}
 use Rattle.allocative_graph.specs.Forest.{entry_of}
-use Rattle.allocative_graph.specs.Collector.{Live, Holding, Owning, Kind, OfGraph, OfHeld, OfOwned, plus_holding}
-use Rattle.allocative_graph.specs.Collector.{plus_owning, count_owning, enter_first, held_bytes, plus, Takes, enter}
+use Rattle.allocative_graph.specs.Collector.{Live, Holding, Owning, Kind, OfGraph, OfHeld, OfOwned}
+use Rattle.allocative_graph.specs.Collector.{plus_owning, count_owning, enter_first, plus, Takes, enter}
 use Rattle.allocative_graph.specs.Collector.{leave, begin, is_graph, visitors, Outer, outer_of, IsClosed}
-use Rattle.allocative_graph.specs.Owned.{direct, owned}
 use Rattle.allocative_graph.proofs.Owned.{direct-following, owned-following, direct-owned}
 use Rattle.allocative_graph.specs.Held.{held, inline_bytes}
 use Rattle.allocative_graph.proofs.Following.{entries_at-following, contents-following, met-following, fits-following}
