@@ -1,6 +1,6 @@
 -- What a visit shows that takes the collector out of its visitor and enters by hand.
 use Rattle.std.proofs.Common.{◌≡◌, ℕ, suc, Bool, true, false, Some, Result, Ok, refl, ap, subst, arith}
-use Rattle.allocative.proofs.Common.{Refusal, Key, Identity, Live, Outer, State, Showing, Nothing, Both, Inside}
+use Rattle.allocative.proofs.Common.{Refusal, Key, Identity, Live, Restore, State, Showing, Nothing, Both, Inside}
 use Rattle.allocative.proofs.Common.{Unique, AddsForest, forgotten, OpensEntry, ClosesEntry, OpensShared}
 use Rattle.allocative.proofs.Common.{enters_first, Visitor, with_state, Visited, Entered, Means, OnlyIf}
 use Rattle.allocative.specs.Visited.{AnyEffect}
@@ -24,12 +24,12 @@ shown_before {p} {a = a} {t = t} {u = u} e h k =
     record { same_reference = k.same_reference; same_outer = k.same_outer; shown = adds_both (subst P e h) k.shown; only_if_full = not_strict; takes_effect = tt }
 
 -- An entry with nothing inside it.
-pub inline_alone : {k : Key} {n : ℕ} {o q : Outer} {s t d : State} {x : Unit {0}} →
+pub inline_alone : {k : Key} {n : ℕ} {o q : Restore} {s t d : State} {x : Unit {0}} →
     OpensEntry false k (Some n) s (Ok o) t → ClosesEntry q t d → q ≡ o → AddsForest (Inside k n Nothing) s (Ok x) d
 inline_alone g l e = adds_inline g refl (adds_nothing _ tt) l e
 
 -- Opening a unique entry and closing it at once shows a unique entry with nothing inside it.
-pub unique_alone : {k : Key} {n : ℕ} {o q : Outer} {s t d : State} {x : Unit {0}} →
+pub unique_alone : {k : Key} {n : ℕ} {o q : Restore} {s t d : State} {x : Unit {0}} →
     OpensEntry true k (Some n) s (Ok o) t → ClosesEntry q t d → q ≡ o → AddsForest (Unique k n Nothing) s (Ok x) d
 unique_alone g l e = adds_unique g refl (adds_nothing _ tt) l e
 

@@ -1,6 +1,6 @@
 -- What a caller of `visit_field_with` learns from the closure's outcome.
 use Rattle.std.proofs.Common.{◌≡◌, ℕ, Result, Ok, Err, MutBor, false, subst, refl, Some}
-use Rattle.allocative.proofs.Common.{Outer, Refusal, Key, Forest, held, ShowsNoContent, State, Going, OfHeld}
+use Rattle.allocative.proofs.Common.{Restore, Refusal, Key, Forest, held, ShowsNoContent, State, Going, OfHeld}
 use Rattle.allocative.proofs.Common.{nothing_held, close_entry, Showing, Inside, AddsForest, OpensEntry, Settles}
 use Rattle.allocative.proofs.Common.{Visitor, called, refused_inside, IsHeldSum, ClosesEntry}
 use Rattle.std.specs.Fn.{Once}
@@ -10,12 +10,12 @@ pub use Rattle.allocative.proofs.Within.{same_err}
 use Rattle.allocative.proofs.Roots.{visits_root, held_by_visit}
 
 -- what is answered once the visitor is left
-pub sum_answered : (o : Outer) (c : State) (n : ℕ) {t : State} {q : Result (Unit {0}) Refusal} → ClosesEntry o c t →
+pub sum_answered : (o : Restore) (c : State) (n : ℕ) {t : State} {q : Result (Unit {0}) Refusal} → ClosesEntry o c t →
     Settles t q → q ≡ Ok tt → IsHeldSum t n → AnswersSum (close_entry o c) (Ok n)
 sum_answered o c n {t} l k e s = rw (← l.closes) (subst (Settles t) e k, s)
 
 -- If the collector settles an error once the visitor is left, that error is the answer.
-pub refusal_answered : (o : Outer) (c : State) {e : Refusal} {r : Result ℕ Refusal} {t : State}
+pub refusal_answered : (o : Restore) (c : State) {e : Refusal} {r : Result ℕ Refusal} {t : State}
     {q : Result (Unit {0}) Refusal} → r ≡ Err e → ClosesEntry o c t → Settles t q → q ≡ Err e →
     AnswersSum (close_entry o c) r
 refusal_answered o c {t = t} is l k f = rw (← l.closes, is) (subst (Settles t) f k)

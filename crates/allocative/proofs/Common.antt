@@ -4,7 +4,7 @@ pub use Rattle.std.specs.Fn.{FnOnceReturnsAtMut}
 pub use Rattle.std.specs.Iterator.{Yields}
 pub use Rattle.std.specs.Map.Iter.{deref}
 pub use Rattle.allocative_described.specs.Sizes.{checked, size_product}
-pub use Rattle.allocative_graph.specs.Collector.{Failed, Going, Kind, Live, OfGraph, OfHeld, OfOwned, Outer, State}
+pub use Rattle.allocative_graph.specs.Collector.{Failed, Going, Kind, Live, OfGraph, OfHeld, OfOwned, Restore, State}
 pub use Rattle.allocative_graph.specs.Collector.{Takes, begin, enter, enter_first, failed_with, is_graph, outer_of}
 pub use Rattle.allocative_graph.specs.Collector.{leave, close_entry, nothing_held, nothing_owned, count_owning, plus}
 pub use Rattle.allocative_graph.specs.Collector.{visitors}

@@ -30,7 +30,7 @@ ends_entered : (s : Visitor) (r : Result Visitor Refusal) (w z : State) → OnOk
 ends_entered s (Ok v) w z h = ap (with_state s) h
 ends_entered s (Err e) w z h = h
 
-module _ (Step : State → Result model.Outer Refusal → State → Type 0) (s : Visitor) where
+module _ (Step : State → Result model.Restore Refusal → State → Type 0) (s : Visitor) where
   abbrev EndsRefused : Result Visitor Refusal → Visitor → Type 0
   EndsRefused r v = IfErr r (λ e. Step s.collector.now (Err e) v.collector.now × (v ≡ with_state s v.collector.now))
 
@@ -40,7 +40,7 @@ module _ (Step : State → Result model.Outer Refusal → State → Type 0) (s :
   ends_refused c i (Err e) z h = let P : State → Type 0 = λ x. Step x (Err e) z in (subst P i h, refl)
 
 -- N is the type of the last parameter. In says what entering does, and No how it is refused.
-module _ (N : RattleType) (told : Laws N) (In : Key → N.Denot → State → Result model.Outer Refusal → State → Type 0)
+module _ (N : RattleType) (told : Laws N) (In : Key → N.Denot → State → Result model.Restore Refusal → State → Type 0)
     (No : Key → N.Denot → State → Refusal → Type 0) where
   -- The code, where h is the collector's call.
   abbrev function : Callee → Fn
@@ -59,8 +59,8 @@ module _ (N : RattleType) (told : Laws N) (In : Key → N.Denot → State → Re
   }
 
   -- The contract, and that of the collector's call.
-  abbrev Outer : Ended
-  Outer = record {
+  abbrev Restore : Ended
+  Restore = record {
     signature = record f.signature {
       params =
           RefMutOf (0 ∷ []) tt (plain Lender) (λ κs. tt) ∷ plain (λ κs. key_row) ∷ plain (λ κs. N) ∷ [];
@@ -88,7 +88,7 @@ module _ (N : RattleType) (told : Laws N) (In : Key → N.Denot → State → Re
   LendsBy k n s r = RestsIfErr collector_row s (λ v. v.collector.ghost_name) r
       (λ t. IfErr r (λ e. In k n s.now (Err e) t))
 
-  abbrev outer : {M : Type 1} {𝓤 : Ura M} → Logic 𝓤 → Clauses 𝓤 Outer
+  abbrev outer : {M : Type 1} {𝓤 : Ura M} → Logic 𝓤 → Clauses 𝓤 Restore
   outer {𝓤 = 𝓤} 𝓛 κs a = record {
     ghost = Unit {0};
     requires = λ g. emp 𝓤;
@@ -107,7 +107,7 @@ module _ (N : RattleType) (told : Laws N) (In : Key → N.Denot → State → Re
         (fact 𝓤 (IfErr r (No a.1.0 a.1.1.0 a.0.now)))));
   }
 
-  abbrev stayed : Stays Outer.signature.params Outer.kept
+  abbrev stayed : Stays Restore.signature.params Restore.kept
   stayed = (stay_dropped _ no, (stay_dropped _ yes, (stay_dropped _ yes, tt)))
 
   pub enters : {M : Type 1} (𝓤 : Ura M) (𝓛 : Logic 𝓤) (𝓜 : Model 𝓤 𝓛.H) (𝓡 : Running 𝓤 𝓛.H 𝓜) →
@@ -115,11 +115,11 @@ module _ (N : RattleType) (told : Laws N) (In : Key → N.Denot → State → Re
       Closed 𝓤 𝓛.H (tables 𝓤 𝓛.H 𝓜 𝓡 𝓡.env).C (tables 𝓤 𝓛.H 𝓜 𝓡 𝓡.env).Λ name (function h) →
       Meets 𝓛 g.signature ((tables 𝓤 𝓛.H 𝓜 𝓡 𝓡.env).C g.Key.name) (g.spec 𝓛 𝓜.mem 𝓡.returns) →
       Meets 𝓛 Inner.signature ((tables 𝓤 𝓛.H 𝓜 𝓡 𝓡.env).C h) (closing 𝓛 Inner (inner 𝓛)) →
-      Meets 𝓛 Outer.signature ((tables 𝓤 𝓛.H 𝓜 𝓡 𝓡.env).C name) (closing 𝓛 Outer (outer 𝓛))
+      Meets 𝓛 Restore.signature ((tables 𝓤 𝓛.H 𝓜 𝓡 𝓡.env).C name) (closing 𝓛 Restore (outer 𝓛))
   enters 𝓤 𝓛 𝓜 𝓡 goes {name = name} {h = h} closed lent met =
       let c = outer 𝓛 in
       let 𝓣 = tables 𝓤 𝓛.H 𝓜 𝓡 𝓡.env in
-      proved_at 𝓛 Outer stayed c 𝓜 𝓡 (Goes-spent_ref 𝓛 2 (0 ∷ []) tt (plain Lender), (Goes-blank 𝓛 2 (plain (λ _. key_row)) yes (λ κs x w. tt), (goes, tt)))
+      proved_at 𝓛 Restore stayed c 𝓜 𝓡 (Goes-spent_ref 𝓛 2 (0 ∷ []) tt (plain Lender), (Goes-blank 𝓛 2 (plain (λ _. key_row)) yes (λ κs x w. tt), (goes, tt)))
       name (function h) closed (λ y₀ are.
       let κs = y₀.0.0 in let qs = y₀.0.1 in let bounds = y₀.0.2 in let a = y₀.0.3 in
       let κ = κs.0 in let q = qs.0 in let s = a.0 in let k = a.1.0 in let n = a.1.1.0 in
@@ -132,8 +132,8 @@ module _ (N : RattleType) (told : Laws N) (In : Key → N.Denot → State → Re
       let nis = subst (λ (us : List Val). Is N n us) nv.1 are.1.1.0 in
       let ntyped = (subst (λ (τs : List Ty). Typed τs (nv.0 ∷ [])) told.one ((told.lawful 𝓛).typed n (nv.0 ∷ []) nis)).0
       in
-      at_values 𝓛 Outer stayed c (WpFn 𝓤 𝓛.H 𝓣.C 𝓣.Λ (function h)) y₀ (mut_vals s, (kv.0 ∷ [], (nv.0 ∷ [], tt))) e (
-      let y : (walk_of 𝓛 Outer stayed c).Ghost =
+      at_values 𝓛 Restore stayed c (WpFn 𝓤 𝓛.H 𝓣.C 𝓣.Λ (function h)) y₀ (mut_vals s, (kv.0 ∷ [], (nv.0 ∷ [], tt))) e (
+      let y : (walk_of 𝓛 Restore stayed c).Ghost =
       ((κs, qs, bounds, a, (mut_vals s, (kv.0 ∷ [], (nv.0 ∷ [], tt)))), tt) in
       let Self = ‵ ((MutRef (named 0) κ (Lender κs)).own_val s (mut_vals s)) in
       qed 𝓛 (((‵ (flft κ q) ⊛ ‵ (flft κs.1.0 qs.1.0) ⊛ ‵ ftrue) ⊛ Self ⊛ ‵ (key_row.own_val k (kv.0 ∷ [])) ⊛ ‵
@@ -186,7 +186,7 @@ module _ (N : RattleType) (told : Laws N) (In : Key → N.Denot → State → Re
       told).0 in
       lands_as ! refl refl good $ returns ! (look_at ! 0 refl) $ free_all ! refl $
       -- [the result; what self ends as; the token; the other tokens]
-      suffices ! _ (ends_at 𝓛 Outer stayed c y u res (tt, (tt, (rest (N.exit yes) n, tt))) (tt, (tt, (tt, tt)))) $
+      suffices ! _ (ends_at 𝓛 Restore stayed c y u res (tt, (tt, (rest (N.exit yes) n, tt))) (tt, (tt, (tt, tt)))) $
       move ! (2 ∷ []) $ split ! $ move ! (0 ∷ 4 ∷ []) $ join ! $ move ! (1 ∷ []) $ nothing ! $ fjoin ! $ nothing ! $
       fjoin ! $ nothing ! $ fjoin ! $
       move ! (0 ∷ 2 ∷ []) $ join ! $ move ! (1 ∷ 0 ∷ []) $ join ! $ frame ! $

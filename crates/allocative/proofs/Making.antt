@@ -1,7 +1,7 @@
 -- How entries are made one after another and inside each other, by calls that visit no part.
 use Rattle.std.proofs.Common.{ℕ, Bool, true, false, List, [], ◌∷◌, ◌≡◌, Option, Some, Result, Ok, Err, refl, sym, ◌∙◌}
 use Rattle.std.proofs.Common.{subst, ap}
-use Rattle.allocative.proofs.Common.{Outer, Yields, Refusal, Key, State, Failed, Going, close_entry, HasFailed}
+use Rattle.allocative.proofs.Common.{Restore, Yields, Refusal, Key, State, Failed, Going, close_entry, HasFailed}
 use Rattle.allocative.proofs.Common.{stays_failed, is_entered, OpensEntry, Plan, Done, Entry, Makes, MakesPlan}
 use Rattle.allocative.proofs.Common.{made_none, made, entry_refused, inside_refused, Visitor, ClosesEntry}
 use Rattle.std.proofs.lemmas.Bool.{false≢true}
@@ -19,7 +19,7 @@ goes_on made_none = refl
 goes_on (made g i l a) = goes_on a
 
 -- After an entry is closed in a collector that has not failed, making no entry returns Ok.
-going_closed : (o : Outer) (t : State) (v : Unit) → is_going t ≡ true →
+going_closed : (o : Restore) (t : State) (v : Unit) → is_going t ≡ true →
     Makes Done (close_entry o t) (Ok v) (close_entry o t)
 going_closed o (Failed r) v e = absurd (false≢true e)
 going_closed o (Going b) v e = made_none
@@ -32,17 +32,17 @@ makes_failed (entry_refused g) = not_entered_cause g
 makes_failed (inside_refused g m) = makes_failed m
 
 -- Closing an entry leaves a failed collector as it is.
-pub failed_closed : {o : Outer} {c d : State} {e : Refusal} → HasFailed c e → ClosesEntry o c d → d ≡ c
+pub failed_closed : {o : Restore} {c d : State} {e : Refusal} → HasFailed c e → ClosesEntry o c d → d ≡ c
 failed_closed {o} h l = l.closes ∙ ap (close_entry o) h ∙ sym h
 
 -- ---- one entry
 -- After an inline entry was opened, making nothing inside it returns Ok.
-pub nothing_inside : {k : Key} {size : Option ℕ} {s t : State} {o : Outer} (u : Unit) →
+pub nothing_inside : {k : Key} {size : Option ℕ} {s t : State} {o : Restore} (u : Unit) →
     OpensEntry false k size s (Ok o) t → Makes Done t (Ok u) t
 nothing_inside u (is_entered r f e) = made_none
 
 -- If an inline entry is opened, its inside is made, and it is closed, then the entry is made.
-pub makes_entry : {k : Key} {size : Option ℕ} {inside : Plan} {s t c d : State} {o q : Outer} {v x : Unit} →
+pub makes_entry : {k : Key} {size : Option ℕ} {inside : Plan} {s t c d : State} {o q : Restore} {v x : Unit} →
     OpensEntry false k size s (Ok o) t → Makes inside t (Ok v) c → ClosesEntry q c d → q ≡ o →
     Makes (Entry k size inside Done) s (Ok x) d
 makes_entry {c = c} {o = o} {x = x} g m l e =

@@ -1,7 +1,7 @@
 -- What the collector's own calls do, by what they find: the collector had failed, or it was going.
 use Rattle.std.proofs.Common.{◌≡◌, ℕ, ◌+◌, ◌-◌, ◌<◌, ◌≤◌, ◌^◌, Bool, true, false, Some, Option, Ok, Err}
 use Rattle.std.proofs.Common.{refl}
-use Rattle.allocative.proofs.Common.{Outer, Refusal, TooLarge, Key, Identity, Live, Kind, OfGraph, OfHeld, OfOwned}
+use Rattle.allocative.proofs.Common.{Restore, Refusal, TooLarge, Key, Identity, Live, Kind, OfGraph, OfHeld, OfOwned}
 use Rattle.allocative.proofs.Common.{count_owning, State, Failed, Going, OpensEntry, stays_failed, is_refused}
 use Rattle.allocative.proofs.Common.{is_entered, RefusesSized, OpensShared, stays_shared, is_refused_shared, goes_past}
 use Rattle.allocative.proofs.Common.{is_too_large_shared, counts, enters_first, enters_again, Done}
@@ -25,7 +25,7 @@ pub opens_refused : {u : Bool} {k : Key} {y : Option ℕ} (b : Kind) {s t : Stat
 opens_refused b i h j = rw (i, j) (is_refused h)
 
 -- Opening an entry that has room adds it, with a visitor at it, and returns what closing it restores.
-pub opens_entered : {u : Bool} {k : Key} {y : Option ℕ} (n : ℕ) (b c : Kind) {o : Outer} {s t : State} → y ≡ Some n →
+pub opens_entered : {u : Bool} {k : Key} {y : Option ℕ} (n : ℕ) (b c : Kind) {o : Restore} {s t : State} → y ≡ Some n →
     s ≡ Going b → HasRoom u n b → o ≡ outer_of n b → c ≡ enter u k n b → t ≡ Going c → OpensEntry u k y s (Ok o) t
 opens_entered n b c e i h f g j = rw (e, i, j) (is_entered h f g)
 

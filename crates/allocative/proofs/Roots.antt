@@ -2,7 +2,7 @@
 use Rattle.std.proofs.Common.{◌≡◌, ℕ, suc, min, ◌+◌, ◌-◌, ◌<◌, ◌≤◌, ◌^◌, inr, Option, Some, None, List, length}
 use Rattle.std.proofs.Common.{take, get_or, Bool, IsTrue, Result, Ok, Err, IsErr, refl, ap, sym, subst, ◌∙◌, arith}
 use Rattle.std.proofs.Common.{IfOk, IfErr}
-use Rattle.allocative.proofs.Common.{Outer, Refusal, TooLarge, Forest, followed_by, add_all, held, ShowsNoContent, Kind}
+use Rattle.allocative.proofs.Common.{Restore, Refusal, TooLarge, Forest, followed_by, add_all, held, ShowsNoContent, Kind}
 use Rattle.allocative.proofs.Common.{OfGraph, OfHeld, OfOwned, State, Failed, Going, leave, plus, Takes, visitors}
 use Rattle.allocative.proofs.Common.{is_graph, begin, outer_of, close_entry, nothing_held, nothing_owned, Showing, Both}
 use Rattle.allocative.proofs.Common.{each_shows, AddsForest, refused, hidden, forgotten, OpensRoot, Settles, VisitsRoot}
@@ -68,12 +68,12 @@ visits_going b e (Ok u) h here i (added {c = c} f p t g) k =
     (k, f, p, takes_begin b f t', cc (out_of_begin b f here))
 
 -- A root visitor that was opened, what was shown there, leaving, and the result are a run.
-pub visits_root : (s : State) (q : Result Unit Refusal) {p : Showing} {t a c d : State} {o w : Outer}
+pub visits_root : (s : State) (q : Result Unit Refusal) {p : Showing} {t a c d : State} {o w : Restore}
     {r : Result Unit Refusal} → OpensRoot s (Ok o) t → a ≡ t → AddsForest p a r c → ClosesEntry w c d → w ≡ o →
     Settles d q → VisitsRoot p s q d
 visits_root (Failed x) q h i v l e k = absurd h
 visits_root (Going b) q {p} {c = c} {r = r} h i v l e k =
-    let d = l.closes ∙ ap (λ (o : Outer). close_entry o c) (e ∙ h.2) in
+    let d = l.closes ∙ ap (λ (o : Restore). close_entry o c) (e ∙ h.2) in
     let v' : AddsForest p (Going (begin b)) r c = subst (λ (z : State). AddsForest p z r c) (i ∙ h.3) v in
     let k' : Settles (close_entry (outer_of 0 b) c) q = rw d at k in
     rw d (visits_going b (begin b) q h.0 h.1 refl v' k')
@@ -90,13 +90,13 @@ only_if_full_going {p} b e q h here i (has_refused {e = y} m) k =
     (ap Failed (sym is), subst (MayRefuse p (begin b)) (sym is) (subst (λ (z : Kind). MayRefuse p z y) i m))
 
 -- A root visitor that was opened, a strict visit there, leaving, and the result refuse only if they must.
-pub root_only_if_full : (s : State) (q : Result Unit Refusal) {x : Bool} {p : Showing} {t a c d : State} {o w : Outer}
+pub root_only_if_full : (s : State) (q : Result Unit Refusal) {x : Bool} {p : Showing} {t a c d : State} {o w : Restore}
     {r : Result Unit Refusal} → OpensRoot s (Ok o) t → a ≡ t → (IsTrue x → FailsOnlyIfFull p a r c) →
     ClosesEntry w c d → w ≡ o → Settles d q → RootFailsOnlyIfFull x p s q d
 root_only_if_full (Failed z) q h i v l e k = tt
 root_only_if_full (Going b) (Ok u) h i v l e k = tt
 root_only_if_full (Going b) (Err z) {p} {c = c} {d = d} {r = r} h i v l e k = λ strict closed.
-    let g : d ≡ close_entry (outer_of 0 b) c = l.closes ∙ ap (λ (o : Outer). close_entry o c) (e ∙ h.2) in
+    let g : d ≡ close_entry (outer_of 0 b) c = l.closes ∙ ap (λ (o : Restore). close_entry o c) (e ∙ h.2) in
     let v' : FailsOnlyIfFull p (Going (begin b)) r c =
     subst (λ (y : State). FailsOnlyIfFull p y r c) (i ∙ h.3) (v strict) in
     let k' : Settles (close_entry (outer_of 0 b) c) (Err z) = rw g at k in
@@ -137,7 +137,7 @@ visit_answered {z = z} {p} {effect} {answers} {r = r} closed none (root_visited 
     record {
       after = c;
       visited = subst (λ (x : State). WasVisited p effect x c) b'.3 v;
-      answer = subst (λ (x : State). answers x r) (l.closes ∙ ap (λ (w : Outer). close_entry w c) (e ∙ b'.2 ∙ none))
+      answer = subst (λ (x : State). answers x r) (l.closes ∙ ap (λ (w : Restore). close_entry w c) (e ∙ b'.2 ∙ none))
           (up k);
     }
 

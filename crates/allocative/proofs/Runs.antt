@@ -2,7 +2,7 @@
 use Rattle.std.proofs.Common.{Bool, false, true, ℕ, zero, suc, codes, ◌+◌, ◌*◌, ◌<◌, ◌^◌, length, filter_map, cond}
 use Rattle.std.proofs.Common.{count_by, is_some, arith, ◌⊎◌, inl, inr, List, [], ◌∷◌, ◌++◌, map, ◌≡◌, Option, None}
 use Rattle.std.proofs.Common.{Some, Result, Ok, Err, refl, sym, ◌∙◌, ap, subst}
-use Rattle.allocative.proofs.Common.{Outer, Yields, Refusal, Key, Forest, Kind, State, Showing, Nothing, Both, InsideAs}
+use Rattle.allocative.proofs.Common.{Restore, Yields, Refusal, Key, Forest, Kind, State, Showing, Nothing, Both, InsideAs}
 use Rattle.allocative.proofs.Common.{Inside, Field, each_shows, slice_shows, OpensEntry, checked, size_product}
 use Rattle.allocative.proofs.Common.{are_shown_each, bytes_shown, CountsRun, in_any_order, Visitor, IsDeclared, CanTake}
 use Rattle.allocative.proofs.Common.{FailsOnlyIfFull, with_state, Entered, Means, ClosesEntry}
@@ -101,13 +101,13 @@ along_refused steps {s = s} t {v} {p} {x} xs is g n f z = record {
 
 -- What is entered inside an entry.
 pub along_within : {S A B : Type 0} {u e : Bool} {steps : S → Option A → S → Type 0} {s : S} {v : A → B}
-    {q : List B → Showing} {k : Key} {n : ℕ} {o : Outer} {a b : Visitor} {t d : State} {r : Result (Unit {0}) Refusal} →
+    {q : List B → Showing} {k : Key} {n : ℕ} {o : Restore} {a b : Visitor} {t d : State} {r : Result (Unit {0}) Refusal} →
     OpensEntry u k (Some n) a.collector.now (Ok o) t → RefusesAlong e steps s v q (with_state a t) b r →
     ClosesEntry o b.collector.now d → RefusesAlong e steps s v (λ ys. InsideAs u k n (q ys)) a (with_state b d) r
 along_within g h e = record { along = λ i ys y. only_if_full_within g (h.along i ys y) e }
 
 -- An entry is entered with what is entered inside it, once it is left.
-entered_within : {p : Showing} {k : Key} {n : ℕ} {o : Outer} {a b : Visitor} {t d : State}
+entered_within : {p : Showing} {k : Key} {n : ℕ} {o : Restore} {a b : Visitor} {t d : State}
     {r : Result (Unit {0}) Refusal} →
     OpensEntry false k (Some n) a.collector.now (Ok o) t → Entered false p (with_state a t) b r →
     ClosesEntry o b.collector.now d → Entered false (Inside k n p) a (with_state b d) r
@@ -128,7 +128,7 @@ data_refused is g = rw is (record {
 
 -- The entry `data` was made, the items of a run were entered inside it, and it was left.
 pub data_entered : {S A B : Type 0} {e : Bool} {steps : S → Option A → S → Type 0} {s : S} {v : A → B} {p : B → Showing}
-    {a b : Visitor} {o : Outer} {t d : State} {r : Result (Unit {0}) Refusal} →
+    {a b : Visitor} {o : Restore} {t d : State} {r : Result (Unit {0}) Refusal} →
     OpensEntry false (codes "data") (Some 8) a.collector.now (Ok o) t →
     EntersRun steps s v (each_shows p) (with_state a t) b r →
     RefusesAlong e steps s v (each_shows p) (with_state a t) b r →

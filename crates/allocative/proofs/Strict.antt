@@ -2,7 +2,7 @@
 use Rattle.std.proofs.Common.{◌≡◌, ℕ, ◌+◌, ◌<◌, ◌^◌, Bool, true, false, ◌&&◌, IsTrue, cond, List, [], ◌∷◌, ◌++◌}
 use Rattle.std.proofs.Common.{flat_map, Option, Some, None, inl, inr, Result, Ok, Err, refl, sym, ◌∙◌, ap, subst, arith}
 use Rattle.std.proofs.Common.{◌-◌}
-use Rattle.allocative.proofs.Common.{Outer, Refusal, Memory, TooLarge, Key, Identity, Forest, Empty, First, Again}
+use Rattle.allocative.proofs.Common.{Restore, Refusal, Memory, TooLarge, Key, Identity, Forest, Empty, First, Again}
 use Rattle.allocative.proofs.Common.{followed_by, entry_of, add_all, held, Live, Kind, OfGraph, OfHeld, State, Failed}
 use Rattle.allocative.proofs.Common.{Going, plus, enter, enter_first, Takes, is_graph, outer_of, leave}
 use Rattle.allocative.proofs.Common.{failed_with, Showing, Nothing, Both, InsideAs, Inside, sized, Field}
@@ -305,7 +305,7 @@ only_if_full_first had_failed = had_failed
 only_if_full_first (has_refused {b = b} {e = e} m) = has_refused (may_refuse b b (can_first b) refl e m)
 
 -- If an entry was opened, and the visit inside it fails only if full, so does the visit of the entry.
-pub only_if_full_within : {u : Bool} {p : Showing} {k : Key} {n : ℕ} {o : Outer} {s t c d : State}
+pub only_if_full_within : {u : Bool} {p : Showing} {k : Key} {n : ℕ} {o : Restore} {s t c d : State}
     {r : Result Unit Refusal} →
     OpensEntry u k (Some n) s (Ok o) t → FailsOnlyIfFull p t r c → ClosesEntry o c d →
     FailsOnlyIfFull (InsideAs u k n p) s r d
@@ -324,13 +324,13 @@ only_if_full_not_within stays_failed = had_failed
 only_if_full_not_within {u} {k = k} {n = n} (is_refused {b = b} {e = e} h) = has_refused (entry_refuses _ u k n b e h)
 
 -- If a visit fails only if full inside an inline entry that is opened and closed, so does the visit of the entry.
-pub only_if_full_inside : {p : Showing} {k : Key} {n : ℕ} {o : Outer} {s t c d : State} {r : Result Unit Refusal} →
+pub only_if_full_inside : {p : Showing} {k : Key} {n : ℕ} {o : Restore} {s t c d : State} {r : Result Unit Refusal} →
     OpensEntry false k (Some n) s (Ok o) t → FailsOnlyIfFull p t r c → ClosesEntry o c d →
     FailsOnlyIfFull (Inside k n p) s r d
 only_if_full_inside = only_if_full_within
 
 -- If a visit fails only if full inside a unique entry that is opened and closed, so does the visit of the entry.
-pub only_if_full_unique : {p : Showing} {k : Key} {n : ℕ} {o : Outer} {s t c d : State} {r : Result Unit Refusal} →
+pub only_if_full_unique : {p : Showing} {k : Key} {n : ℕ} {o : Restore} {s t c d : State} {r : Result Unit Refusal} →
     OpensEntry true k (Some n) s (Ok o) t → FailsOnlyIfFull p t r c → ClosesEntry o c d →
     FailsOnlyIfFull (InsideAs true k n p) s r d
 only_if_full_unique = only_if_full_within
@@ -354,7 +354,7 @@ not_declared : {k : Key} {p : Showing} → IsDeclared (Field k None p) → ⊥
 not_declared (f, x, s) = elim x [ ]
 
 -- If a visit fails only if full inside a field that is opened and closed, so does the visit of the field.
-pub only_if_full_field : {p : Showing} {k : Key} {y : Option ℕ} {o : Outer} {s t c d : State}
+pub only_if_full_field : {p : Showing} {k : Key} {y : Option ℕ} {o : Restore} {s t c d : State}
     {r : Result Unit Refusal} →
     OpensEntry false k y s (Ok o) t → FailsOnlyIfFull p t r c → ClosesEntry o c d → FailsOnlyIfFull (Field k y p) s r d
 only_if_full_field {y = None} g h e = elim g [ ]
@@ -415,7 +415,7 @@ each_one p x f h = (f, Empty, h, refl, sym (followed_by-empty f))
 
 -- ---- a shared entry
 -- If a visit fails only if full at a new content that is opened and closed, so does the visit of the shared entry.
-pub only_if_full_content : {p : Showing} {k : Key} {n : ℕ} {i : Identity} {is_first : Bool} (o : Outer)
+pub only_if_full_content : {p : Showing} {k : Key} {n : ℕ} {i : Identity} {is_first : Bool} (o : Restore)
     {s t c d : State} {r : Result Unit Refusal} →
     OpensShared k n i s (Ok is_first) t → is_first ≡ true → FailsOnlyIfFull p t r c → ClosesEntry o c d →
     FailsOnlyIfFull (Shared k n i p) s r d

@@ -1,7 +1,7 @@
 -- How visits compose: one after another, and inside an entry.
 use Rattle.std.proofs.Common.{Bool, true, false, inl, inr, Option, ◌≡◌, ℕ, suc, List, [], ◌∷◌, ◌++◌, Result, Ok, Err}
 use Rattle.std.proofs.Common.{refl, sym, ◌∙◌, IsErr, ap, subst, arith, Some, None}
-use Rattle.allocative.proofs.Common.{Outer, Refusal, Key, Identity, Forest, Empty, First, Again, followed_by, entry_of}
+use Rattle.allocative.proofs.Common.{Restore, Refusal, Key, Identity, Forest, Empty, First, Again, followed_by, entry_of}
 use Rattle.allocative.proofs.Common.{Live, Kind, OfGraph, State, Failed, Going, enter, enter_first, plus, Takes}
 use Rattle.allocative.proofs.Common.{is_graph, visitors, outer_of, failed_with, close_entry, Showing, Nothing, Both}
 use Rattle.allocative.proofs.Common.{InsideAs, Inside, Unique, Field, sized, Shared, each_shows, AddsForest}
@@ -86,7 +86,7 @@ out_of u k n b d i w (added {c = c} f q t e) =
 
 -- An entry shows what is shown inside it, from the opening, the visit and the closing, if the closing restores what
 -- the opening returned.
-pub adds_entry : {u : Bool} {p : Showing} {k : Key} {n : ℕ} {o q : Outer} {s t a c d : State} {v x : Unit} →
+pub adds_entry : {u : Bool} {p : Showing} {k : Key} {n : ℕ} {o q : Restore} {s t a c d : State} {v x : Unit} →
     OpensEntry u k (Some n) s (Ok o) t → a ≡ t → AddsForest p a (Ok v) c → ClosesEntry q c d → q ≡ o →
     AddsForest (InsideAs u k n p) s (Ok x) d
 adds_entry {u} {p} {k} {n} {c = c} {v = v} {x = x} (is_entered {b = b} {c = d} r f e) i s l q =
@@ -94,19 +94,19 @@ adds_entry {u} {p} {k} {n} {c = c} {v = v} {x = x} (is_entered {b = b} {c = d} r
     rw (l.closes, q, f) (out_of u k n b d e x s')
 
 -- An inline entry shows what is shown inside it, if it is opened, the visit returns Ok, and it is closed.
-pub adds_inline : {p : Showing} {k : Key} {n : ℕ} {o q : Outer} {s t a c d : State} {v x : Unit} →
+pub adds_inline : {p : Showing} {k : Key} {n : ℕ} {o q : Restore} {s t a c d : State} {v x : Unit} →
     OpensEntry false k (Some n) s (Ok o) t → a ≡ t → AddsForest p a (Ok v) c → ClosesEntry q c d → q ≡ o →
     AddsForest (Inside k n p) s (Ok x) d
 adds_inline = adds_entry
 
 -- A unique entry shows what is shown inside it, if it is opened, the visit returns Ok, and it is closed.
-pub adds_unique : {p : Showing} {k : Key} {n : ℕ} {o q : Outer} {s t a c d : State} {v x : Unit} →
+pub adds_unique : {p : Showing} {k : Key} {n : ℕ} {o q : Restore} {s t a c d : State} {v x : Unit} →
     OpensEntry true k (Some n) s (Ok o) t → a ≡ t → AddsForest p a (Ok v) c → ClosesEntry q c d → q ≡ o →
     AddsForest (Unique k n p) s (Ok x) d
 adds_unique = adds_entry
 
 -- A field shows what is shown inside it, if it is opened, the visit returns Ok, and it is closed.
-pub adds_field : {p : Showing} {k : Key} {y : Option ℕ} {o q : Outer} {s t a c d : State} {v x : Unit} →
+pub adds_field : {p : Showing} {k : Key} {y : Option ℕ} {o q : Restore} {s t a c d : State} {v x : Unit} →
     OpensEntry false k y s (Ok o) t → a ≡ t → AddsForest p a (Ok v) c → ClosesEntry q c d → q ≡ o →
     AddsForest (Field k y p) s (Ok x) d
 adds_field {y = None} g i s l q = elim g [ ]
@@ -115,7 +115,7 @@ adds_field {y = Some n} g i s l q = adds_weaker (λ f h. sized h) (adds_entry g 
 -- ---- a shared entry
 -- A step of `adds_shared`: a shared entry with a new identity shows what was shown as its content.
 out_of_first : {p : Showing} (k : Key) (n : ℕ) (i : Identity) (b d : Live) → contains b.met i ≡ false →
-    d ≡ enter_first k n i b → {c : State} {v : Unit} (o : Outer) (w : Unit) →
+    d ≡ enter_first k n i b → {c : State} {v : Unit} (o : Restore) (w : Unit) →
     AddsForest p (Going (OfGraph d)) (Ok v) c →
     AddsForest (Shared k n i p) (Going (OfGraph b)) (Ok w) (close_entry o c)
 out_of_first k n i b d h e o w hidden = hidden
@@ -128,7 +128,7 @@ out_of_first k n i b d h e o w (added {c = c} f q t m) =
     added (First k n i f Empty) (inl (f, q, refl)) (takes_shared k n i b f h t') (cc (inside_first k n i b f o))
 
 -- A shared entry with a new identity shows its content, if the content's visit returns Ok and it is closed.
-pub adds_shared : {p : Showing} {k : Key} {n : ℕ} {i : Identity} {q : Outer} {s t a c d : State} {v x : Unit} →
+pub adds_shared : {p : Showing} {k : Key} {n : ℕ} {i : Identity} {q : Restore} {s t a c d : State} {v x : Unit} →
     OpensShared k n i s (Ok true) t → a ≡ t → AddsForest p a (Ok v) c → ClosesEntry q c d →
     AddsForest (Shared k n i p) s (Ok x) d
 adds_shared {p} {k} {n} {i} {q} {c = c} {v = v} {x = x} (enters_first {c = b} {d = d} r h e) z s g =
@@ -136,7 +136,7 @@ adds_shared {p} {k} {n} {i} {q} {c = c} {v = v} {x = x} (enters_first {c = b} {d
     rw g.closes (out_of_first k n i b d h e q x s')
 
 -- A shared entry with its content, with the result of entering as it was tested.
-pub adds_content : {p : Showing} {k : Key} {n : ℕ} {i : Identity} {q : Outer} {is_first : Bool} {s t a c d : State}
+pub adds_content : {p : Showing} {k : Key} {n : ℕ} {i : Identity} {q : Restore} {is_first : Bool} {s t a c d : State}
     {v x : Unit} →
     OpensShared k n i s (Ok is_first) t → is_first ≡ true → a ≡ t → AddsForest p a (Ok v) c → ClosesEntry q c d →
     AddsForest (Shared k n i p) s (Ok x) d
@@ -155,18 +155,18 @@ adds_again (enters_first r h e) is = absurd (false≢true (sym is))
 
 -- ---- a visit inside an entry that returns Err
 -- If a visit inside an entry returns an error and the entry is closed, the visit around it may return an error.
-inside_failed : {p q : Showing} {b d : Kind} (o : Outer) {c : State} {y x : Refusal} →
+inside_failed : {p q : Showing} {b d : Kind} (o : Restore) {c : State} {y x : Refusal} →
     AddsForest p (Going d) (Err y) c → AddsForest q (Going b) (Err x) (close_entry o c)
 inside_failed o refused = refused
 
 -- An entry in which a visit returns Err.
-pub entry_err : {u : Bool} {p q : Showing} {k : Key} {y : Option ℕ} {o w : Outer} {s t a c d : State} {z x : Refusal} →
+pub entry_err : {u : Bool} {p q : Showing} {k : Key} {y : Option ℕ} {o w : Restore} {s t a c d : State} {z x : Refusal} →
     OpensEntry u k y s (Ok o) t → a ≡ t → AddsForest p a (Err z) c → ClosesEntry w c d → AddsForest q s (Err x) d
 entry_err {p = p} {w = w} {c = c} {z = y} (is_entered {c = d} r f e) i s l =
     rw l.closes (inside_failed w (subst (λ (z : State). AddsForest p z (Err y) c) i s))
 
 -- If the visit of a shared content returns an error and the entry is closed, the visit around it may too.
-pub shared_err : {p q : Showing} {k : Key} {n : ℕ} {i : Identity} {w : Outer} {s t a c d : State} {z x : Refusal} →
+pub shared_err : {p q : Showing} {k : Key} {n : ℕ} {i : Identity} {w : Restore} {s t a c d : State} {z x : Refusal} →
     OpensShared k n i s (Ok true) t → a ≡ t → AddsForest p a (Err z) c → ClosesEntry w c d → AddsForest q s (Err x) d
 shared_err {p = p} {w = w} {c = c} {z = y} (enters_first {d = d} r f e) i s l =
     rw l.closes (inside_failed w (subst (λ (z : State). AddsForest p z (Err y) c) i s))
@@ -217,13 +217,13 @@ adds_hidden already = already
 adds_hidden refused = hidden
 
 -- A visit that opens an entry, never closes it, and returns Ok, has forgotten a visitor.
-pub adds_forgotten : {u : Bool} {q : Showing} {k : Key} {y : Option ℕ} {o : Outer} {s t : State} {v : Unit} →
+pub adds_forgotten : {u : Bool} {q : Showing} {k : Key} {y : Option ℕ} {o : Restore} {s t : State} {v : Unit} →
     OpensEntry u k y s (Ok o) t → AddsForest q s (Ok v) t
 adds_forgotten {u} {k = k} (is_entered {n = n} {b = b} r f e) = let d = ap visitors e ∙ visitors-enter u k n b in
     forgotten (ap is_graph e ∙ is_graph-enter u k n b) (omega (arith, d))
 
 -- Closing an entry keeps the cause.
-pub close_cause : {o : Outer} {c d : State} {e : Refusal} → ClosesEntry o c d → HasFailed c e → HasFailed d e
+pub close_cause : {o : Restore} {c d : State} {e : Refusal} → ClosesEntry o c d → HasFailed c e → HasFailed d e
 close_cause {o = o} l h = l.closes ∙ ap (close_entry o) h
 
 -- What a refused entry returns.

@@ -2,7 +2,7 @@
 -- collector steps back.
 use Rattle.std.proofs.Common.{◌≡◌, ℕ, ◌+◌, ◌<◌, Bool, true, false, List, ◌∷◌, ◌++◌, take, drop, length, get_or, Option}
 use Rattle.std.proofs.Common.{Some, Result, Ok, Err, IsErr, refl, sym, ◌∙◌, ap, subst, take-append-drop}
-use Rattle.allocative.proofs.Common.{Outer, Refusal, Key, Identity, State, Failed, Showing, Nothing}
+use Rattle.allocative.proofs.Common.{Restore, Refusal, Key, Identity, State, Failed, Showing, Nothing}
 use Rattle.allocative.proofs.Common.{Both, Inside, Field, Shared, already, OpensEntry, OpensShared, Plan}
 use Rattle.allocative.proofs.Common.{Done, Entry, Makes, made_none, made, entry_refused, inside_refused, makes, gives}
 use Rattle.allocative.proofs.Common.{one, Visitor, with_state, FailsOnlyIfFull, Entered, OnlyIf, ClosesEntry}
@@ -27,7 +27,7 @@ same_err (Ok u) h i = absurd (false≢true h)
 same_err (Err x) h i = ap Err (sym i)
 
 -- An entry with nothing inside it.
-stays_in : {k : Key} {size : Option ℕ} {s : State} {o : Outer} {r : Refusal} →
+stays_in : {k : Key} {size : Option ℕ} {s : State} {o : Restore} {r : Refusal} →
     OpensEntry false k size s (Ok o) (Failed r) → ⊥
 stays_in g = false≢true (goes_on (nothing_inside tt g))
 
@@ -48,13 +48,13 @@ entered_alone m = entered_inline (entered_alone_sized m)
 
 -- ---- the entries that are made
 -- If an inline entry is opened, a plan is made inside it, and it is closed, the entry with the plan is made.
-pub makes_within : {k : Key} {size : Option ℕ} {inside : Plan} {o : Outer} {s t c d : State} {r : Result Unit Refusal} →
+pub makes_within : {k : Key} {size : Option ℕ} {inside : Plan} {o : Restore} {s t c d : State} {r : Result Unit Refusal} →
     OpensEntry false k size s (Ok o) t → Makes inside t r c → ClosesEntry o c d → Makes (Entry k size inside Done) s r d
 makes_within {r = Ok v} g m e = makes_entry g m e refl
 makes_within {r = Err x} g m e = rw (failed_closed (makes_failed m) e) (inside_refused g m)
 
 -- If a call inside an entry makes no entry or is given an item, it makes that one entry or is given an item.
-pub gives_within : {S A : Type 0} {steps : S → Option A → S → Type 0} {x : S} {k : Key} {n : ℕ} {o : Outer}
+pub gives_within : {S A : Type 0} {steps : S → Option A → S → Type 0} {x : S} {k : Key} {n : ℕ} {o : Restore}
     {a b c : Visitor} {t : State} {r : Result Unit Refusal} → OpensEntry false k (Some n) a.collector.now (Ok o) t →
     MakesPlanOrGives steps x Done (with_state a t) b r → ClosesEntry o b.collector.now c.collector.now →
     MakesPlanOrGives steps x (one k (Some n)) a c r
@@ -108,7 +108,7 @@ any_unit refuses.had_failed = refuses.had_failed
 any_unit (refuses.has_added f x t e) = refuses.has_added f x t e
 
 -- If the first content of a shared entry refuses only if it must and returns Ok, so does the shared entry.
-pub content_added : {p : Showing} {k : Key} {n : ℕ} {i : Identity} {q : Outer} {is_first : Bool} {s t a c d : State}
+pub content_added : {p : Showing} {k : Key} {n : ℕ} {i : Identity} {q : Restore} {is_first : Bool} {s t a c d : State}
     {v x : Unit} →
     OpensShared k n i s (Ok is_first) t → is_first ≡ true → a ≡ t → FailsOnlyIfFull p a (Ok v) c → ClosesEntry q c d →
     FailsOnlyIfFull (Shared k n i p) s (Ok x) d
@@ -116,7 +116,7 @@ content_added {p} {q = q} {c = c} {v = v} g is z h l =
     any_unit (only_if_full_content q g is (subst (λ (y : State). FailsOnlyIfFull p y (Ok v) c) z h) l)
 
 -- If the first content of a shared entry is refused only if it must be, so is the shared entry.
-pub content_refused : {p : Showing} {k : Key} {n : ℕ} {i : Identity} {q : Outer} {is_first : Bool} {s t a c d : State}
+pub content_refused : {p : Showing} {k : Key} {n : ℕ} {i : Identity} {q : Restore} {is_first : Bool} {s t a c d : State}
     {e : Refusal} →
     OpensShared k n i s (Ok is_first) t → is_first ≡ true → a ≡ t → FailsOnlyIfFull p a (Err e) c → ClosesEntry q c d →
     FailsOnlyIfFull (Shared k n i p) s (Err e) d

@@ -4,7 +4,7 @@ use Rattle.std.specs.Borrow.{MutBor}
 use Rattle.std.specs.Fn.{Once, FnOnceReturnsAtMut}
 use Rattle.allocative_graph.specs.declared.refusal.Refusal.{Refusal}
 use Rattle.allocative_graph.specs.Path.{Key}
-use Rattle.allocative_graph.specs.Collector.{State, Going, OfHeld, Outer, nothing_held, failed_with, close_entry}
+use Rattle.allocative_graph.specs.Collector.{State, Going, OfHeld, Restore, nothing_held, failed_with, close_entry}
 use Rattle.allocative_graph.specs.Shows.{Showing}
 use Rattle.allocative_graph.specs.Visits.{AddsForest, HasFailed, OpensEntry, Settles, ClosesEntry}
 use Rattle.allocative.specs.declared.visitor.Visitor.{Visitor}
@@ -39,11 +39,11 @@ module _ {F : Type 0}
   -- had failed before, and the visitor is left.
   pub data CallsInside (k : Key) (n : ℕ) (s : State) (t : State) : Result (Unit {0}) Refusal → Type 0 where
     not_called : {e : Refusal} → OpensEntry false k (Some n) s (Err e) t → CallsInside k n s t (Err e)
-    called : {o : Outer} {w : State} {u : Unit} (x y : Visitor) → OpensEntry false k (Some n) s (Ok o) w →
+    called : {o : Restore} {w : State} {u : Unit} (x y : Visitor) → OpensEntry false k (Some n) s (Ok o) w →
         x.collector.now ≡ w
         → FnOnceReturnsAtMut g f x (Ok tt) y → ClosesEntry y.outer y.collector.now t → y.outer ≡ o
         → CallsInside k n s t (Ok u)
-    refused_inside : {o q : Outer} {w : State} {e : Refusal} (x y : Visitor) (z : State) (cause : Refusal)
+    refused_inside : {o q : Restore} {w : State} {e : Refusal} (x y : Visitor) (z : State) (cause : Refusal)
         → OpensEntry false k (Some n) s (Ok o) w → x.collector.now ≡ w → FnOnceReturnsAtMut g f x (Err cause) y
         → z ≡ failed_with cause y.collector.now → ClosesEntry q z t → CallsInside k n s t (Err e)
 

@@ -3,7 +3,7 @@ use Rattle.std.specs.Prelude.{◌≡◌, ℕ, ◌-◌, Bool, true, false, List, 
 use Rattle.allocative_described.specs.Sizes.{size_product}
 use Rattle.allocative_graph.specs.declared.refusal.Refusal.{Refusal}
 use Rattle.allocative_graph.specs.Path.{Key}
-use Rattle.allocative_graph.specs.Collector.{Kind, State, Failed, Going, Outer}
+use Rattle.allocative_graph.specs.Collector.{Kind, State, Failed, Going, Restore}
 use Rattle.allocative_graph.specs.Visits.{OpensEntry, HasFailed, ClosesEntry}
 use Rattle.allocative.specs.Bodies.{are_shown_each}
 use Rattle.allocative.specs.Runs.{CountsRun}
@@ -29,12 +29,12 @@ followed_by_plan (Entry k size inside after) q = Entry k size inside (followed_b
 pub data Makes : Plan → State → Result Unit Refusal → State → Type 0 where
   had_failed : {p : Plan} {r : Refusal} → Makes p (Failed r) (Err r) (Failed r)
   made_none : {b : Kind} {u : Unit} → Makes Done (Going b) (Ok u) (Going b)
-  made : {k : Key} {size : Option ℕ} {inside after : Plan} {s t c d z : State} {o : Outer} {v : Unit}
+  made : {k : Key} {size : Option ℕ} {inside after : Plan} {s t c d z : State} {o : Restore} {v : Unit}
       {r : Result Unit Refusal} → OpensEntry false k size s (Ok o) t → Makes inside t (Ok v) c → ClosesEntry o c d →
       Makes after d r z → Makes (Entry k size inside after) s r z
   entry_refused : {k : Key} {size : Option ℕ} {inside after : Plan} {s t : State} {e : Refusal}
       → OpensEntry false k size s (Err e) t → Makes (Entry k size inside after) s (Err e) t
-  inside_refused : {k : Key} {size : Option ℕ} {inside after : Plan} {s t c : State} {o : Outer} {e : Refusal}
+  inside_refused : {k : Key} {size : Option ℕ} {inside after : Plan} {s t c : State} {o : Restore} {e : Refusal}
       → OpensEntry false k size s (Ok o) t → Makes inside t (Err e) c → Makes (Entry k size inside after) s (Err e) c
 
 -- No item of a slice is visited: there is none, or they are not shown one by one.
@@ -67,7 +67,7 @@ MakesPlan p old new r = Makes p old.collector.now r new.collector.now
 pub data MakesFirst (k : Key) (size : Option ℕ) (old new : Visitor) : Result Unit Refusal → Type 0 where
   first_refused : {e : Refusal} → OpensEntry false k size old.collector.now (Err e) new.collector.now
       → MakesFirst k size old new (Err e)
-  first_entered : {o : Outer} {w : State} {r : Result Unit Refusal} → OpensEntry false k size old.collector.now (Ok o) w
+  first_entered : {o : Restore} {w : State} {r : Result Unit Refusal} → OpensEntry false k size old.collector.now (Ok o) w
       → MakesFirst k size old new r
 
 -- A visitor whose collector had failed returns its first cause, and the collector stays as it is. Nothing is said of

@@ -6,7 +6,7 @@ use mir.Syntax.{named}
 use Rattle.allocative_graph.specs.declared.refusal.Refusal.{Refusal}
 use Rattle.allocative_graph.specs.Path.{Key}
 use Rattle.allocative_graph.specs.Identity.{Identity}
-use Rattle.allocative_graph.specs.Collector.{State, Outer, no_outer}
+use Rattle.allocative_graph.specs.Collector.{State, Restore, no_outer}
 use Rattle.allocative_graph.specs.Visits.{OpensEntry, OpensShared, RefusesEntry}
 use Rattle.allocative.specs.Shared.{AnswersShared, answer_of}
 use Rattle.allocative.specs.declared.visitor.Visitor.{Visitor}
@@ -24,7 +24,7 @@ LendsCollector s r =
 
 -- The visitor ends with what the nested visitor leaves of the collector or, if the entry was refused, with what
 -- `opens` says. Nothing else of it changes.
-abbrev pub LendsAs : (State → Result Outer Refusal → State → Type 0) → MutBor Visitor → Result Visitor Refusal → Fml
+abbrev pub LendsAs : (State → Result Restore Refusal → State → Type 0) → MutBor Visitor → Result Visitor Refusal → Fml
 LendsAs opens s r =
     follows_so (visitor.the_row (record { mir = named 1; lft = [] })) collector.the_row s.ghost_name
     (name_if_ok (λ v. v.collector.ghost_name) r)

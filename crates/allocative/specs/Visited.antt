@@ -3,7 +3,7 @@ use Rattle.std.specs.Prelude.{◌≡◌, Bool, IsTrue, Result, Ok, Err, IfErr, �
 use Rattle.allocative_graph.specs.declared.refusal.Refusal.{Refusal}
 use Rattle.allocative_graph.specs.Forest.{Forest}
 use Rattle.allocative_graph.specs.Shows.{Showing}
-use Rattle.allocative_graph.specs.Collector.{State, Outer, failed_with}
+use Rattle.allocative_graph.specs.Collector.{State, Restore, failed_with}
 use Rattle.allocative_graph.specs.Visits.{AddsForest, HasFailed, OpensRoot, Settles, ClosesEntry}
 use Rattle.allocative.specs.declared.visitor.Visitor.{Visitor}
 use Rattle.allocative.specs.Strict.{IsDeclared, FailsOnlyIfFull}
@@ -75,6 +75,6 @@ pub record OnlyIf (is_strict is_strict' : Bool) : Type 0 where
 pub data VisitsRootWithEffect (p : Showing) (effect : Effect) (s t : State) (r : Result (Unit {0}) Refusal) : Type
     0 where
   not_begun : (e : Refusal) → Settles s (Err e) → VisitsRootWithEffect p effect s t r
-  root_visited : {o w : Outer} {a c : State} → OpensRoot s (Ok o) a → WasVisited p effect a c → ClosesEntry w c t →
+  root_visited : {o w : Restore} {a c : State} → OpensRoot s (Ok o) a → WasVisited p effect a c → ClosesEntry w c t →
       w ≡ o
       → Settles t r → VisitsRootWithEffect p effect s t r

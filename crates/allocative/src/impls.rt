@@ -1,3 +1,3 @@
 //! What the types of the language, of `std` and of the crates that this one depends on show.
-pub mod pack_impls;
+pub mod crate_impls;
 mod std_impls;

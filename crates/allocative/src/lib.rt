@@ -12,7 +12,7 @@ pub mod run;
 pub mod visitor;
 
 pub use crate::allocative_trait::Allocative;
-pub use crate::impls::pack_impls::json::visit_json_map;
+pub use crate::impls::crate_impls::json::visit_json_map;
 pub use crate::part::containers::{Buffer, Each, FieldEach, Items, Pairs, Text, Unused};
 pub use crate::part::named::Named;
 pub use crate::part::{Declared, Field, Inside, IntoKey, Part, Shared, Unique, Whole};

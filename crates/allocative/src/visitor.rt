@@ -17,13 +17,13 @@ pub(crate) mod slices;
 
 use crate::visitor::collector::Collector;
 use crate::{Allocative, Described, Identity, Key, Refusal};
-use allocative_graph::outer::Outer;
+use allocative_graph::restore::Restore;
 
 /// A place in a collector. Dropping it, or calling `exit`, goes one step back.
 pub struct Visitor<'a> {
     pub(crate) collector: &'a mut Collector,
     // What leaving the entry restores. It is used only when bytes are counted without a graph.
-    pub(crate) outer: Outer,
+    pub(crate) outer: Restore,
 }
 
 impl Drop for Visitor<'_> {
@@ -37,7 +37,7 @@ impl Drop for Visitor<'_> {
 }
 
 // The result of `enter_content` as that of `enter_shared`.
-fn turned_round<'a>(
+fn transpose<'a>(
     answer: Result<Visitor<'a>, Option<Refusal>>,
 ) -> Result<Option<Visitor<'a>>, Refusal>
     ensures { result ≡ transpose answer.entry }
@@ -136,7 +136,7 @@ impl Visitor<'_> {
         ensures* lent { sem 𝓛 (LendsShared key size id self.entry result) }
         ensures entered { EntersShared key size id self.old result }
     {
-        turned_round(by_hand::enter_content(by_hand::collector_of(self), key, size, id))
+        transpose(by_hand::enter_content(by_hand::collector_of(self), key, size, id))
     }
 
     /// Goes one step back, as the end of its scope does. It allocates nothing and never fails.

@@ -1,4 +1,4 @@
--- What the walk of `make` has passed behind a node's path, child by child: the rows of the map, and the graph that it
+-- What the walk of `build_graph` has passed behind a node's path, child by child: the rows of the map, and the graph that it
 -- has made.
 use Rattle.std.proofs.Common.{◌≡◌, ◌≢◌, ℕ, zero, suc, ◌<◌, ◌≤◌, Bool, true, false, cond, T, ◌&&◌, ◌||◌, List, [], ◌∷◌}
 use Rattle.std.proofs.Common.{◌++◌, length, Option, Some, None, refl, sym, ap, subst, ◌∙◌, arith, inl, inr, true≢false}

@@ -3,8 +3,8 @@ ghost use Rattle.std.specs.Prelude.{◌≡◌, ◌+◌, ◌<◌, suc, IfOk, IfEr
 ghost use Rattle.allocative_graph.specs.Collector.{OfHeld, enter_holding, leave_holding, nothing_held, outer_of, IsClosed};
 ghost use Rattle.allocative_graph.specs.Visits.{HasRoom, Refuses};
 
-use allocative_graph::outer::Outer;
 use allocative_graph::refusal::Refusal;
+use allocative_graph::restore::Restore;
 use std::marker::Model;
 
 /// The collector of held bytes, which has not failed.
@@ -42,10 +42,10 @@ impl HeldCollector {
     }
 
     // What leaving an entry that is opened now restores.
-    fn outer(&self) -> Outer
+    fn outer(&self) -> Restore
         ensures { result ≡ outer_of 0 (OfHeld self.now) }
     {
-        Outer {
+        Restore {
             is_unique: self.is_in_unique,
             spare: 0,
         }
@@ -55,7 +55,7 @@ impl HeldCollector {
     ///
     /// The bytes are held if an inline entry is directly in a unique one. It returns `TooLarge` exactly if the
     /// sum or the number of visitors would exceed `usize::MAX`, and then nothing is changed.
-    pub fn enter(&mut self, size: usize, is_unique: bool) -> Result<Outer, Refusal>
+    pub fn enter(&mut self, size: usize, is_unique: bool) -> Result<Restore, Refusal>
         ensures ok { IfOk result (λ outer. HasRoom is_unique size (OfHeld self.old)
             × (outer ≡ outer_of size (OfHeld self.old))
             × (self.new ≡ enter_holding is_unique size self.old)) }
@@ -79,7 +79,7 @@ impl HeldCollector {
     }
 
     /// One visitor less. `outer` is what it restores: whether the visitor outside it is that of a unique entry.
-    pub fn leave(&mut self, outer: Outer)
+    pub fn leave(&mut self, outer: Restore)
         ensures { self.new ≡ leave_holding outer self.old }
     {
         self.visitors = self.visitors.saturating_sub(1);
@@ -94,7 +94,7 @@ impl HeldCollector {
     }
 
     /// One more root visitor, when no visitor is open. It returns what `leave` restores.
-    pub fn begin(&mut self) -> Outer
+    pub fn begin(&mut self) -> Restore
         requires { IsClosed (OfHeld self.old) }
         ensures outer { result ≡ outer_of 0 (OfHeld self.old) }
         ensures begun { self.new ≡ record self.old { open_visitors = suc self.old.open_visitors } }

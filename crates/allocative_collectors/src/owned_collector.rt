@@ -4,8 +4,8 @@ ghost use Rattle.allocative_graph.specs.Collector.{OfOwned, count_owning, enter_
 ghost use Rattle.allocative_graph.specs.Visits.{HasRoom, Refuses};
 ghost use Rattle.allocative_graph.specs.declared.refusal.Refusal.TheVariants.{TooLarge};
 
-use allocative_graph::outer::Outer;
 use allocative_graph::refusal::Refusal;
+use allocative_graph::restore::Restore;
 use std::marker::Model;
 
 /// The collector of owned bytes, which has not failed.
@@ -43,10 +43,10 @@ impl OwnedCollector {
     }
 
     // What leaving a visitor that is opened now, after its bytes were counted, restores.
-    fn outer(&self) -> Outer
+    fn outer(&self) -> Restore
         ensures { result ≡ outer_of 0 (OfOwned self.now) }
     {
-        Outer {
+        Restore {
             is_unique: false,
             spare: self.spare,
         }
@@ -73,7 +73,7 @@ impl OwnedCollector {
     ///
     /// Its bytes count as those of `count` do. Inside it they are spare, unless it is unique. It returns `TooLarge`
     /// exactly if the sum or the number of visitors would exceed `usize::MAX`, and then nothing is changed.
-    pub fn enter(&mut self, size: usize, is_unique: bool) -> Result<Outer, Refusal>
+    pub fn enter(&mut self, size: usize, is_unique: bool) -> Result<Restore, Refusal>
         ensures ok { IfOk result (λ outer. HasRoom is_unique size (OfOwned self.old)
             × (outer ≡ outer_of size (OfOwned self.old))
             × (self.new ≡ enter_owning is_unique size self.old)) }
@@ -89,7 +89,7 @@ impl OwnedCollector {
     }
 
     /// One visitor less. `outer` is what it restores: the spare bytes of the entry outside.
-    pub fn leave(&mut self, outer: Outer)
+    pub fn leave(&mut self, outer: Restore)
         ensures { self.new ≡ leave_owning outer self.old }
     {
         self.visitors = self.visitors.saturating_sub(1);
@@ -105,7 +105,7 @@ impl OwnedCollector {
     }
 
     /// One more root visitor, if no visitor is open. It returns what `leave` restores.
-    pub fn begin(&mut self) -> Outer
+    pub fn begin(&mut self) -> Restore
         requires { IsClosed (OfOwned self.old) }
         ensures outer { result ≡ outer_of 0 (OfOwned self.old) }
         ensures begun { self.new ≡ record self.old { open_visitors = suc self.old.open_visitors } }

@@ -124,7 +124,7 @@ impl Tree {
         let expected = self.nodes[at].next as usize;
         if self.is_child(at, key, expected) {
             self.expect_follower(at, expected);
-            self.raise(room, expected, size, is_unique);
+            self.add_bytes(room, expected, size, is_unique);
             return Ok(expected);
         }
         Ok(self.enter_unexpected(room, at, key.as_str(), size, is_unique)?)
@@ -132,7 +132,7 @@ impl Tree {
 
     /// Adds the bytes of an entry to a node, and takes them from the room.
     #[inline(always)]
-    fn raise(&mut self, room: &mut usize, node: usize, size: usize, is_unique: bool)
+    fn add_bytes(&mut self, room: &mut usize, node: usize, size: usize, is_unique: bool)
         requires node { (0 < node) × (node < length self.old) }
         requires room { size ≤ room.old }
         requires count { total self.old + room.old + 1 ≡ 2 ^ 63 }
@@ -171,13 +171,13 @@ impl Tree {
         let mut keys: Vec<&'static str> = Vec::new(self.alloc);
         let mut warned = Vec::new(self.alloc);
         let mut graph = FlameGraph::default(self.alloc);
-        self.make(0, &mut graph, &mut keys, &mut warned)?;
+        self.build_graph(0, &mut graph, &mut keys, &mut warned)?;
         Ok(FlameGraphOutput::new(self.alloc, graph, warned)?)
     }
 
     /// Makes `graph` that of the node `at` and all below it. Those of their paths that have a warning are appended to
     /// `warned`; `keys` is the node's path. The graph is no result, so that a level of the walk takes less of the stack.
-    fn make(
+    fn build_graph(
         &self,
         at: usize,
         graph: &mut FlameGraph,
@@ -208,7 +208,7 @@ impl Tree {
             }
             keys.push(key.as_str())?;
             let mut below = FlameGraph::default(self.alloc);
-            self.make(child as usize, &mut below, keys, warned)?;
+            self.build_graph(child as usize, &mut below, keys, warned)?;
             let _ = keys.pop();
             push_child(graph, key.copy(), below)?;
         }
@@ -316,7 +316,7 @@ impl Tree {
         let node = self.search_child(at, &Key::new(key))?;
         self.follow_last(at, node);
         self.cut_long_list(at);
-        self.raise(room, node, size, is_unique);
+        self.add_bytes(room, node, size, is_unique);
         Ok(node)
     }
 

@@ -6,7 +6,7 @@ use Rattle.allocative_graph.proofs.Common.{own_behind, contents, followed_by}
 use Rattle.allocative_graph.specs.Forest.{entry_of}
 use Rattle.allocative_graph.specs.Collector.{Live, Holding, Owning, Kind, OfGraph, OfHeld, OfOwned}
 use Rattle.allocative_graph.specs.Collector.{plus_owning, count_owning, enter_first, plus, Takes, enter}
-use Rattle.allocative_graph.specs.Collector.{leave, begin, is_graph, visitors, Outer, outer_of, IsClosed}
+use Rattle.allocative_graph.specs.Collector.{leave, begin, is_graph, visitors, Restore, outer_of, IsClosed}
 use Rattle.allocative_graph.proofs.Owned.{direct-following, owned-following, direct-owned}
 use Rattle.allocative_graph.specs.Held.{held, inline_bytes}
 use Rattle.allocative_graph.proofs.Following.{entries_at-following, contents-following, met-following, fits-following}
@@ -82,7 +82,7 @@ takes_entry true k n (OfOwned o) f w = each-append (λ c. ⊥) (contents f) [] w
 takes_entry false k n (OfOwned o) f w = each-append (λ c. ⊥) (contents f) [] w tt
 
 -- The content of a shared entry starts at the root.
-pub inside_first : (k : Key) (n : ℕ) (j : Identity) (c : Live) (f : Forest) (outer : Outer) →
+pub inside_first : (k : Key) (n : ℕ) (j : Identity) (c : Live) (f : Forest) (outer : Restore) →
     leave outer (plus (OfGraph (enter_first k n j c)) f) ≡ plus (OfGraph c) (First k n j f Empty)
 inside_first k n j c f outer = rw (append-nil (contents f))
 
@@ -122,7 +122,7 @@ pub visitors-enter : (u : Bool) (k : Key) (n : ℕ) (c : Kind) → visitors (ent
 visitors-enter u k n c = grind arith
 
 -- Leaving takes at most one open visitor away.
-pub visitors-leave : (outer : Outer) (c : Kind) → visitors c ≤ suc (visitors (leave outer c))
+pub visitors-leave : (outer : Restore) (c : Kind) → visitors c ≤ suc (visitors (leave outer c))
 visitors-leave outer c = grind arith
 
 -- ---- which of them it is
@@ -135,7 +135,7 @@ pub is_graph-enter : (u : Bool) (k : Key) (n : ℕ) (c : Kind) → is_graph (ent
 is_graph-enter u k n c = grind arith
 
 -- Leaving an entry does not change whether a collector is a flame graph's.
-pub is_graph-leave : (outer : Outer) (c : Kind) → is_graph (leave outer c) ≡ is_graph c
+pub is_graph-leave : (outer : Restore) (c : Kind) → is_graph (leave outer c) ≡ is_graph c
 is_graph-leave outer c = grind arith
 
 -- Opening a root visitor does not change whether a collector is a flame graph's.

@@ -10,7 +10,7 @@ use Rattle.allocative_graph.specs.Forest.{met_after, Fits}
 use Rattle.allocative_graph.specs.Sums.{Sums, add_all}
 use Rattle.allocative_graph.specs.Held.{held, inline_bytes, ShowsNoContent}
 use Rattle.allocative_graph.specs.Owned.{direct, owned}
-use Rattle.allocative_graph.specs.declared.outer.Outer as declared
+use Rattle.allocative_graph.specs.declared.restore.Restore as declared
 
 -- The collector of a flame graph: the sums of what was entered, the identities met, the current path, the paths to go
 -- back to, and the number of open visitors, which were entered and not left.
@@ -37,11 +37,11 @@ pub record Owning : Type 0 where
   pub open_visitors : ℕ
 
 -- What leaving an entry restores: whether the entry outside is unique, and its spare bytes.
-abbrev pub Outer : Type 0
-Outer = declared.Outer
+abbrev pub Restore : Type 0
+Restore = declared.Restore
 
 -- What is restored if nothing outside counts.
-abbrev pub no_outer : Outer
+abbrev pub no_outer : Restore
 no_outer = record { is_unique = false; spare = 0 }
 
 -- A collector of one of the three kinds.
@@ -112,7 +112,7 @@ enter_holding is_unique n h = record {
 }
 
 -- One visitor less; `outer` is what leaving it restores.
-abbrev pub leave_holding : Outer → Holding → Holding
+abbrev pub leave_holding : Restore → Holding → Holding
 leave_holding outer h = record { sum = h.sum; open_visitors = pred h.open_visitors; is_in_unique = outer.is_unique }
 
 -- ---- the collector of owned bytes
@@ -133,7 +133,7 @@ enter_owning is_unique n o = record {
 }
 
 -- One visitor less; `outer` is what leaving it restores.
-abbrev pub leave_owning : Outer → Owning → Owning
+abbrev pub leave_owning : Restore → Owning → Owning
 leave_owning outer o = record { sum = o.sum; spare = outer.spare; open_visitors = pred o.open_visitors }
 
 -- ---- each collector
@@ -151,7 +151,7 @@ visitors (OfOwned o) = o.open_visitors
 
 -- What leaving an entry of n bytes that is opened now restores: whether the current entry is unique, for held bytes,
 -- or its spare bytes less n, for owned bytes. The collector of a flame graph needs nothing.
-abbrev pub outer_of : ℕ → Kind → Outer
+abbrev pub outer_of : ℕ → Kind → Restore
 outer_of n (OfGraph c) = no_outer
 outer_of n (OfHeld h) = record { is_unique = h.is_in_unique; spare = 0 }
 outer_of n (OfOwned o) = record { is_unique = false; spare = o.spare - n }
@@ -176,7 +176,7 @@ enter is_unique k n (OfHeld h) = OfHeld (enter_holding is_unique n h)
 enter is_unique k n (OfOwned o) = OfOwned (enter_owning is_unique n o)
 
 -- One visitor less; `outer` is what leaving it restores.
-abbrev pub leave : Outer → Kind → Kind
+abbrev pub leave : Restore → Kind → Kind
 leave outer (OfGraph c) = OfGraph (leave_live c)
 leave outer (OfHeld h) = OfHeld (leave_holding outer h)
 leave outer (OfOwned o) = OfOwned (leave_owning outer o)
@@ -217,6 +217,6 @@ failed_with r (Failed q) = Failed q
 failed_with r (Going k) = Failed r
 
 -- One visitor less, if the collector has not failed; `outer` is what leaving it restores.
-abbrev pub close_entry : Outer → State → State
+abbrev pub close_entry : Restore → State → State
 close_entry outer (Failed r) = Failed r
 close_entry outer (Going k) = Going (leave outer k)

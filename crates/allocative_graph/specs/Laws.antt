@@ -14,7 +14,7 @@ use Rattle.allocative_graph.specs.Sums.{Sums, bytes_in, below_in, is_unique_in, 
 use Rattle.allocative_graph.specs.Graph.{Graph, graph, remaining, total, under, default, IsTree, text, warnings}
 use Rattle.allocative_graph.specs.Graph.{warned_paths, sum_of, size_at, CanBeAdded, HasPlainKeys, HasWords}
 use Rattle.allocative_graph.specs.Collector.{Live, Holding, Owning, Kind, OfGraph, OfHeld, OfOwned, plus, Takes, enter}
-use Rattle.allocative_graph.specs.Collector.{enter_first, enter_again, count_owning, leave, Outer, outer_of}
+use Rattle.allocative_graph.specs.Collector.{enter_first, enter_again, count_owning, leave, Restore, outer_of}
 use Rattle.allocative_graph.specs.Report.{exact_text, without_lines}
 use Rattle.allocative_graph.specs.Read.{IsRead, IsFault, Exceeds, CanBeRead}
 use Rattle.allocative_graph.specs.declared.read.LineFault.{LineFault}
@@ -89,7 +89,7 @@ pub record PlusLaw : Type 0 where
 -- What a collector has after shared entries: a content from the root, a pointer alone, no change in the collector of
 -- held bytes, and the pointer's bytes in that of owned bytes.
 pub record SharedLaw : Type 0 where
-  pub first : (k : Key) (n : ℕ) (i : Identity) (c : Live) (f : Forest) (outer : Outer)
+  pub first : (k : Key) (n : ℕ) (i : Identity) (c : Live) (f : Forest) (outer : Restore)
       → leave outer (plus (OfGraph (enter_first k n i c)) f) ≡ plus (OfGraph c) (First k n i f Empty)
   pub first_taken : (k : Key) (n : ℕ) (i : Identity) (c : Live) (f : Forest) → contains c.met i ≡ false
       → Takes (OfGraph (enter_first k n i c)) f → Takes (OfGraph c) (First k n i f Empty)

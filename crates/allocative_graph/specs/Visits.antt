@@ -12,7 +12,7 @@ use Rattle.allocative_graph.specs.Sums.{Sums, bytes_entered, sums_of}
 use Rattle.allocative_graph.specs.Graph.{Graph, Warned, graph, warnings, warned_paths, sum_of, CanBeAdded}
 use Rattle.allocative_graph.specs.Collector.{Live, Holding, Owning, Kind, OfGraph, OfHeld, OfOwned, State, Failed}
 use Rattle.allocative_graph.specs.Collector.{Going, held_bytes, enter, enter_first, enter_again, count_owning, plus}
-use Rattle.allocative_graph.specs.Collector.{Takes, is_graph, visitors, Outer, outer_of, begin, close_entry, IsClosed}
+use Rattle.allocative_graph.specs.Collector.{Takes, is_graph, visitors, Restore, outer_of, begin, close_entry, IsClosed}
 use Rattle.allocative_graph.specs.Collector.{IsAtRoot}
 use Rattle.allocative_graph.specs.Shows.{Showing}
 
@@ -58,11 +58,11 @@ RefusesSized is_unique (Some n) b e = Refuses is_unique n b e
 -- What opening an entry of a declared size does. A failed collector returns its first cause. Otherwise the entry is
 -- refused exactly as `RefusesSized` says, and the collector has failed; or there is one more entry and a visitor at
 -- it, and the call returns what closing it restores.
-pub data OpensEntry (is_unique : Bool) (k : Key) : Option ℕ → State → Result Outer Refusal → State → Type 0 where
+pub data OpensEntry (is_unique : Bool) (k : Key) : Option ℕ → State → Result Restore Refusal → State → Type 0 where
   stays_failed : {size : Option ℕ} {r : Refusal} → OpensEntry is_unique k size (Failed r) (Err r) (Failed r)
   is_refused : {size : Option ℕ} {b : Kind} {e : Refusal} → RefusesSized is_unique size b e
       → OpensEntry is_unique k size (Going b) (Err e) (Failed e)
-  is_entered : {n : ℕ} {b c : Kind} {outer : Outer} → HasRoom is_unique n b → outer ≡ outer_of n b
+  is_entered : {n : ℕ} {b c : Kind} {outer : Restore} → HasRoom is_unique n b → outer ≡ outer_of n b
       → c ≡ enter is_unique k n b → OpensEntry is_unique k (Some n) (Going b) (Ok outer) (Going c)
 
 -- An entry of a declared size is refused with e, as opening it says.
@@ -89,13 +89,13 @@ pub data OpensShared (k : Key) (n : ℕ) (i : Identity) : State → Result Bool 
 
 -- ---- closing
 -- An entry is closed: one visitor less. `outer` is what closing restores. A failed collector stays as it is.
-pub record ClosesEntry (outer : Outer) (s t : State) : Type 0 where
+pub record ClosesEntry (outer : Restore) (s t : State) : Type 0 where
   pub closes : t ≡ close_entry outer s
 
 -- ---- root visitors
 -- A root visitor is opened. The call returns the first cause; or Open if a visitor is open, and nothing changes; or
 -- what leaving it restores.
-abbrev pub OpensRoot : State → Result Outer Refusal → State → Type 0
+abbrev pub OpensRoot : State → Result Restore Refusal → State → Type 0
 OpensRoot (Failed r) (Ok outer) t = ⊥
 OpensRoot (Failed r) (Err e) t = (e ≡ r) × (t ≡ Failed r)
 OpensRoot (Going b) (Ok outer) t = IsClosed b × IsAtRoot b × (outer ≡ outer_of 0 b) × (t ≡ Going (begin b))

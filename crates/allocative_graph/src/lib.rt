@@ -8,8 +8,8 @@
 pub mod flamegraph;
 pub mod key;
 pub mod laws;
-pub mod outer;
 pub mod read;
 pub mod refusal;
+pub mod restore;
 pub mod shared;
 mod static_text;

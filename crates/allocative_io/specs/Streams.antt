@@ -1,11 +1,11 @@
 -- What is read and written, and what may stop that.
 use Rattle.std.specs.Prelude.{◌≡◌, ℕ, ◌<◌, ⊤, List, ◌++◌, length, Option, IfSome}
 use Rattle.std.specs.Io.KnownBytes.{Appends}
-use Rattle.allocative_io.specs.declared.Unread.{Unread}
-use Rattle.allocative_io.specs.declared.Unread.TheVariants.{Memory, Failed}
+use Rattle.allocative_io.specs.declared.ReadError.{ReadError}
+use Rattle.allocative_io.specs.declared.ReadError.TheVariants.{Memory, Failed}
 
 -- Why an input may not be read: Memory only if it is not empty; or a read fails.
-abbrev pub StopsReading : Option (List ℕ) → Unread → Type 0
+abbrev pub StopsReading : Option (List ℕ) → ReadError → Type 0
 StopsReading known Memory = IfSome known (λ bytes. 0 < length bytes)
 StopsReading known (Failed k) = ⊤
 

@@ -12,27 +12,27 @@ use std::io::{self, ErrorKind, Read, Write};
 
 /// Why an input is not read.
 #[derive(Clone, Copy, Debug, PartialEq, Eq)]
-pub enum Unread {
+pub enum ReadError {
     /// Memory ran out.
     Memory,
     /// A read failed, with an error of this kind.
     Failed(ErrorKind),
 }
 
-impl From<AllocError> for Unread {
+impl From<AllocError> for ReadError {
     ghost use Rattle.std.specs.Prelude.{◌≡◌};
-    ghost use Rattle.allocative_io.specs.declared.Unread.TheVariants.{Memory};
+    ghost use Rattle.allocative_io.specs.declared.ReadError.TheVariants.{Memory};
 
     ghost from_gives = { λ _ u. u ≡ Memory };
 
-    fn from(_refused: AllocError) -> Unread {
-        Unread::Memory
+    fn from(_refused: AllocError) -> ReadError {
+        ReadError::Memory
     }
 }
 
-/// Reads to the end of the input. It returns `Unread::Failed` if a read fails, and `Unread::Memory` if memory runs out,
+/// Reads to the end of the input. It returns `ReadError::Failed` if a read fails, and `ReadError::Memory` if memory runs out,
 /// which an empty input never causes. An interrupted read is repeated.
-pub fn read_input<R: Read>(alloc: Global, input: &mut R) -> Result<Vec<u8>, Unread>
+pub fn read_input<R: Read>(alloc: Global, input: &mut R) -> Result<Vec<u8>, ReadError>
     ensures ok { IfOk result (λ bytes.
         IfSome (R.remaining input.old) (λ known. bytes.items ≡ known)) }
     ensures err { IfErr result (StopsReading (R.remaining input.old)) }
@@ -44,10 +44,10 @@ pub fn read_input<R: Read>(alloc: Global, input: &mut R) -> Result<Vec<u8>, Unre
             Ok(0) => return Ok(bytes),
             Ok(count) => bytes.extend_from_slice(&piece[..count])?,
             Err(error) if error.kind() == ErrorKind::Interrupted => {}
-            Err(error) => return Err(Unread::Failed(error.kind())),
+            Err(error) => return Err(ReadError::Failed(error.kind())),
         }
     }
-    Err(Unread::Failed(ErrorKind::Other))
+    Err(ReadError::Failed(ErrorKind::Other))
 }
 
 // Writes and flushes all bytes. If a write fails, a beginning of them is written. An interrupted write is repeated.

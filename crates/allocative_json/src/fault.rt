@@ -4,11 +4,11 @@ ghost use Rattle.allocative_json.specs.Fault.{status_of, message_of};
 
 use allocative::Refusal;
 use std::alloc::{AllocError, AllocFailed};
-use std::error::Error;
 use std::fmt;
+use thiserror::Error;
 
 /// Why a run failed. `Display` writes its message.
-#[derive(Clone, Copy, Debug, PartialEq, Eq)]
+#[derive(Clone, Copy, Debug, PartialEq, Eq, Error)]
 pub enum Fault {
     /// Memory ran out.
     Memory,
@@ -72,8 +72,6 @@ impl fmt::Display for Fault {
         f.write_str(self.message())
     }
 }
-
-impl Error for Fault {}
 
 impl From<Refusal> for Fault {
     ghost use Rattle.std.specs.Prelude.{◌≡◌};

@@ -11,7 +11,7 @@ use crate::printed::Report;
 use crate::profile::{report_by_registry, report_of};
 use crate::roots::read_roots;
 use crate::words::{Words, read_words};
-use allocative_io::{Unread, read_input, write_line, write_text};
+use allocative_io::{ReadError, read_input, write_line, write_text};
 use std::alloc::Global;
 use std::io::{self, Read, Write};
 use std::mem;
@@ -25,8 +25,8 @@ pub(crate) fn read_bytes<R: Read>(alloc: Global, input: &mut R) -> Result<Vec<u8
 {
     match read_input(alloc, input) {
         Ok(bytes) => Ok(bytes),
-        Err(Unread::Memory) => Err(Fault::Memory),
-        Err(Unread::Failed(_)) => Err(Fault::Reading),
+        Err(ReadError::Memory) => Err(Fault::Memory),
+        Err(ReadError::Failed(_)) => Err(Fault::Reading),
     }
 }
 
@@ -90,8 +90,9 @@ fn write_report<W: Write, E: Write>(
 /// warnings are on the errors. With status 7 a beginning of the profile is on the output, and no warning is on the
 /// errors unless the whole profile is written. With any other status nothing is written to the output. With every
 /// status but 0 the line of the fault is written last to the errors, or a beginning of it if that fails, and the status
-/// is that of the fault. If the words are not accepted, nothing is read. The status is 4 only if `profile_json` may return `Fault::TooLarge`, and never 8. With the word
-/// `registry` the roots are boxed and visited by a registry, and the same clauses hold.
+/// is that of the fault. If the words are not accepted, nothing is read. The status is 4 only if `profile_json` may
+/// return `Fault::TooLarge`, and never 8. With the word `registry` the roots are boxed and visited by a registry, and
+/// the same clauses hold.
 pub fn run_json<R: Read, W: Write, E: Write>(
     alloc: Global,
     words: &[String],

@@ -52,7 +52,13 @@ fn main(rt: HostRuntime) -> ExitCode {
     let mut output = std::io::writer(&rt);
     let mut errors = rt.stderr();
     let status = match words_of(&rt) {
-        Ok(words) => run(rt.alloc(), words.as_slice(), &mut input, &mut output, &mut errors),
+        Ok(words) => run(
+            rt.alloc(),
+            words.as_slice(),
+            &mut input,
+            &mut output,
+            &mut errors,
+        ),
         Err(fault) => report_fault(&mut errors, start_of(&rt), fault),
     };
     ExitCode::from(status)

@@ -10,7 +10,7 @@ use crate::arguments::Arguments;
 use crate::fault::{Fault, Source};
 use allocative_graph::flamegraph::FlameGraph;
 use allocative_graph::read::ReadFault;
-use allocative_io::{Unread, read_input, write_text};
+use allocative_io::{ReadError, read_input, write_text};
 use allocative_picture::options::Options;
 use allocative_picture::picture::{change_picture, picture};
 use std::alloc::Global;
@@ -65,8 +65,8 @@ pub fn read_text<'a, R: Read>(
             source,
             bytes: without_mark(bytes.leak()),
         }),
-        Err(Unread::Memory) => Err(Fault::Memory),
-        Err(Unread::Failed(kind)) => Err(Fault::Reading(source, kind)),
+        Err(ReadError::Memory) => Err(Fault::Memory),
+        Err(ReadError::Failed(kind)) => Err(Fault::Reading(source, kind)),
     }
 }
 

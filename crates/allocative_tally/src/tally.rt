@@ -87,9 +87,9 @@ pub trait Entries: Drop {
 
 /// The part of an `Allocative` that enters these entries.
 #[derive(Drop)]
-pub struct Shown<P>(pub P);
+pub struct EntriesPart<P>(pub P);
 
-impl<P: Entries> Part for Shown<P> {
+impl<P: Entries> Part for EntriesPart<P> {
     ghost may_show = { λ s. shape_shows (P.shape s.0) };
 
     ghost is_strict = { true };
@@ -130,7 +130,7 @@ impl<P: Entries, Q: Entries> Entries for (P, Q) {
 
     fn enter(self, visitor: &mut Visitor<'_>) -> Result<(), Refusal> {
         let (first, second) = self;
-        Part::enter((Shown(first), Shown(second)), visitor)
+        Part::enter((EntriesPart(first), EntriesPart(second)), visitor)
     }
 }
 
@@ -145,7 +145,7 @@ impl<K: IntoKey, P: Entries> Entries for InlineSum<K, P> {
         if !self.1.is_there {
             return Ok(());
         }
-        Inside(self.0, self.1.bytes, Shown(self.2)).enter(visitor)
+        Inside(self.0, self.1.bytes, EntriesPart(self.2)).enter(visitor)
     }
 }
 
@@ -160,7 +160,7 @@ impl<K: IntoKey, P: Entries> Entries for UniqueSum<K, P> {
         if !self.1.is_there {
             return Ok(());
         }
-        Unique(self.0, self.1.bytes, Shown(self.2)).enter(visitor)
+        Unique(self.0, self.1.bytes, EntriesPart(self.2)).enter(visitor)
     }
 }
 
@@ -176,6 +176,6 @@ impl<K: IntoKey, P: Entries> Entries for NarrowSum<K, P> {
         if !self.1.is_there {
             return Ok(());
         }
-        Inside(self.0, self.1.bytes, Shown(self.2)).enter(visitor)
+        Inside(self.0, self.1.bytes, EntriesPart(self.2)).enter(visitor)
     }
 }

@@ -4,18 +4,23 @@
 use crate::forest::Forest;
 use crate::notation::{push_roots, root_of};
 use crate::row::{Row, Wanted, cut, held_of, refusal_of};
+use crate::run_modes::{RunMode, collect};
 use crate::shown::Shown;
-use crate::ways::{Way, collect};
 use allocative::{Part, Refusal, size_of_entries, size_of_unique, size_of_unique_allocated_data};
 use std::alloc::Global;
 use std::io::{self, ErrorKind};
 
-/// Prints what the roots of a row answer in a way.
-fn tell(rt: &impl Print, row: Row, way: Way, answer: &Result<Shown, Refusal>) -> io::Result<()> {
+/// Prints what the roots of a row answer in a mode.
+fn tell(
+    rt: &impl Print,
+    row: Row,
+    mode: RunMode,
+    answer: &Result<Shown, Refusal>,
+) -> io::Result<()> {
     let name = row.name();
     match answer {
-        Ok(shown) => println!(rt; "{name}: {way:?}: {shown:?}"),
-        Err(refusal) => println!(rt; "{name}: {way:?}: {refusal}"),
+        Ok(shown) => println!(rt; "{name}: {mode:?}: {shown:?}"),
+        Err(refusal) => println!(rt; "{name}: {mode:?}: {refusal}"),
     }
 }
 
@@ -27,12 +32,12 @@ fn is_wanted(answer: &Result<Shown, Refusal>, wanted: Wanted, warnings: &str) ->
     }
 }
 
-/// What the roots of a row answer in a way, in their order or in the opposite one.
+/// What the roots of a row answer in a mode, in their order or in the opposite one.
 fn answer_of(
     alloc: Global,
     row: Row,
     is_reversed: bool,
-    way: Way,
+    mode: RunMode,
 ) -> io::Result<Result<Shown, Refusal>> {
     let mut roots = Vec::new(alloc);
     push_roots(alloc, &mut roots, row.roots())?;
@@ -41,30 +46,35 @@ fn answer_of(
     if is_reversed {
         roots.reverse();
     }
-    Ok(collect(alloc, roots, left, way))
+    Ok(collect(alloc, roots, left, mode))
 }
 
-/// The ways of one collection.
-const ONE: [Way; 4] = [Way::ByHand, Way::Visited, Way::Values, Way::Registered];
+/// The modes of one collection.
+const ONE: [RunMode; 4] = [
+    RunMode::ByHand,
+    RunMode::Visited,
+    RunMode::Values,
+    RunMode::Registered,
+];
 
-/// The ways of two collections.
-const TWO: [Way; 2] = [Way::Added, Way::InTwo];
+/// The modes of two collections.
+const TWO: [RunMode; 2] = [RunMode::Added, RunMode::InTwo];
 
-/// Whether the roots answer as they have to in each of these ways.
+/// Whether the roots answer as they have to in each of these modes.
 fn is_answered(
     rt: &impl Print,
     alloc: Global,
     row: Row,
     is_reversed: bool,
-    ways: &[Way],
+    modes: &[RunMode],
     wanted: Wanted,
 ) -> io::Result<bool> {
     let mut is_right = true;
-    for &way in ways {
-        let answer = answer_of(alloc, row, is_reversed, way)?;
+    for &mode in modes {
+        let answer = answer_of(alloc, row, is_reversed, mode)?;
         if !is_wanted(&answer, wanted, row.section("warnings")) {
             is_right = false;
-            tell(rt, row, way, &answer)?;
+            tell(rt, row, mode, &answer)?;
         }
     }
     Ok(is_right)

@@ -8,8 +8,8 @@ mod checks;
 mod forest;
 mod notation;
 mod row;
+mod run_modes;
 mod shown;
-mod ways;
 
 use checks::is_right;
 use row::Row;

@@ -53,12 +53,12 @@ impl<'a, T: Allocative> Part for Each<&'a Vec<T>> {
     }
 }
 
-/// The items of a sequence that is in two slices, as `Cut(front, back)`. The errors are those of
+/// The items of a sequence that is in two slices, as `TwoSlices(front, back)`. The errors are those of
 /// `Visitor::visit_slice` for each slice.
 #[derive(Drop)]
-pub struct Cut<V>(pub V, pub V);
+pub struct TwoSlices<V>(pub V, pub V);
 
-impl<'a, T: Allocative + Described> Part for Cut<&'a [T]> {
+impl<'a, T: Allocative + Described> Part for TwoSlices<&'a [T]> {
     ghost may_show = { λ s. cut_shows T.name T.size T.needs_drop T.may_show (s.0.now ++ s.1.now) };
 
     ghost is_strict = { T.is_strict };

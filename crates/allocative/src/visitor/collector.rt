@@ -12,7 +12,7 @@ use crate::{Allocative, Identity, Key, Refusal, Visitor};
 use allocative_collectors::graph_collector::GraphCollector;
 use allocative_collectors::held_collector::HeldCollector;
 use allocative_collectors::owned_collector::OwnedCollector;
-use allocative_graph::outer::Outer;
+use allocative_graph::restore::Restore;
 use std::alloc::{AllocError, Global};
 use std::marker::Model;
 
@@ -87,7 +87,7 @@ impl Collector {
     }
 
     /// The first cause if the collector has failed, otherwise `Ok`.
-    pub(crate) fn go_on(&self) -> Result<(), Refusal>
+    pub(crate) fn check_failed(&self) -> Result<(), Refusal>
         ensures { Makes Done self.now result self.now }
     {
         if let Kind::Failed(cause) = &self.kind {
@@ -104,7 +104,7 @@ impl Collector {
         key: Key,
         size: Option<usize>,
         is_unique: bool,
-    ) -> Result<Outer, Refusal>
+    ) -> Result<Restore, Refusal>
         ensures opens { OpensEntry is_unique key size self.old result self.new }
         ensures cause { IfErr result (HasFailed self.new) }
     {
@@ -113,7 +113,7 @@ impl Collector {
         };
         match &mut self.kind {
             Kind::Graph(graph) => match graph.enter(&key, size, is_unique) {
-                Ok(()) => Ok(Outer::none()),
+                Ok(()) => Ok(Restore::none()),
                 Err(refusal) => Err(self.refuse(refusal)),
             },
             Kind::Held(held) => match held.enter(size, is_unique) {
@@ -175,7 +175,7 @@ impl Collector {
 
     /// One visitor less; `outer` is what leaving it restores.
     #[inline(always)]
-    pub(crate) fn close_entry(&mut self, outer: Outer)
+    pub(crate) fn close_entry(&mut self, outer: Restore)
         ensures { ClosesEntry outer self.old self.new }
     {
         match &mut self.kind {
@@ -188,13 +188,13 @@ impl Collector {
 
     /// One more root visitor. It returns what `close_entry` restores, the first cause if the collector
     /// has failed, or `Open` if a visitor is open.
-    pub(crate) fn begin(&mut self) -> Result<Outer, Refusal>
+    pub(crate) fn begin(&mut self) -> Result<Restore, Refusal>
         ensures { OpensRoot self.old result self.new }
     {
         match &mut self.kind {
             Kind::Graph(graph) if graph.is_closed() => {
                 graph.begin();
-                Ok(Outer::none())
+                Ok(Restore::none())
             }
             Kind::Held(held) if held.is_closed() => Ok(held.begin()),
             Kind::Owned(owned) if owned.is_closed() => Ok(owned.begin()),
@@ -285,7 +285,7 @@ impl Collector {
         // Only a flame graph's collector shows contents, and it keeps its own places.
         Visitor {
             collector: self,
-            outer: Outer::none(),
+            outer: Restore::none(),
         }
     }
 

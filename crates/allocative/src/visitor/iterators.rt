@@ -124,7 +124,7 @@ impl Visitor<'_> {
         ensures kept { Keeps self.old self.new result }
         ensures plan { MakesPlanOrGives I.next_gives items Done self.old self.new result }
     {
-        self.collector.go_on()?;
+        self.collector.check_failed()?;
         for item in items {
             how.enter_item(item, self)?;
         }
@@ -156,7 +156,7 @@ impl Visitor<'_> {
             return self.visit_run(Itself, items);
         }
         let count = count_of(items);
-        self.visit_counted::<T>(Key::for_type_name::<T>(), count)
+        self.visit_total_bytes::<T>(Key::for_type_name::<T>(), count)
     }
 
     /// The inline entry `data` of 8 bytes, with the fields `key` and `value` for each pair that the

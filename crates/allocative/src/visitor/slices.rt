@@ -37,7 +37,7 @@ impl Visitor<'_> {
     }
 
     /// One inline entry of the bytes of `count` items. It is `TooLarge` if `bytes_of` returns `None`.
-    pub(crate) fn visit_counted<T: Described>(
+    pub(crate) fn visit_total_bytes<T: Described>(
         &mut self,
         name: Key,
         count: Option<usize>,
@@ -57,7 +57,7 @@ impl Visitor<'_> {
         ensures plan { MakesPlan
             (one (codes "unused_capacity") (size_product T.size (Some count))) self.old self.new result }
     {
-        self.visit_counted::<T>(Key::new("unused_capacity"), Some(count))
+        self.visit_total_bytes::<T>(Key::new("unused_capacity"), Some(count))
     }
 
     /// What each item shows, in order.
@@ -86,7 +86,7 @@ impl Visitor<'_> {
         if are_shown_each::<T>() {
             return self.visit_each(items);
         }
-        self.visit_counted::<T>(Key::for_type_name::<T>(), Some(items.len()))
+        self.visit_total_bytes::<T>(Key::for_type_name::<T>(), Some(items.len()))
     }
 
     /// A field `data` for each item, in order.

@@ -1,3 +1,4 @@
+-- of plain_len: the invariant of its loop
 use Rattle.std.proofs.Common.{◌≡◌, take}
 use Rattle.allocative_io.specs.Lines.{printable}
 use Rattle.allocative_io.proofs.plain_len.Given as goal

@@ -1,3 +1,4 @@
+-- of read_input: the invariant of its loop
 use Rattle.std.specs.Io.KnownBytes.{Consumes}
 use Rattle.allocative_io.proofs.read_input.Given as goal
 

@@ -1,3 +1,4 @@
+-- of write_bytes: the invariant of its loop
 use Rattle.allocative_io.specs.Streams.{IsWrittenUpTo}
 use Rattle.allocative_io.proofs.write_bytes.Given as goal
 

@@ -1,3 +1,4 @@
+-- of write_line: beginning and the step of its loop
 use Rattle.std.proofs.Common.{[], arith}
 use Rattle.allocative_io.proofs.Printed.{texts_split, texts_end}
 use Rattle.allocative_io.proofs.Writes.{written_next, written_partly}

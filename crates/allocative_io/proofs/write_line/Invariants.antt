@@ -1,3 +1,4 @@
+-- of write_line: the invariant of its loop
 use Rattle.std.proofs.Common.{map, drop}
 use Rattle.allocative_io.specs.Lines.{line_of}
 use Rattle.allocative_io.specs.Streams.{IsWrittenUpTo}

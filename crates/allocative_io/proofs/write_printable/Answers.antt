@@ -1,3 +1,4 @@
+-- of write_printable: beginning, whole and the step of its loop
 use Rattle.std.proofs.Common.{◌≡◌, ◌++◌, [], refl}
 use Rattle.allocative_io.specs.Lines.{printable}
 use Rattle.allocative_io.proofs.Printed.{plain_split, control_split, nothing_left}

@@ -1,3 +1,4 @@
+-- of write_printable: the invariant of its loop and its recursion ends
 use Rattle.std.proofs.Common.{length}
 use Rattle.allocative_io.specs.Lines.{printable}
 use Rattle.allocative_io.specs.Streams.{IsWrittenUpTo}

@@ -7,7 +7,7 @@ ghost use Rattle.allocative.specs.Bodies.{buffer_shows, cut_shows};
 ghost use Rattle.allocative.specs.Runs.{field_of, pair_shows};
 ghost use Rattle.allocative.specs.StdShows.{in_any_order};
 
-use crate::part::containers::Cut;
+use crate::part::containers::TwoSlices;
 use crate::{
     Allocative, Buffer, Described, FieldEach, Inside, Items, Pairs, Part, Refusal, Visitor, Whole,
 };
@@ -42,7 +42,7 @@ impl<T: Allocative + Described> Allocative for VecDeque<T> {
     fn visit(&self, visitor: &mut Visitor<'_>) -> Result<(), Refusal> {
         let (front, back) = self.as_slices();
         let ring = Buffer {
-            items: Cut(front, back),
+            items: TwoSlices(front, back),
             item_size: T::size(),
             count: self.len(),
             capacity: self.capacity(),

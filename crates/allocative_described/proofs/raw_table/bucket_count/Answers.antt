@@ -1,3 +1,4 @@
+-- of bucket_count: the result
 use Rattle.std.proofs.Common.{refl, arith}
 use Rattle.allocative_described.proofs.raw_table.bucket_count.Goals as goal
 

@@ -1,3 +1,4 @@
+-- of raw_table_law: the result
 use Rattle.allocative_described.proofs.Buckets.{raw_table_size_same}
 use Rattle.allocative_described.proofs.raw_table.raw_table_law.Goals as goal
 

@@ -1,3 +1,4 @@
+-- of fields: the invariant of its loop
 use Rattle.std.proofs.Common.{◌≡◌, length, map, take}
 use Rattle.std.specs.Prelude.{vec_capacity}
 use Rattle.allocative_json.proofs.Common.{deref_pair}

@@ -1,3 +1,4 @@
+-- of array_alone: the result
 use Rattle.std.proofs.Common.{length, arith}
 use Rattle.std.specs.Prelude.{vec_capacity}
 use Rattle.allocative_json.specs.Fields.{array_bytes}

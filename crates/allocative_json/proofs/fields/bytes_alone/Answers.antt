@@ -1,3 +1,4 @@
+-- of bytes_alone: an error
 use Rattle.std.proofs.Common.{◌≡◌, ap, arith}
 use Rattle.allocative_graph.specs.Graph.{default, total}
 use Rattle.allocative_json.specs.Fields.{bytes_alone}

@@ -1,3 +1,4 @@
+-- of graph_of_document: an error
 use Rattle.std.proofs.Common.{◌≡◌, ap, arith}
 use Rattle.allocative_graph.specs.Graph.{default, total}
 use Rattle.allocative_graph.proofs.Gathered.{total-default}

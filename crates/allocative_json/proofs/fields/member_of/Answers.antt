@@ -1,3 +1,4 @@
+-- of member_of: an error
 use Rattle.std.proofs.Common.{◌+◌, arith}
 use Rattle.std.specs.Prelude.{string_capacity}
 use Rattle.allocative_json.specs.Fields.{member_below}

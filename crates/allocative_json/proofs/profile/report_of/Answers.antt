@@ -1,3 +1,4 @@
+-- of report_of: err
 use Rattle.allocative_json.proofs.Common.{roots_show}
 use Rattle.allocative_json.proofs.Reports.{refused_profile}
 use Rattle.allocative_json.proofs.profile.report_of.Goals as goal

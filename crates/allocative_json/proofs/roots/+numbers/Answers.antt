@@ -1,3 +1,4 @@
+-- of numbers: the step of its loop and keys
 use Rattle.std.proofs.Common.{map, ◌∙◌, subst, List}
 use Rattle.allocative_json.proofs.Common.{deref_pair, members_view, AddsKeys, members_have}
 use Rattle.std.proofs.lemmas.List.{map-append, take_more}

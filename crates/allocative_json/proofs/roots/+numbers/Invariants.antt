@@ -1,3 +1,4 @@
+-- of numbers: the invariant of its loop
 use Rattle.std.proofs.Common.{map, take}
 use Rattle.allocative_json.proofs.Common.{deref_pair, int_cmp, items_view, members_view, AddsKeys, items_have}
 use Rattle.allocative_json.proofs.Common.{members_have}

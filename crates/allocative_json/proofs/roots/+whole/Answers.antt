@@ -1,3 +1,4 @@
+-- of whole: the step of its loop
 use Rattle.std.proofs.Common.{refl}
 use Rattle.std.proofs.lemmas.List.{map-append, take_more}
 use Rattle.allocative_json.proofs.NumbersLemmas.{are_whole-snoc, have_whole-snoc}

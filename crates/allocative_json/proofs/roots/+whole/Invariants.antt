@@ -1,3 +1,4 @@
+-- of whole: the invariant of its loop
 use Rattle.std.proofs.Common.{◌≡◌, take, map}
 use Rattle.allocative_json.proofs.Common.{deref_pair, items_view, members_view, are_whole, have_whole}
 use Rattle.allocative_json.proofs.roots.+whole.Given as goal

@@ -1,3 +1,4 @@
+-- of make_report: err and ok
 use Rattle.std.proofs.Common.{◌≡◌, IfSome}
 use Rattle.allocative_json.proofs.Common.{words_of}
 use Rattle.allocative_json.proofs.Reports.{report_for, refuses_run}

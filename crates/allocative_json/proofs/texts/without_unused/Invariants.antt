@@ -1,3 +1,4 @@
+-- of without_unused: the invariant of its loop and its recursion ends
 use Rattle.std.proofs.Common.{◌≡◌, ◌++◌, string_bytes, length}
 use Rattle.allocative_json.proofs.Common.{kept_lines}
 use denote.Text.{Utf8}

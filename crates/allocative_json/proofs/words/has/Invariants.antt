@@ -1,3 +1,4 @@
+-- of has: the invariant of its loop
 use Rattle.std.proofs.Common.{take, Contains}
 use Rattle.allocative_json.proofs.Common.{words_of}
 use Rattle.allocative_json.proofs.words.has.Given as goal

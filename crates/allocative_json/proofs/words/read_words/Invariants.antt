@@ -1,3 +1,4 @@
+-- of read_words: the invariant of its loop
 use Rattle.std.proofs.Common.{take}
 use Rattle.allocative_json.proofs.Common.{words_of, AreWords}
 use Rattle.allocative_json.proofs.words.read_words.Given as goal

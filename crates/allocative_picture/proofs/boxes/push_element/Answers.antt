@@ -1,3 +1,4 @@
+-- of push_element: the result
 use Rattle.std.proofs.Common.{append_assoc, string_bytes}
 use Rattle.allocative_picture.specs.Boxes.{element}
 use Rattle.allocative_picture.proofs.boxes.push_element.Goals as goal

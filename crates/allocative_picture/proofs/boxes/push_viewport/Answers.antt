@@ -1,3 +1,4 @@
+-- of push_viewport: the result
 use Rattle.allocative_picture.specs.Boxes.{viewport}
 use Rattle.allocative_picture.proofs.boxes.push_viewport.Goals as goal
 

@@ -1,3 +1,4 @@
+-- of escaped: the result
 use Rattle.std.proofs.Common.{◌≡◌, List, [], ◌∷◌, ℕ, map, refl, ap, sym, ◌∙◌}
 use Rattle.allocative_picture.proofs.Common.{escaped_char}
 use Rattle.std.specs.List.{flat_map}

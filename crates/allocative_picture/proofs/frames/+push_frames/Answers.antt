@@ -1,3 +1,4 @@
+-- of push_frames: a number fits, what push_frames requires, the step of its loop, before, paths and frames
 use Rattle.std.proofs.Common.{rules, ◌≡◌, refl, ◌+◌, ◌<◌, ◌++◌, [], ◌∷◌, List, map, arith, ap, sym, subst, append_assoc}
 use Rattle.std.proofs.Common.{append-nil, ◌∙◌, filter, length, take_all}
 use Rattle.allocative_picture.proofs.Common.{is_drawn, len, Child, Path, total, total_at, total_of, FrameData, frame_data}

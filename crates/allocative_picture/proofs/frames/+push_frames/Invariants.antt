@@ -1,3 +1,4 @@
+-- of push_frames: its recursion ends and the invariant of its loop
 use Rattle.std.proofs.Common.{◌≡◌, ◌+◌, ◌++◌, map, take, length, filter}
 use Rattle.allocative_picture.proofs.Common.{len, total_at, total_of, frame_data, frames_from, is_drawn}
 use Rattle.allocative_graph.specs.Rows.{rows_of}

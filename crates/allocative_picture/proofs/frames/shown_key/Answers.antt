@@ -1,3 +1,4 @@
+-- of shown_key: the result
 use Rattle.std.proofs.Common.{◌≡◌, ℕ, suc, ◌-◌, ◌<◌, List, Bor, [], ◌∷◌, length, get_or, refl, ap, ◌∙◌, arith}
 use Rattle.allocative_graph.proofs.NodeText.{texts}
 use Rattle.allocative_picture.specs.Frames.{shown_key}

@@ -1,3 +1,4 @@
+-- of levels: the invariant of its loop
 use Rattle.std.proofs.Common.{◌≡◌, ◌≤◌, ◌^◌, map, take}
 use Rattle.allocative_picture.proofs.Common.{frame_data}
 use Rattle.allocative_picture.specs.Page.{levels}

@@ -1,3 +1,4 @@
+-- of push_boxes: the invariant of its loop
 use Rattle.std.proofs.Common.{◌≡◌, ◌++◌, map, take, flat_map, string_bytes}
 use Rattle.allocative_picture.proofs.Common.{frame_data}
 use Rattle.allocative_picture.specs.Boxes.{element}

@@ -1,3 +1,4 @@
+-- of push_heading: the result
 use Rattle.allocative_picture.specs.Page.{heading}
 use Rattle.allocative_picture.proofs.page.push_heading.Goals as goal
 

@@ -1,3 +1,4 @@
+-- of push_warning: the result
 use Rattle.allocative_picture.specs.Page.{warning_line}
 use Rattle.allocative_picture.proofs.page.push_warning.Goals as goal
 

@@ -1,3 +1,4 @@
+-- of push_warnings: the step of its loop
 use Rattle.std.proofs.Common.{◌≡◌, ℕ, ◌+◌, ◌*◌, List, [], ◌∷◌, ◌++◌, length, sym, ap, ◌∙◌, append_assoc, append-nil}
 use Rattle.std.proofs.Common.{arith}
 use Rattle.allocative_picture.proofs.Common.{warning_lines}

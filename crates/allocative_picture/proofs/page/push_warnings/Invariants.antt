@@ -1,3 +1,4 @@
+-- of push_warnings: the invariant of its loop
 use Rattle.std.proofs.Common.{◌≡◌, ◌++◌, map, take, string_bytes}
 use Rattle.allocative_picture.proofs.Common.{warning_lines}
 use Rattle.allocative_collectors.specs.Warned.{warning_of}

@@ -1,3 +1,4 @@
+-- of draw: the invariant of its loop
 use Rattle.std.proofs.Common.{◌≡◌, map, take, filter}
 use Rattle.allocative_picture.proofs.Common.{frame_data, is_drawn}
 use Rattle.allocative_picture.specs.Page.{all_of}

@@ -1,3 +1,4 @@
+-- of draw_graph: the result
 use Rattle.std.proofs.Common.{◌≡◌, ◌++◌, map, ap, ◌∙◌, filter, arith}
 use Rattle.allocative_picture.proofs.Common.{figures_behind, is_drawn, len, frames_from, frame_data}
 use Rattle.allocative_graph.proofs.NodeText.{texts}

@@ -1,3 +1,4 @@
+-- of draw_wide: the result
 use Rattle.std.proofs.Common.{refl}
 use Rattle.std.proofs.lemmas.List.{length-map}
 use Rattle.allocative_picture.specs.Picture.{drawing_of}

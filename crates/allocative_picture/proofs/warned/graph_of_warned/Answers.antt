@@ -1,3 +1,4 @@
+-- of graph_of_warned: the start of its loop, the step of its loop and the result
 use Rattle.std.proofs.Common.{◌≡◌, ℕ, ◌+◌, ◌++◌, ◌∷◌, [], List, Bor, map, take, sym, ap, ◌∙◌, arith, take_all}
 use Rattle.std.proofs.lemmas.List.{take_more, map_push}
 use Rattle.allocative_collectors.specs.Warned.{warning_of}

@@ -1,3 +1,4 @@
+-- of graph_of_warned: the invariant of its loop
 use Rattle.std.proofs.Common.{◌≡◌, map, take}
 use Rattle.allocative_picture.proofs.Common.{Path, total}
 use Rattle.allocative_graph.specs.Graph.{size_at}

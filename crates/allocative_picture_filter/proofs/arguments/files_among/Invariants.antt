@@ -1,3 +1,4 @@
+-- of files_among: the invariant of its loop
 use Rattle.std.proofs.Common.{◌≡◌, map, not, take}
 use Rattle.std.specs.Prelude.{filter}
 use Rattle.allocative_picture_filter.specs.Arguments.{is_input}

@@ -1,3 +1,4 @@
+-- of add_text: stops and ok
 use Rattle.std.proofs.Common.{◌+◌, ◌^◌, ◌≤◌, inl, inr, arith}
 use Rattle.allocative_picture_filter.proofs.Common.{total}
 use Rattle.allocative_picture_filter.proofs.Faults.{stops-joining, holds-of}

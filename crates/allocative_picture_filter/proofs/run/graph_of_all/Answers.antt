@@ -1,3 +1,4 @@
+-- of graph_of_all: the step of its loop, stops and ok
 use Rattle.std.proofs.Common.{List, map, subst, arith, take_all}
 use Rattle.allocative_picture_filter.proofs.Common.{default, Text, sourced, AddUp}
 use Rattle.allocative_picture_filter.proofs.Faults.{holds-of}

@@ -1,3 +1,4 @@
+-- of later_graph: stops and ok
 use Rattle.std.proofs.Common.{map}
 use Rattle.allocative_picture_filter.proofs.Common.{default, sourced}
 use Rattle.std.proofs.lemmas.Option.{IfSome_then}

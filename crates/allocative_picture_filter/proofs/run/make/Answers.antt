@@ -1,3 +1,4 @@
+-- of make: stops and ok
 use Rattle.std.proofs.Common.{◌+◌, refl, sym, ◌∙◌, inl, inr}
 use Rattle.allocative_picture_filter.proofs.Common.{total}
 use Rattle.std.proofs.lemmas.Option.{IfSome_then}

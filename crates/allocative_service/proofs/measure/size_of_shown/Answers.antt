@@ -1,3 +1,4 @@
+-- of size_of_shown: shown
 use Rattle.std.proofs.Common.{◌∙◌, ap}
 use Rattle.allocative.specs.Forest.{all}
 use Rattle.allocative.specs.Graph.{total}

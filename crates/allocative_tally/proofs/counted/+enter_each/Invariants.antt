@@ -1,3 +1,4 @@
+-- of enter_each: its recursion ends
 use Rattle.std.proofs.Common.{length}
 use Rattle.allocative_tally.proofs.counted.+enter_each.Given as goal
 

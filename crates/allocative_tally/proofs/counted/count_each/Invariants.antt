@@ -1,3 +1,4 @@
+-- of count_each: the invariant of its loop
 use Rattle.std.proofs.Common.{take, None}
 use Rattle.allocative_graph.specs.Shows.{each_shows}
 use Rattle.allocative_tally.specs.Tallies.{Tallies}

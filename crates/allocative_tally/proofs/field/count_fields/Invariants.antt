@@ -1,3 +1,4 @@
+-- of count_fields: the invariant of its loop
 use Rattle.std.proofs.Common.{map, None}
 use Rattle.std.specs.Map.Iter.{deref}
 use Rattle.allocative_graph.specs.Path.{Key}

@@ -1,3 +1,4 @@
+-- of count_pairs: the invariant of its loop
 use Rattle.std.proofs.Common.{map, None, codes}
 use Rattle.std.specs.Map.Iter.{deref_pair}
 use Rattle.allocative_graph.specs.Shows.{each_shows}

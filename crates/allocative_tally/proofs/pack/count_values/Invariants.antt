@@ -1,3 +1,4 @@
+-- of count_values: the invariant of its loop
 use Rattle.std.proofs.Common.{map, None, ℕ}
 use denote.Ref.{Bor}
 use Rattle.allocative_graph.specs.Shows.{each_shows}

@@ -1,3 +1,4 @@
+-- of InsidePart::enter: the result
 use Rattle.allocative.proofs.Meaning.{entered_inline}
 use Rattle.allocative.proofs.part.InsidePart.enter.Goals as goal
 

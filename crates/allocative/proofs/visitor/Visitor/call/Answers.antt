@@ -1,3 +1,4 @@
+-- of Visitor::call: the result
 use Rattle.std.proofs.Common.{◌∙◌, refl, Ok, Err}
 use Rattle.allocative.proofs.Common.{FnOnceReturnsAtMut}
 use Rattle.allocative.proofs.visitor.Visitor.call.Goals as goal

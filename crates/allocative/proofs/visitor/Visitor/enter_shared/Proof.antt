@@ -27,8 +27,8 @@ use Rattle.allocative.specs.contracts.visitor.by_hand.collector_of as g
 use Rattle.allocative.proofs.visitor.by_hand.collector_of.Met as g-met
 use Rattle.allocative.specs.contracts.visitor.by_hand.enter_content as h
 use Rattle.allocative.proofs.visitor.by_hand.enter_content.Met as h-met
-use Rattle.allocative.specs.contracts.visitor.turned_round as t
-use Rattle.allocative.proofs.visitor.turned_round.Met as t-met
+use Rattle.allocative.specs.contracts.visitor.transpose as t
+use Rattle.allocative.proofs.visitor.transpose.Met as t-met
 
 -- The result of the collector's call, and the result that is returned.
 abbrev Try : Type 0
@@ -169,7 +169,7 @@ enter_shared_spec 𝓤 𝓛 𝓜 𝓡 wired =
     nothing ! $ move ! (1 ∷ 0 ∷ []) $ join ! $ move ! (2 ∷ 0 ∷ []) $ join ! $ nothing ! $ move ! (1 ∷ 0 ∷ []) $
     use2 𝓛 (raw (T.pre b)) (id⊢ 𝓤 _) $
     -- [what the call asks; what self ends as; the other tokens]
-    calls_at ! fm T (t-met.met 𝓤 𝓛 𝓜 𝓡 (code.calls-allocative::visitor::turned_round 𝓡.env wired)) b
+    calls_at ! fm T (t-met.met 𝓤 𝓛 𝓜 𝓡 (code.calls-allocative::visitor::transpose 𝓡.env wired)) b
     (and_then ! (get ! refl) (no_more !)) (λ o.
     use1 𝓛 (later (some (λ (out : Given). ((‵ (flft κ q) ⊛ ‵ ftrue) ⊛ ‵ ((SharedAnswer κs).own_val out (o ∷ []))) ⊛
     some (λ (us : Lasts t.ended (κ, tt) b.0.3). ‵ (lasts t.ended (κ, tt) b.0.3 us) ⊛ raw (fact 𝓤 (out ≡ transpose res))))))

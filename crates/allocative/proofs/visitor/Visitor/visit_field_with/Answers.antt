@@ -1,3 +1,4 @@
+-- of Visitor::visit_field_with: an error and the result
 use Rattle.std.proofs.Common.{rules, ◌≡◌, refl, Ok, Err}
 use Rattle.allocative.proofs.Common.{FnOnceReturnsAtMut, called, refused_inside}
 use Rattle.allocative.proofs.Closures.{not_called_by, same_err}

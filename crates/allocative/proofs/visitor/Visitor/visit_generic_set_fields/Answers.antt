@@ -1,3 +1,4 @@
+-- of Visitor::visit_generic_set_fields: an error and the result
 use Rattle.std.proofs.Common.{rules}
 use Rattle.allocative.proofs.Runs.{data_entered, data_refused}
 use Rattle.allocative.proofs.Within.{same_err}

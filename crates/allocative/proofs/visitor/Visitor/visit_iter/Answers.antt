@@ -1,3 +1,4 @@
+-- of Visitor::visit_iter: entered, plan and only if full
 use Rattle.std.proofs.Common.{◌≡◌, true, false, rules}
 use Rattle.allocative.proofs.Common.{are_shown_each, deref}
 use Rattle.allocative.proofs.Runs.{items_run, plain_run, counted_plain}
@@ -23,10 +24,10 @@ pub returns-clause-plan : goal.returns-clause-plan
 returns-clause-plan g c =
     let e : are_shown_each g.T.Described.needs_drop g.T.Described.size ≡ false = search rules in
     rw (e, MakesPlanRun)
-    (c.count_of-count.result, c.count_of-count.ensures, rw c.for_type_name.ensures at c.visit_counted.ensures.plan)
+    (c.count_of-count.result, c.count_of-count.ensures, rw c.for_type_name.ensures at c.visit_total_bytes.ensures.plan)
 
 pub returns-clause-only_if_full : goal.returns-clause-only_if_full
 returns-clause-only_if_full g c =
     counted_plain deref g.T.Described.name g.T.Described.size c.count_of-count.result g.T.Described.needs_drop
     g.T.Allocative.may_show (search rules) c.count_of-count.ensures
-    (rw c.for_type_name.ensures at c.visit_counted.ensures.entered)
+    (rw c.for_type_name.ensures at c.visit_total_bytes.ensures.entered)

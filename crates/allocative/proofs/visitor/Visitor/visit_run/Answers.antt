@@ -12,8 +12,8 @@ loop-item-preserved g c = (
   run_gives _ c.loop-item.item-iterator c.loop-item.yielded c.loop-item.yielded_by c.in-Some.ensures.steps,
 )
 
-pub returns-in_err-go_on-clause-only_if_full : goal.returns-in_err-go_on-clause-only_if_full
-returns-in_err-go_on-clause-only_if_full g c = record { along = λ i ys y. only_if_full_failed c.in_err-go_on.ensures }
+pub returns-in_err-check_failed-clause-only_if_full : goal.returns-in_err-check_failed-clause-only_if_full
+returns-in_err-check_failed-clause-only_if_full g c = record { along = λ i ys y. only_if_full_failed c.in_err-check_failed.ensures }
 
 pub returns-in_err-enter_item-clause-only_if_full : goal.returns-in_err-enter_item-clause-only_if_full
 returns-in_err-enter_item-clause-only_if_full g c =
@@ -37,6 +37,6 @@ returns g c =
           l.invariant.0;
       only_if_full = along_run l.yielded (c.next.new.self, (l.item-iterator, l.yielded_by, c.in-None.ensures.steps))
           l.invariant.0;
-      kept = kept_after c.in_ok-go_on.ensures;
+      kept = kept_after c.in_ok-check_failed.ensures;
       plan = l.invariant.1;
     })

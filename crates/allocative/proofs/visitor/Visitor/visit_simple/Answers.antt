@@ -1,3 +1,4 @@
+-- of Visitor::visit_simple: entered
 use Rattle.allocative.proofs.Within.{entered_alone}
 use Rattle.allocative.proofs.visitor.Visitor.visit_simple.Goals as goal
 

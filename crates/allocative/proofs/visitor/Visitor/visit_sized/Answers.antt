@@ -1,3 +1,4 @@
+-- of Visitor::visit_sized: entered
 use Rattle.allocative.proofs.Within.{entered_alone_sized}
 use Rattle.allocative.proofs.visitor.Visitor.visit_sized.Goals as goal
 

@@ -1,3 +1,4 @@
+-- of Visitor::visit_slice: entered
 use Rattle.std.proofs.Common.{rules}
 use Rattle.allocative.proofs.Bodies.{entered_plain, entered_one_by_one}
 use Rattle.allocative.proofs.visitor.Visitor.visit_slice.Goals as goal

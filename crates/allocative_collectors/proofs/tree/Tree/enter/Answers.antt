@@ -7,7 +7,7 @@ use Rattle.allocative_collectors.proofs.tree.Tree.enter.Goals as goal
 pub returns-then-is_child-clause-entered : goal.returns-then-is_child-clause-entered
 returns-then-is_child-clause-entered c = record {
   fits = omega arith;
-  count = c.raise.ensures.room;
+  count = c.add_bytes.ensures.room;
   is = entered_twice _ _ _ _ _ _ _ _ (c.is_child.ensures.0 c.if-is_child.true)
-      (c.raise.ensures.raised ∙ ap (λ (s : Listed). put c.index.result.now.next (path_at s c.index.result.now.next) c.args.size c.args.is_unique s) c.expect_follower.ensures);
+      (c.add_bytes.ensures.raised ∙ ap (λ (s : Listed). put c.index.result.now.next (path_at s c.index.result.now.next) c.args.size c.args.is_unique s) c.expect_follower.ensures);
 }

@@ -44,11 +44,11 @@ lines_of s (e ∷ es) =
 lines-warned_paths : (s : Sums) → warning_lines (warned_paths s) ≡ warnings s
 lines-warned_paths s = lines_of s (entries s)
 
-pub make-requires-clause-within : goal.make-requires-clause-within
-make-requires-clause-within c = (listing_of c.self.inside.nodes.items c.self.invariant c.self.view_is).rooted
+pub build_graph-requires-clause-within : goal.build_graph-requires-clause-within
+build_graph-requires-clause-within c = (listing_of c.self.inside.nodes.items c.self.invariant c.self.view_is).rooted
 
-pub make-requires-clause-keys : goal.make-requires-clause-keys
-make-requires-clause-keys c =
+pub build_graph-requires-clause-keys : goal.build_graph-requires-clause-keys
+build_graph-requires-clause-keys c =
     ap (map (λ (k : Bor (List ℕ)). k.now)) c.new-keys.ensures.items
     ∙ sym (listing_of c.self.inside.nodes.items c.self.invariant c.self.view_is).root_path
 
@@ -56,11 +56,11 @@ pub returns-clause-made : goal.returns-clause-made
 returns-clause-made c =
     let v = c.args.self.now in
     let root = (listing_of c.self.inside.nodes.items c.self.invariant c.self.view_is).root_path in
-    let made = c.in_ok-make.ensures.made in
-    let found : map warning_of c.make.new.warned.items ≡ warned_paths (map_of v) =
+    let made = c.in_ok-build_graph.ensures.made in
+    let found : map warning_of c.build_graph.new.warned.items ≡ warned_paths (map_of v) =
     made.warned_are ∙ ((λ j. map warning_of (c.new-warned.ensures.items j)
     ++ flat_map (warned (map_of v)) (rows_behind v (root j) (λ q. true))) ∙ warned_walk v) in (
-      c.in_ok-new.ensures.graph ∙ same_map path_total path_antisymmetric c.make.new.graph (graph (map_of v))
+      c.in_ok-new.ensures.graph ∙ same_map path_total path_antisymmetric c.build_graph.new.graph (graph (map_of v))
           (λ q. made.graph_is q ∙ ap (λ (p : Path). get (graph (map_of v)) (p ++ q)) root),
       c.in_ok-new.ensures.warnings ∙ (ap warning_lines found ∙ lines-warned_paths (map_of v)),
       c.in_ok-new.ensures.warned ∙ found,
@@ -68,5 +68,5 @@ returns-clause-made c =
 
 pub returns-clause-total : goal.returns-clause-total
 returns-clause-total c =
-    let small : total c.make.new.graph < 2 ^ 63 = omega (arith, part_fits c.in_ok-make.ensures.made, c.requires) in
+    let small : total c.build_graph.new.graph < 2 ^ 63 = omega (arith, part_fits c.in_ok-build_graph.ensures.made, c.requires) in
     subst (λ (g : Graph). total g < 2 ^ 63) (sym c.in_ok-new.ensures.graph) small

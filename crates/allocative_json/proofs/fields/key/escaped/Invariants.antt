@@ -1,3 +1,4 @@
+-- of escaped: the invariant of its loop
 use Rattle.std.proofs.Common.{◌≡◌, flat_map, string_bytes}
 use Rattle.allocative_json.specs.Fields.{escaped_char}
 use Rattle.allocative_json.proofs.fields.key.escaped.Given as goal

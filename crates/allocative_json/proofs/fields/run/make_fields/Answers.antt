@@ -1,3 +1,4 @@
+-- of make_fields: err and ok
 use Rattle.std.proofs.Common.{◌≡◌, IfSome, length, string_bytes, arith}
 use Rattle.std.proofs.lemmas.Result.{IfErr-weaker, IfOk-weaker}
 use Rattle.allocative_json.specs.Fields.{AreFields, AreFieldsFor, RefusesFields, MayEndFields}

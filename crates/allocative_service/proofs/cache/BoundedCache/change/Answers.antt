@@ -1,3 +1,4 @@
+-- of BoundedCache::change: ok and refused
 use Rattle.std.proofs.Common.{rules}
 use Rattle.allocative_service.proofs.Using.{taken}
 use Rattle.allocative_service.proofs.cache.BoundedCache.change.Goals as goal

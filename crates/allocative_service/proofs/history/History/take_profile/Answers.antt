@@ -1,3 +1,4 @@
+-- of History::take_profile: taken
 use Rattle.std.proofs.Common.{◌∷◌, take, ap, ◌∙◌}
 use Rattle.allocative_service.proofs.Common.{Graph}
 use Rattle.allocative_service.proofs.history.History.take_profile.Goals as goal

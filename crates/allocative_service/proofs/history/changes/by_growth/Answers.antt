@@ -1,3 +1,4 @@
+-- of by_growth: the result
 use Rattle.std.proofs.Common.{◌≡◌, map, take, ap, ◌∙◌, arith, take_all}
 use Rattle.std.proofs.lemmas.List.Sorted.{IsPermutation-map}
 use Rattle.allocative_service.proofs.Common.{change_data}

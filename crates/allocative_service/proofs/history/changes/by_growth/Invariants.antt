@@ -1,3 +1,4 @@
+-- of by_growth: the invariant of its loop
 use Rattle.std.proofs.Common.{◌≡◌, map, take, All}
 use Rattle.allocative_service.proofs.Common.{change_data}
 use Rattle.allocative_service.specs.Changes.{IsWord}

@@ -1,3 +1,4 @@
+-- of compare: ordered and each
 use Rattle.std.proofs.Common.{◌≡◌, map, [], ap, sym, subst, ◌∙◌, rules}
 use Rattle.std.specs.FinMap.{entries}
 use Rattle.allocative.specs.Graph.{size_at, sum_of}

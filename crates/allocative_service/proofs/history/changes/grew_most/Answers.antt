@@ -1,3 +1,4 @@
+-- of grew_most: the result
 use Rattle.std.proofs.Common.{◌≡◌, map, take, ap, ◌∙◌, arith, filter, take_all}
 use Rattle.allocative_service.proofs.Common.{change_data, is_grown}
 use Rattle.allocative_service.proofs.Most.{grew_first}

@@ -1,3 +1,4 @@
+-- of grew_most: the invariant of its loop
 use Rattle.std.proofs.Common.{◌≡◌, map, take, filter, All}
 use Rattle.allocative_service.proofs.Common.{change_data, is_grown}
 use Rattle.allocative_service.specs.Changes.{IsWord}

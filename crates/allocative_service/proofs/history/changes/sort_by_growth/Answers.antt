@@ -1,3 +1,4 @@
+-- of sort_by_growth: falling
 use Rattle.std.proofs.Common.{rules}
 use Rattle.std.proofs.lemmas.List.Sorted.{All-permutation, IsNonDecreasingBy-from_sort_by_key}
 use Rattle.allocative_service.proofs.Common.{change_data}

@@ -1,3 +1,4 @@
+-- of push_total: the invariant of its loop
 use Rattle.std.proofs.Common.{◌≡◌, ◌*◌, ◌^◌, ◌≤◌, map, take, sum_by}
 use Rattle.allocative_service.proofs.Common.{change_data}
 use Rattle.allocative_service.specs.Changes.{growth, shrinkage}

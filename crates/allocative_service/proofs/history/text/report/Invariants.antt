@@ -1,3 +1,4 @@
+-- of report: the invariant of its loop
 use Rattle.std.proofs.Common.{◌≡◌, ◌++◌, map, take, string_bytes}
 use Rattle.allocative_service.proofs.Common.{change_data, lines_of}
 use Rattle.allocative_service.specs.Changes.{total_line}

@@ -1,3 +1,4 @@
+-- of push_changes: what push_changes requires, the step of its loop and changes
 use Rattle.std.proofs.Common.{◌≡◌, refl, ℕ, ◌<◌, ◌==◌, ◌++◌, [], ◌∷◌, List, cond, map, take, arith, ap, sym, subst}
 use Rattle.std.proofs.Common.{append_assoc, ◌∙◌, take_all, option_copied}
 use Rattle.std.specs.FinMap.{len, entries}

@@ -1,3 +1,4 @@
+-- of push_changes: its recursion ends and the invariant of its loop
 use Rattle.std.proofs.Common.{◌≡◌, ◌++◌, map, take, option_copied}
 use Rattle.std.specs.FinMap.{len}
 use Rattle.allocative.specs.Rows.{rows_of}

@@ -1,3 +1,4 @@
+-- of below: the result
 use Rattle.std.proofs.Common.{◌≡◌, ◌∷◌, Some, option_copied, ap, ◌∙◌, rules}
 use Rattle.allocative_service.specs.Walk.{size_in}
 use Rattle.allocative_service.proofs.Walk.{sizes_found}

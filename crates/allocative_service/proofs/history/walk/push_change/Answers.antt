@@ -1,3 +1,4 @@
+-- of push_change: the result
 use Rattle.std.proofs.Common.{◌≡◌, Bool, cond, List, Bor, ℕ, ◌++◌, [], ◌∷◌, map, sym, ap, ◌∙◌}
 use Rattle.std.proofs.lemmas.List.{map-append}
 use Rattle.std.proofs.lemmas.List.Elements.{same_from_all_zip}

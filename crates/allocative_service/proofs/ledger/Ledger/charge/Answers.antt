@@ -1,3 +1,4 @@
+-- of Ledger::charge: rejected
 use Rattle.std.proofs.Common.{arith, inr}
 use Rattle.allocative_service.proofs.Accounts.{account_within}
 use Rattle.allocative_service.proofs.Sums.{had_within}

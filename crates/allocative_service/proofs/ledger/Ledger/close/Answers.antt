@@ -1,3 +1,4 @@
+-- of Ledger::close: a number fits, an invariant, closed and all
 use Rattle.std.proofs.Common.{None, arith, refl}
 use Rattle.allocative_service.proofs.Accounts.{all_bytes-close, changes, in_ledger}
 use Rattle.allocative_service.proofs.ledger.Ledger.close.Goals as goal

@@ -1,3 +1,4 @@
+-- of Ledger::credit: rejected
 use Rattle.std.proofs.Common.{arith}
 use Rattle.std.proofs.lemmas.Result.{IfErr-weaker}
 use Rattle.allocative_service.proofs.Credits.{credited}

@@ -1,3 +1,4 @@
+-- of Ledger::open: an invariant and opened
 use Rattle.std.proofs.Common.{◌≡◌, ◌∙◌, None, ap, refl, sym}
 use Rattle.std.specs.BTreeMap.{get_by_text}
 use Rattle.allocative_service.proofs.Common.{AccountData}

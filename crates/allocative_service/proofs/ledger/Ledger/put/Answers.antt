@@ -1,3 +1,4 @@
+-- of Ledger::put: what check_room requires, an invariant, unchanged and put
 use Rattle.std.proofs.Common.{◌≡◌, arith, ap, refl, subst, sym, unwrap_or}
 use Rattle.std.specs.Option.{option_and_then}
 use Rattle.std.proofs.lemmas.Result.{on_err_weaker}

@@ -1,3 +1,4 @@
+-- of Ledger::release: an invariant, unchanged and released
 use Rattle.std.proofs.Common.{arith, ap, refl, sym, ◌≡◌, ◌+◌, subst}
 use Rattle.allocative_service.proofs.Common.{AccountData}
 use Rattle.allocative_service.specs.AccountData.{sum_of}

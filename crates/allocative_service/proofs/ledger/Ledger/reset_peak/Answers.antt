@@ -1,3 +1,4 @@
+-- of Ledger::reset_peak: an invariant and reset
 use Rattle.std.proofs.Common.{arith, ap, refl, sym}
 use Rattle.allocative_service.proofs.Common.{AccountData}
 use Rattle.allocative_service.specs.AccountData.{sum_of}

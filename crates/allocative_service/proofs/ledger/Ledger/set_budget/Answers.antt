@@ -1,3 +1,4 @@
+-- of Ledger::set_budget: an invariant, set and unchanged
 use Rattle.std.proofs.Common.{arith, ap, refl, sym}
 use Rattle.allocative_service.specs.AccountData.{sum_of}
 use Rattle.std.proofs.lemmas.Result.{on_ok_weaker, on_err_weaker}

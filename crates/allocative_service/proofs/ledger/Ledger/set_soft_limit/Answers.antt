@@ -1,3 +1,4 @@
+-- of Ledger::set_soft_limit: an invariant and set
 use Rattle.std.proofs.Common.{arith, ap, refl, sym}
 use Rattle.allocative_service.proofs.Common.{AccountData}
 use Rattle.allocative_service.specs.AccountData.{sum_of}

@@ -1,3 +1,4 @@
+-- of RequestAllocative::visit: the result
 use Rattle.std.proofs.Common.{rules}
 use Rattle.allocative.proofs.Parts.{parts}
 use Rattle.example_types.proofs.enums.RequestAllocative.visit.Goals as goal

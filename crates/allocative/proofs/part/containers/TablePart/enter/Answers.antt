@@ -1,3 +1,4 @@
+-- of TablePart::enter: the result
 use Rattle.std.proofs.Common.{◌<◌, arith}
 use Rattle.allocative.proofs.Meaning.{entered_none, entered_as}
 use Rattle.allocative.proofs.Bodies.{means_no_table, means_some_table}

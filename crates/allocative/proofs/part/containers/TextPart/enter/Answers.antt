@@ -1,3 +1,4 @@
+-- of TextPart::enter: the result
 use Rattle.std.proofs.Common.{rules}
 use Rattle.allocative.proofs.Meaning.{entered_as}
 use Rattle.allocative.proofs.Bodies.{means_text}

@@ -1,3 +1,4 @@
+-- of Account::release: a number fits
 use Rattle.std.proofs.Common.{ℕ, arith, ap, unwrap_or, Option}
 use Rattle.allocative_service.proofs.Sums.{sum_of-remove_entry}
 use Rattle.allocative_service.proofs.ledger.account.Account.release.Goals as goal

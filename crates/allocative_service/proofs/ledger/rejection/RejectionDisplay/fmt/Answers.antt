@@ -1,3 +1,4 @@
+-- of RejectionDisplay::fmt: writes
 use Rattle.allocative_service.proofs.ledger.rejection.RejectionDisplay.fmt.Goals as goal
 
 pub returns-in-LedgerFull-clause-writes : goal.returns-in-LedgerFull-clause-writes
