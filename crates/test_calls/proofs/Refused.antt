@@ -3,7 +3,7 @@ use Rattle.std.proofs.Common.{◌≡◌, ◌∙◌, ℕ, Bool, true, false, Resu
 use Rattle.std.specs.Fn.{Once, FnOnceReturnsAtMut}
 use Rattle.allocative.specs.Refusal.{Refusal}
 use Rattle.allocative.specs.Path.{Key}
-use Rattle.allocative.specs.Collector.{Kind, State, Failed, Going, Outer, failed_with, close_entry}
+use Rattle.allocative.specs.Collector.{Kind, State, Failed, Going, Restore, failed_with, close_entry}
 use Rattle.allocative.specs.Shows.{Showing, Nothing}
 use Rattle.allocative.specs.Visits.{AddsForest, refused, OpensEntry, ClosesEntry, is_entered}
 use Rattle.allocative.specs.declared.visitor.Visitor.{Visitor}
@@ -48,13 +48,13 @@ hides {r = Ok v} h m = record { same_reference = h.same_reference; same_outer = 
 hides {r = Err e} h m = record { same_reference = h.same_reference; same_outer = h.same_outer; shown = adds_hidden h.shown; only_if_full = not_strict; takes_effect = tt }
 
 -- An error that is made by hand, after which an entry is closed.
-refused_inside_entry : {p : Showing} {b : Kind} {e : Refusal} (q : Outer) (x : Refusal) (z : State) →
+refused_inside_entry : {p : Showing} {b : Kind} {e : Refusal} (q : Restore) (x : Refusal) (z : State) →
     AddsForest p (Going b) (Err e) (close_entry q (failed_with x z))
 refused_inside_entry q x (Failed r) = refused
 refused_inside_entry q x (Going c) = refused
 
 -- An entry was entered, a closure returns Err there, and the visitor is left.
-closure_err : {p : Showing} {k : Key} {n : ℕ} {o q : Outer} {s w z t : State} {e : Refusal} (x : Refusal) (y : State) →
+closure_err : {p : Showing} {k : Key} {n : ℕ} {o q : Restore} {s w z t : State} {e : Refusal} (x : Refusal) (y : State) →
     OpensEntry false k (Some n) s (Ok o) w → z ≡ failed_with x y → ClosesEntry q z t → AddsForest p s (Err e) t
 closure_err {q = q} x y (is_entered r f e) i l = rw (l.closes, i) (refused_inside_entry q x y)
 
