@@ -27,9 +27,9 @@ pub fn size_of_unique_allocated_data(root: &dyn Allocative) -> Result<usize, Ref
     Ok(collector.sum())
 }
 
-/// The same plus the declared size of the root. It visits the value itself, and makes no trait object. Its only refusal
-/// of its own is TooLarge, after a visit that is not refused: if the root has no declared size, or if it does not fit
-/// together with what the root holds.
+/// The bytes that the root holds on the heap, plus its declared size. It counts as `size_of_unique_allocated_data`
+/// does, visits the value itself, and makes no trait object. Its only refusal of its own is TooLarge, after a visit
+/// that is not refused: if the root has no declared size, or if it does not fit together with what the root holds.
 ///
 /// A strict type is refused with TooLarge alone: if it has no declared size, if what the value may show asks for
 /// a declared size that is not there, or if some of what it may show does not fit, by itself or together with the

@@ -68,8 +68,8 @@ impl FlameGraph {
         self.get(path).map_or(0, FlameGraph::total_size)
     }
 
-    /// All paths with their sizes, in the order of paths: the root comes first, each path comes before those
-    /// below it, and the paths below one path come in the order of their keys.
+    /// All paths with their sizes, in the order of paths. The root comes first, each path comes before those below
+    /// it, and the paths below one path come in the order of their keys.
     ///
     /// It returns an error only when memory runs out.
     pub fn rows(&self) -> Result<Vec<Row>, Refusal>
