@@ -40,7 +40,7 @@ use crate::{Refusal, Visitor};
 pub trait Allocative: Drop {
     ghost may_show: { Self → Forest → Type 0 };
 
-    /// Whether each visit refuses only if it must: with `TooLarge` only if the collector cannot take all that
+    /// Whether each visit fails only if it must: with `TooLarge` only if the collector cannot take all that
     /// the value may show, with `Memory` only in a flame graph, and never with `Open`. A type whose parts are strict
     /// states `true`. One with a parameter states the flags of its parts, joined in their order.
     ghost is_strict: { Bool } = { false };
@@ -52,7 +52,7 @@ pub trait Allocative: Drop {
     /// Enters what the value holds.
     ///
     /// After `Err` the collector has failed. After `Ok` it has failed (an error was hidden), or has more open
-    /// visitors than before (one was forgotten), or has one more forest, which the value may show. A collector
+    /// visitors than before (one was leaked), or has one more forest, which the value may show. A collector
     /// that had failed stays as it was. The visitor stays where it was.
     fn visit(&self, visitor: &mut Visitor<'_>) -> Result<(), Refusal>
         ensures { Visited is_strict (may_show self.now) (effect self.now)

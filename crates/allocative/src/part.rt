@@ -57,7 +57,7 @@ pub trait Part: Drop {
     ///
     /// The errors of each entry are those of `Visitor::enter`. An `Err` is the collector's first cause, and
     /// then the collector has failed. After `Ok` the collector has one more forest, which the part may show; or
-    /// a value's own visit hid an error, and the collector has failed; or a value's own visit forgot a visitor,
+    /// a value's own visit hid an error, and the collector has failed; or a value's own visit leaked a visitor,
     /// and the collector has more open visitors than before. A collector that had failed stays as it was. The
     /// visitor stays where it was.
     fn enter(self, visitor: &mut Visitor<'_>) -> Result<(), Refusal>

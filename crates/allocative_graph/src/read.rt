@@ -21,10 +21,10 @@ pub enum LineFault {
     /// There is no space.
     #[error("there is no space")]
     NoSpace,
-    /// Nothing stands before the last space.
+    /// There is nothing before the last space.
     #[error("there is no path before the last space")]
     NoPath,
-    /// What stands behind the last space is not digits alone.
+    /// What follows the last space is not digits alone.
     #[error("there is no number of bytes behind the last space")]
     NoNumber,
     /// The number exceeds `usize::MAX`.

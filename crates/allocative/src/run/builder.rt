@@ -84,10 +84,10 @@ impl FlameGraphBuilder {
     ///
     /// A builder that has failed returns its first cause, and one with an open visitor returns
     /// `Open`; then nothing changes. Otherwise the error is the first cause of the visit, or `Open`
-    /// if the visit forgot a visitor.
+    /// if the visit leaked a visitor.
     ///
-    /// A builder that has not failed and has no open visitor refuses a root of a strict type only with `Memory`, or
-    /// with `TooLarge` if not all that the root may show can be added.
+    /// If the root's type is strict, and the builder has not failed and has no open visitor, it fails only with
+    /// `Memory`, or with `TooLarge` if not all that the root may show can be added.
     pub fn visit_root(&mut self, root: &dyn Allocative) -> Result<(), Refusal>
         ensures visits_root { VisitsRoot (may_show root.now) self.old result self.new }
         ensures only_if_full { RootFailsOnlyIfFull (Allocative-dyn root.now).is_strict
@@ -98,8 +98,8 @@ impl FlameGraphBuilder {
         self.collector.visit_object(root)
     }
 
-    /// Visits a root whose type is known, without a trait object. What it returns and changes, and what a root of a
-    /// strict type is refused for, is as in `visit_root`.
+    /// Visits a root whose type is known, without a trait object. It returns and changes what `visit_root` does, and
+    /// fails as that does.
     pub fn visit_value<T: Allocative>(&mut self, root: &T) -> Result<(), Refusal>
         ensures visits_root { VisitsRoot (T.may_show root.now) self.old result self.new }
         ensures only_if_full { RootFailsOnlyIfFull T.is_strict (T.may_show root.now)

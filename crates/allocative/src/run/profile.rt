@@ -14,8 +14,8 @@ use std::alloc::Global;
 impl FlameGraphBuilder {
     /// Visits roots of one type in order, up to the first refusal, each as `visit_value` does.
     ///
-    /// A builder that has not failed and has no open visitor refuses roots of a strict type only with `Memory`, or with
-    /// `TooLarge` if not all that the roots may show together can be added.
+    /// If the type is strict, and the builder has not failed and has no open visitor, it fails only with `Memory`, or
+    /// with `TooLarge` if not all that the roots may show together can be added.
     pub fn visit_values<T: Allocative>(&mut self, roots: &[T]) -> Result<(), Refusal>
         ensures visits_root { VisitsRoot (each_shows T.may_show roots.now)
             self.old result self.new }
@@ -33,11 +33,13 @@ impl FlameGraphBuilder {
 
 /// Graph and warnings of one value.
 ///
-/// A struct that owns the parts of a service is profiled so, from a method of its own. The promise is that of
-/// `profile_roots`, for what the value may show. It makes no trait object, so any function may hold the value and
-/// pass it on. The graph's total is at most `isize::MAX` bytes. The error is `Memory` for want of memory, or the first
-/// cause of the value's own visit, or `Open` if that forgot a visitor. A value of a strict type is refused only with
-/// `Memory`, or with `TooLarge` if a flame graph cannot take all that the value may show.
+/// A service whose parts are in one struct calls it in a method of that struct. It promises what `profile_roots` does,
+/// for what the value may show. It makes no trait object, so any function may hold the value and pass it on. The
+/// graph's total is at most `isize::MAX` bytes.
+///
+/// It fails with `Memory` if memory runs out, with the first cause of the value's own visit, or with `Open` if that
+/// leaked a visitor. For a value of a strict type it fails only with `Memory`, or with `TooLarge` if a flame graph
+/// cannot take all that the value may show.
 ///
 /// ```
 /// let output = profile_value(alloc, &Some(7u32))?;

@@ -35,7 +35,7 @@ impl Registry {
         }
     }
 
-    /// Puts a root last. It is refused for want of memory alone; then the root is dropped, and the list is the old one.
+    /// Puts a root last. If memory runs out, it returns `Memory`, drops the root, and leaves the list as it was.
     /// `register_root` hands the root back.
     pub fn add_root(&mut self, root: Box<dyn Allocative>) -> Result<(), Refusal>
         ensures { MatchResult result
@@ -46,7 +46,7 @@ impl Registry {
         Ok(())
     }
 
-    /// Puts a root last. For want of memory the root is handed back, and the list is the old one.
+    /// Puts a root last. If memory runs out, it hands the root back as its error, and leaves the list as it was.
     pub fn register_root(&mut self, root: Box<dyn Allocative>) -> Result<(), Box<dyn Allocative>>
         ensures { MatchResult result
             (λ _. roots_of self.new ≡ roots_of self.old ++ root ∷ [])
@@ -69,8 +69,8 @@ impl Registry {
 impl FlameGraphBuilder {
     /// Visits the registry's roots in order, up to the first refusal, each as `visit_root` does.
     ///
-    /// If the types of all roots are strict, a builder that has not failed and has no open visitor refuses them only
-    /// with `Memory`, or with `TooLarge` if not all that the roots may show together can be added.
+    /// If the types of all roots are strict, and the builder has not failed and has no open visitor, it fails only with
+    /// `Memory`, or with `TooLarge` if not all that the roots may show together can be added.
     pub fn visit_global_roots(&mut self, registry: &Registry) -> Result<(), Refusal>
         ensures visits_root { VisitsRoot (each_shows may_show (roots_of registry.now))
             self.old result self.new }
@@ -93,10 +93,11 @@ impl FlameGraphBuilder {
 /// The graph has exactly the paths of the roots' own entries and, once for each identity reached, of the first
 /// content shown for it; each path has its declared bytes less those declared one step below, never below zero, or
 /// all if it was ever unique. The warnings have a line for each path but the root that was never unique and has
-/// fewer bytes than stand one key below. The error is `Memory` for want of memory, or that of the first root that is
-/// refused: the first cause of its own visit, or `Open` if that forgot a visitor. If the types of all roots are strict,
-/// it is refused only with `Memory`, or with `TooLarge` if a flame graph cannot take all that the roots may show
-/// together.
+/// fewer bytes than the paths one key below it together.
+///
+/// It fails with `Memory` if memory runs out, or with the error of the first root that fails: the first cause of its
+/// own visit, or `Open` if that leaked a visitor. If the types of all roots are strict, it fails only with `Memory`, or
+/// with `TooLarge` if a flame graph cannot take all that the roots may show together.
 pub fn profile_roots(registry: &Registry) -> Result<FlameGraphOutput, Refusal>
     ensures profile { IfOk result (IsProfileOf (each_shows may_show (roots_of registry.now))) }
     ensures refused { IfErr result (MayRefuseProfile (are_strict Allocative-box registry.now)

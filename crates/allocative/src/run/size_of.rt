@@ -11,7 +11,7 @@ use crate::{Allocative, Described, Refusal, Visitor};
 /// nothing below a shared entry.
 ///
 /// It takes no memory, and has no refusal of its own. It is refused with TooLarge if the sum or a declared size does
-/// not fit, with Open if a visitor was forgotten and nothing was refused, and else with the first cause of the
+/// not fit, with Open if a visitor was leaked and nothing was refused, and else with the first cause of the
 /// visit. The entries of std's maps and sets are declared inline, so of them only what the keys and values hold counts.
 ///
 /// An object of a strict type is refused with TooLarge alone: if what it may show asks for a declared size that is
@@ -63,7 +63,7 @@ pub fn size_of_unique<T: Allocative + Described>(root: &T) -> Result<usize, Refu
 /// unique or shared. So the entries of std's maps and sets count, and a shared pointer counts for itself alone.
 ///
 /// It takes no memory, and has no refusal of its own. It is refused with TooLarge if the sum or a declared size does
-/// not fit, with Open if a visitor was forgotten and nothing was refused, and else with the first cause of the visit.
+/// not fit, with Open if a visitor was leaked and nothing was refused, and else with the first cause of the visit.
 /// A strict type is refused with TooLarge alone: if what the value may show asks for a declared size that is not there,
 /// or if some of what it may show does not fit.
 ///
@@ -86,7 +86,7 @@ pub fn size_of_owned<T: Allocative>(root: &T) -> Result<usize, Refusal>
 /// The closure enters what it likes at a root visitor, as the parts of a value that one asks for, and hands the
 /// visitor back at the place where it got it. It takes no memory. It is refused with TooLarge if the sum or a
 /// declared size does not fit, and else with the first cause, which is the closure's refusal if nothing was
-/// refused before; with Open if a visitor was forgotten.
+/// refused before; with Open if a visitor was leaked.
 ///
 /// ```
 /// let number: Box<u32> = Box::new(alloc, 7)?;

@@ -13,12 +13,12 @@ use std::alloc::Global;
 /// ones, and the graphs are added.
 ///
 /// If no identity is reached by both, and each path that both have is unique in both or, unique in neither, has at
-/// least the bytes below it in both or at most those in both, the sum is the graph of one collection of all items. A
-/// refusal of the left collection comes before one of the right, and both before one of the adding, which is for want
-/// of memory alone. Items of a strict type are refused only with `Memory`, or with `TooLarge` if a flame graph cannot
-/// take all that the left items may show, or the left ones were collected and it cannot take all that the right items
-/// may show. Each item is visited by a root visitor and its own `visit`, and no trait object is made. Warnings are not
-/// given.
+/// least the bytes below it in both or at most those in both, the sum is the graph of one collection of all items. An
+/// error of the left collection comes before one of the right, and both before one of the adding, which is only
+/// `Memory`. For items of a strict type it fails only with `Memory`, or with `TooLarge` if a flame graph cannot take
+/// all that the left items may show, or the left ones were collected and it cannot take all that the right items may
+/// show. Each item is visited by a root visitor and its own `visit`, and no trait object is made. It returns no
+/// warnings.
 ///
 /// ```
 /// let graph = profile_in_two::<u8>(alloc, &[1, 2], &[3])?;
