@@ -69,7 +69,7 @@ impl<'a, T: Allocative + Described> Part for TwoSlices<&'a [T]> {
 }
 
 /// A field under the key for each item, as `FieldEach(key, items)`. The fields of a hashed set come in any
-/// order.
+/// order. Its word is `each_shows (field_of key size shown) items`, with `field_of` of `Runs`.
 ///
 /// ```
 /// Inside("Tags", 24, FieldEach("tag", self.tags.as_slice())).enter(visitor)
@@ -122,7 +122,8 @@ impl<'a, K: IntoKey, T: Allocative + Described + Eq + Hash> Part for FieldEach<K
 }
 
 /// The fields `key` and `value` for each pair of a map, as `Pairs(map)`. The fields of a hashed map come in any
-/// order.
+/// order. Its word is `each_shows (pair_shows key_size key_shown value_size value_shown) entries`, with `pair_shows`
+/// of `Runs`.
 ///
 /// ```
 /// Inside("Index", 24, Pairs(&self.by_name)).enter(visitor)
@@ -167,7 +168,8 @@ impl<'a, K: Allocative + Described + Eq + Hash, V: Allocative + Described> Part
 }
 
 /// The entry `unused_capacity`, with the bytes of `count` unused places. If an item has no size, or the
-/// bytes do not fit, `enter` returns `TooLarge`.
+/// bytes do not fit, `enter` returns `TooLarge`. Its word is `bytes_shown (codes "unused_capacity") item_size count`,
+/// of `Bodies`.
 #[derive(Drop)]
 pub struct Unused {
     /// The declared size of an item in bytes.
@@ -190,7 +192,8 @@ impl Part for Unused {
 
 /// The buffer of a container on the heap: nothing if its items have size 0, or if `count` and `capacity`
 /// are both 0; otherwise a unique entry `ptr` of 8 bytes, with the items and the entry of the unused places
-/// inside it. If an item has no size, `enter` returns `TooLarge`.
+/// inside it. If an item has no size, `enter` returns `TooLarge`. Its word is `buffer_shows item_size shown count
+/// capacity`, of `Bodies`.
 ///
 /// ```
 /// let buffer = Buffer {
@@ -252,7 +255,8 @@ impl<P: Part> Part for IndexData<P> {
 }
 
 /// The buffer of a text: a unique entry `ptr` of 8 bytes, inside it an entry `capacity`, and inside that an
-/// entry `u8` of the text's bytes and an entry `unused_capacity`.
+/// entry `u8` of the text's bytes and an entry `unused_capacity`. Its word is `text_shows length capacity`, of
+/// `Bodies`.
 ///
 /// ```
 /// Inside("Name", 24, Text(&self.name)).enter(visitor)
