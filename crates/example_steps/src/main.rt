@@ -1,24 +1,24 @@
-//! The short programs of the pages: a first profile, its heaviest paths, the children of one path, and budgets.
+//! The short programs of the pages: the heaviest paths of a profile, the children of one path, recipes, and budgets.
 #![tactic(auto)]
 
 mod budget;
+mod recipes;
 mod services;
 
 use allocative::{FlameGraph, FlameGraphOutput, profile_value, push_path};
 use anyhow::Result;
 use budget::serve;
+use recipes::print_recipes;
 use services::{print_budget, print_cache, print_ledger};
 use std::alloc::Global;
 use std::cmp::Reverse;
 
-/// Prints the profile of a list of two names, and returns it.
-fn print_names(rt: &impl Print, alloc: Global) -> Result<FlameGraphOutput> {
+/// Returns the profile of a list of two names.
+fn profile_names(alloc: Global) -> Result<FlameGraphOutput> {
     let ada = String::from_str(alloc, "Ada")?;
     let grace = String::from_str(alloc, "Grace")?;
     let names = vec![in alloc; ada, grace]?;
-    let profile = profile_value(alloc, &names)?;
-    print!(rt; "{}", profile.flamegraph().write()?)?;
-    Ok(profile)
+    Ok(profile_value(alloc, &names)?)
 }
 
 /// Prints the paths with the most bytes of their own, ten at most.
@@ -45,9 +45,10 @@ fn print_children(rt: &impl Print, graph: &FlameGraph, path: &[&str]) -> Result<
 }
 
 fn main(rt: HostRuntime) -> Result<()> {
-    let profile = print_names(&rt, rt.alloc())?;
+    let profile = profile_names(rt.alloc())?;
     print_heaviest(&rt, rt.alloc(), profile.flamegraph())?;
     print_children(&rt, profile.flamegraph(), &["Vec", "ptr"])?;
+    print_recipes(&rt, rt.alloc())?;
     print_budget(&rt, rt.alloc())?;
     print_ledger(&rt, rt.alloc())?;
     print_cache(&rt, rt.alloc())?;
