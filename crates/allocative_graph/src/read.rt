@@ -68,12 +68,12 @@ impl<T: Drop> From<AllocFailed<T>> for ReadFault {
 
 impl FlameGraph {
     /// The graph of collapsed stacks. Each line of the text is a path, its last space and the bytes of that path in
-    /// decimal digits. A path is its keys with `;` between them. Lines with equal paths add up, in whatever order they
-    /// come. The keys are parts of the text, so nothing of it is copied.
+    /// decimal digits. A path is its keys with `;` between them. Lines may come in any order, and equal paths add up.
+    /// The keys are parts of the text, so nothing of it is copied.
     ///
     /// A line ends at a line feed, or at a carriage return and a line feed; the last one may end with the text. A key
-    /// may be empty, and may have spaces, but a path has at least one byte. A blank line is passed over. Any other line
-    /// that is none of this is refused with `Line`, and so is a path of more than [`LEVELS`] keys. `TooLarge` says that
+    /// may be empty, and may have spaces, but a path has at least one byte. Blank lines are skipped. It returns `Line`
+    /// for any other line that is not of this form, or whose path has more than [`LEVELS`] keys, and `TooLarge` only if
     /// the bytes of all lines together exceed `usize::MAX`. The only other error is that memory runs out.
     pub fn read(alloc: Global, text: &'static str) -> Result<FlameGraph, ReadFault>
         ensures graph { IfOk result (λ graph. IsRead text.now graph) }

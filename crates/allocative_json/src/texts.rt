@@ -47,7 +47,7 @@ fn without_unused(alloc: Global, text: &str) -> Result<String, AllocError>
 
 /// The text of the output's graph, and its warnings. With `exact` the text is without the lines whose last key is
 /// `unused_capacity`. A line's last key stands after its last `;`, or from its beginning, and before its last space,
-/// whatever the keys have in them. The only error is that memory runs out.
+/// even if a key has such characters. The only error is that memory runs out.
 pub fn report(alloc: Global, output: &FlameGraphOutput, exact: bool) -> Result<Report, Fault>
     ensures { MatchResult result (AreTexts exact output.now) (λ f. f ≡ Fault.Memory) }
 {

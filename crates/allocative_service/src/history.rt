@@ -44,8 +44,8 @@ impl History {
         self.profiles.len()
     }
 
-    /// Adds a profile as the latest. The earliest goes if there would be too many. The only error is that memory runs
-    /// out, and then the history is unchanged.
+    /// Adds a profile as the latest. If there would be too many, the earliest is dropped. The only error is that memory
+    /// runs out, and then the history is unchanged.
     pub fn keep(&mut self, profile: FlameGraph) -> Result<(), AllocError>
         ensures kept { OnOk result (Keeps profile self.old self.new) }
         ensures unchanged { OnErr result (profiles_of self.new ≡ profiles_of self.old) }
@@ -56,8 +56,8 @@ impl History {
         Ok(())
     }
 
-    /// Takes a profile of a value, as `profile_value` does, and keeps its graph as the latest. It is refused if
-    /// `profile_value` is, and with `Memory` if memory runs out. After an error the history is unchanged.
+    /// Takes a profile of a value, as `profile_value` does, and keeps its graph as the latest. It fails as
+    /// `profile_value` does, and with `Memory` if memory runs out. After an error the history is unchanged.
     pub fn take_profile<T: Allocative>(&mut self, alloc: Global, value: &T) -> Result<(), Refusal>
         ensures taken { OnOk result (TakesProfile (T.may_show value.now) self.old self.new) }
         ensures refused { IfErr result (MayRefuseProfile T.is_strict (T.may_show value.now)) }

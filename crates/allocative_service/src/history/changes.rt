@@ -27,7 +27,7 @@ pub enum ChangeKind {
     Went,
     /// It had bytes, and has more after.
     Grew,
-    /// It has bytes, and had more before, or as many, which no change of a history has.
+    /// It has bytes, and had at least as many before. In a change of a history it had more.
     Shrank,
 }
 
