@@ -15,10 +15,8 @@ use std::collections::{BTreeMap, HashMap};
 use std::path::PathBuf;
 use std::rc::Rc;
 use std::test::Fail;
-use test_generated_types::placed::{Nowhere, OfOne};
-use test_generated_types::types::{
-    Category, Event, Found, Job, Json, Payload, Sextet, Table, Trigger,
-};
+use test_generated_types::placed::OfOne;
+use test_generated_types::types::{Event, Found, Job, Json, Payload, Placed, Table, Trigger};
 
 #[test]
 fn types_in_place(rt: HostRuntime) -> Result<(), Fail> {
@@ -37,10 +35,9 @@ fn types_in_place(rt: HostRuntime) -> Result<(), Fail> {
                 "Request 32\nRequest;from;u32 4\nRequest;to;u32 4\n",
             ),
             (&OfOne { number: 5 }, "OfOne;number;u64 8\n"),
-            (&Nowhere, ""),
             (
-                &Sextet(1, 2, 3, 4, 5, 6, 0.5, 1.5),
-                "Sextet 9\nSextet;0;u8 1\nSextet;1;u8 1\nSextet;2;u8 1\nSextet;3;u8 1\nSextet;4;u8 1\nSextet;5;u16 2\nSextet;7 8\n",
+                &Placed::Somewhere(5u8, 0.5),
+                "Placed;Somewhere 15\nPlaced;Somewhere;0;u8 1\n",
             ),
         ],
     )
@@ -152,16 +149,11 @@ fn table(alloc: Global) -> Table<u32, u16> {
     Table {
         values: HashMap::new(alloc),
         last: 1,
-        spare: None,
     }
 }
 
 fn found(alloc: Global) -> Found<'static, 2> {
-    Found {
-        text: "ab",
-        places: [1, 2],
-        counts: BTreeMap::new(alloc),
-    }
+    Found(1, 2, 3, [4, 5], BTreeMap::new(alloc), 0.5, "ab")
 }
 
 #[test]
@@ -170,48 +162,34 @@ fn written_structs_and_enums(rt: HostRuntime) -> Result<(), Fail> {
     let text =
         "Event 8\nEvent;Sale;prices;Vec 16\nEvent;Sale;prices;Vec;ptr 8\nEvent;Sale;prices;Vec;ptr;u64 16\nEvent;Sale;shelf;u64 8\n";
     shows(alloc, &event(alloc)?, text)?;
-    let text =
-        "Table 2\nTable;last;u16 2\nTable;spare;Option 4\nTable;values;HashMap 40\nTable;values;HashMap;data 8\n";
+    let text = "Table 6\nTable;last;u16 2\nTable;values;HashMap 40\nTable;values;HashMap;data 8\n";
     shows(alloc, &table(alloc), text)?;
     let text =
-        "Found 16\nFound;counts;BTreeMap 16\nFound;counts;BTreeMap;data 8\nFound;places;u32;data;u32 8\n";
+        "Found 21\nFound;0;u8 1\nFound;1;u8 1\nFound;2;u8 1\nFound;3;u32;data;u32 8\nFound;4;BTreeMap 16\nFound;4;BTreeMap;data 8\nFound;5 8\n";
     shows(alloc, &found(alloc), text)
 }
 
-/// A list of nothing, of a box, and of an absent box beside a number.
+/// A pair of nothing and of a list with an empty table.
 fn json(alloc: Global) -> Result<Json, AllocError> {
-    let boxed = Json::Boxed(Box::new(alloc, Json::Null)?);
-    let maybe = Json::Maybe {
-        first: None,
-        number: 5,
-    };
-    Ok(Json::List(vec![in alloc; Json::Null, boxed, maybe]?))
-}
-
-fn category(alloc: Global) -> Category {
-    Category {
-        name: String::new(alloc),
-        children: Vec::new(alloc),
-        rank: None,
-        by_name: HashMap::new(alloc),
-    }
+    Ok(Json::Pair {
+        first: Some(Box::new(alloc, Json::Null)?),
+        rest: vec![in alloc; Json::Table(BTreeMap::new(alloc))]?,
+    })
 }
 
 /// A job that starts once another one is done.
 fn job(alloc: Global) -> Result<Job, AllocError> {
     let first = Job {
-        id: 1,
         payload: Payload::Nothing,
-        after: Vec::new(alloc),
+        earlier_by_number: HashMap::new(alloc),
     };
     let trigger = Trigger::Done {
         job: Box::new(alloc, first)?,
-        within: 5,
+        within_seconds: 5,
     };
     Ok(Job {
-        id: 2,
-        payload: Payload::When(Some(trigger)),
-        after: Vec::new(alloc),
+        payload: Payload::Done(Some(trigger)),
+        earlier_by_number: HashMap::new(alloc),
     })
 }
 
@@ -219,12 +197,9 @@ fn job(alloc: Global) -> Result<Job, AllocError> {
 fn written_types_that_hold_themselves(rt: HostRuntime) -> Result<(), Fail> {
     let alloc = rt.alloc();
     let text =
-        "Json 8\nJson;List;Vec 16\nJson;List;Vec;ptr 8\nJson;List;Vec;ptr;Json 64\nJson;List;Vec;ptr;Json;Boxed;Box;ptr 8\nJson;List;Vec;ptr;Json;Boxed;Box;ptr;Json 32\nJson;List;Vec;ptr;Json;Maybe 4\nJson;List;Vec;ptr;Json;Maybe;first;Option 16\nJson;List;Vec;ptr;Json;Maybe;number;u32 4\n";
+        "Json 8\nJson;Pair;first;Option 8\nJson;Pair;first;Option;Some;Box;ptr 8\nJson;Pair;first;Option;Some;Box;ptr;Json 48\nJson;Pair;rest;Vec 16\nJson;Pair;rest;Vec;ptr 8\nJson;Pair;rest;Vec;ptr;Json 24\nJson;Pair;rest;Vec;ptr;Json;Table;BTreeMap 16\nJson;Pair;rest;Vec;ptr;Json;Table;BTreeMap;data 8\n";
     shows(alloc, &json(alloc)?, text)?;
     let text =
-        "Category;by_name;HashMap 40\nCategory;by_name;HashMap;data 8\nCategory;children;Vec 24\nCategory;name;String 16\nCategory;name;String;ptr 8\nCategory;rank;Option 16\n";
-    shows(alloc, &category(alloc), text)?;
-    let text =
-        "Job;after;Vec 24\nJob;id;u64 8\nJob;payload;Payload 8\nJob;payload;Payload;When;Option 8\nJob;payload;Payload;When;Option;Some;Trigger 8\nJob;payload;Payload;When;Option;Some;Trigger;Done;job;Box;ptr 8\nJob;payload;Payload;When;Option;Some;Trigger;Done;job;Box;ptr;Job;after;Vec 24\nJob;payload;Payload;When;Option;Some;Trigger;Done;job;Box;ptr;Job;id;u64 8\nJob;payload;Payload;When;Option;Some;Trigger;Done;job;Box;ptr;Job;payload;Payload 40\nJob;payload;Payload;When;Option;Some;Trigger;Done;within;u64 8\n";
+        "Job;earlier_by_number;HashMap 40\nJob;earlier_by_number;HashMap;data 8\nJob;payload;Payload 8\nJob;payload;Payload;Done;Option 8\nJob;payload;Payload;Done;Option;Some;Trigger 8\nJob;payload;Payload;Done;Option;Some;Trigger;Done;job;Box;ptr 8\nJob;payload;Payload;Done;Option;Some;Trigger;Done;job;Box;ptr;Job;earlier_by_number;HashMap 40\nJob;payload;Payload;Done;Option;Some;Trigger;Done;job;Box;ptr;Job;earlier_by_number;HashMap;data 8\nJob;payload;Payload;Done;Option;Some;Trigger;Done;job;Box;ptr;Job;payload;Payload 40\nJob;payload;Payload;Done;Option;Some;Trigger;Done;within_seconds;u64 8\n";
     shows(alloc, &job(alloc)?, text)
 }

@@ -1,4 +1,4 @@
-//! Types behind which `bin/implement --in-place` put their implementations.
+//! A type behind which `bin/implement --in-place` put its implementations.
 
 use allocative::{Allocative, Field};
 
@@ -51,51 +51,6 @@ impl Allocative for OfOne {
     fn visit(&self, visitor: &mut Visitor<'_>) -> Result<(), Refusal> {
         let number = Field("number", &self.number);
         Whole(self, number).enter(visitor)
-    }
-}
-// allocative: end
-
-/// A type with nothing in it.
-#[derive(Drop)]
-pub struct Nowhere;
-// allocative: begin
-type NowhereLayout = Record<()>;
-
-impl Described for Nowhere {
-    ghost name = { codes "Nowhere" };
-
-    ghost align = { ⟦<NowhereLayout as Described>⟧.align };
-
-    ghost needs_drop = { ⟦<NowhereLayout as Described>⟧.needs_drop };
-
-    ghost size = { ⟦<NowhereLayout as Described>⟧.size };
-
-    fn name() -> &'static str {
-        "Nowhere"
-    }
-
-    fn align() -> usize {
-        <NowhereLayout>::align()
-    }
-
-    fn needs_drop() -> bool {
-        <NowhereLayout>::needs_drop()
-    }
-
-    fn size() -> Option<usize> {
-        <NowhereLayout>::size()
-    }
-}
-
-#[tactic(auto, using(allocative::proofs::Parts::parts))]
-impl Allocative for Nowhere {
-    ghost may_show = { λ x. shows.Field (codes "Nowhere") ⟦<NowhereLayout as Described>⟧.size
-        shows.Nothing };
-
-    ghost is_strict = { true };
-
-    fn visit(&self, visitor: &mut Visitor<'_>) -> Result<(), Refusal> {
-        Whole(self, ()).enter(visitor)
     }
 }
 // allocative: end

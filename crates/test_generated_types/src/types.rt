@@ -7,17 +7,16 @@ use std::hash::Hash;
 
 /// Fields by number: six that are shown, one that is passed over, and one that is shown by its size.
 #[derive(Drop)]
-pub struct Sextet(
+pub struct Found<'a, const N: usize>(
     pub u8,
     pub u8,
     pub u8,
-    pub u8,
-    pub u8,
-    pub u16,
-    // allocative: skip
-    pub f64,
+    pub [u32; N],
+    pub BTreeMap<u64, Vec<Event>>,
     // allocative: size 8
     pub f64,
+    // allocative: skip
+    pub &'a str,
 );
 
 /// Values by their names, and the last of them.
@@ -28,28 +27,17 @@ where
 {
     pub values: HashMap<K, V>,
     pub last: V,
-    pub spare: Option<V>,
 }
 
-/// A value with its name, or with its place, which is passed over.
+/// Nothing, or a value with its place, which is passed over.
 #[derive(Drop)]
-pub enum Named<T> {
-    Nobody,
-    Somebody(String, T),
+pub enum Placed<T> {
+    Nowhere,
     Somewhere(
         T,
         // allocative: skip
         f64,
     ),
-}
-
-/// A text that stands elsewhere, and where it was found.
-#[derive(Drop)]
-pub struct Found<'a, const N: usize> {
-    // allocative: skip
-    pub text: &'a str,
-    pub places: [u32; N],
-    pub counts: BTreeMap<u64, Vec<Event>>,
 }
 
 /// What happened in a store.
@@ -66,25 +54,14 @@ pub enum Cart {
     BoughtItems { count: u64, names: Vec<String> },
 }
 
-/// A category, and those below it.
-#[derive(Drop)]
-pub struct Category {
-    pub name: String,
-    pub children: Vec<Category>,
-    pub rank: Option<u64>,
-    pub by_name: HashMap<String, Category>,
-}
-
 /// A value of a document.
 #[derive(Drop)]
 pub enum Json {
     Null,
-    List(Vec<Json>),
     Table(BTreeMap<String, Json>),
-    Boxed(Box<Json>),
-    Maybe {
+    Pair {
         first: Option<Box<Json>>,
-        number: u32,
+        rest: Vec<Json>,
     },
 }
 
@@ -98,9 +75,8 @@ pub enum Rope {
 #[cycle(jobs)]
 #[derive(Drop)]
 pub struct Job {
-    pub id: u64,
     pub payload: Payload,
-    pub after: Vec<Job>,
+    pub earlier_by_number: HashMap<u64, Job>,
 }
 
 /// What a job does.
@@ -108,8 +84,7 @@ pub struct Job {
 #[derive(Drop)]
 pub enum Payload {
     Nothing,
-    Steps(Vec<Job>),
-    When(Option<Trigger>),
+    Done(Option<Trigger>),
 }
 
 /// What starts a job.
@@ -117,5 +92,5 @@ pub enum Payload {
 #[derive(Drop)]
 pub enum Trigger {
     Nothing,
-    Done { job: Box<Job>, within: u64 },
+    Done { job: Box<Job>, within_seconds: u64 },
 }

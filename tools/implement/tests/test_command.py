@@ -12,6 +12,18 @@ import unittest
 
 from ..command import main, read
 
+# What is shown of a struct without fields.
+NOWHERE = """impl Allocative for Nowhere {
+    ghost may_show = { λ x. shows.Field (codes "Nowhere") ⟦<NowhereLayout as Described>⟧.size
+        shows.Nothing };
+
+    ghost is_strict = { true };
+
+    fn visit(&self, visitor: &mut Visitor<'_>) -> Result<(), Refusal> {
+        Whole(self, ()).enter(visitor)
+    }
+}
+"""
 POINT = "#[derive(Drop)]\npub struct Point {\n    pub x: u32,\n}\n"
 CASES = "#[derive(Drop)]\nenum E {\n    A,\n    B(u8),\n}\n"
 ANSWERS = "proofs/a/shown/EAllocative/visit/Answers.antt"
@@ -353,8 +365,12 @@ class CommandTest(unittest.TestCase):
             self.assertEqual((run(path, "--in-place")[:2], read(path)), ((0, ""), written))
         self.assertEqual((run(path, "--check"), os.stat(path).st_mode & 0o777), ((0, "", ""), 0o640))
         self.assertEqual(run(self.put("src/placed.rt", written.replace("u64", "u32", 1)), "--check")[0], 1)
-        told = run(self.put("src/placed.rt", written.replace("Drop)]\npub struct No", "Copy2)]\npub struct No")), "--in-place")[2]
-        self.assertIn(f"placed.rt:{written[: written.index('struct Nowhere')].count(chr(10)) + 1}: Nowhere: what is shown", told)
+        nowhere = f"{written}\n#[derive(Copy2)]\npub struct Nowhere;\n"
+        told = run(self.put("src/placed.rt", nowhere), "--in-place")[2]
+        self.assertIn(f"placed.rt:{nowhere.count(chr(10))}: Nowhere: what is shown", told)
+        self.assertEqual(run(self.put("src/placed.rt", nowhere.replace("Copy2", "Drop")), "--in-place")[0], 0)
+        self.assertTrue(self.get("src/placed.rt").endswith(f"{NOWHERE}// allocative: end\n"))
+        self.assertEqual(self.get("src/placed.rt").count("use allocative::{"), 2)
 
     def test_what_is_left_alone(self) -> None:
         text = POINT + 'const TEXT: &str = "\n// allocative: begin\n";\nstruct B;\nimpl Allocative for B {}\n'

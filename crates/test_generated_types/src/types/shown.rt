@@ -5,7 +5,6 @@ ghost use Rattle.std.specs.Prelude.{codes, true, ◌&&◌};
 ghost use Rattle.allocative.specs.Shows as shows;
 ghost use Rattle.allocative.specs.Levels.{both, both_levels, box_of, btree_map_of, child, field, first, hash_map_of, opened, option_in, pair_in, plain, recursive, second, vec_in};
 ghost use Rattle.allocative_tally.specs.Shapes.{Beside, EntryAt, Wide};
-ghost use Rattle.test_generated_types.specs.declared.types.Category.{out-Category};
 ghost use Rattle.test_generated_types.specs.declared.types.Job.{out-Job};
 ghost use Rattle.test_generated_types.specs.declared.types.Json.{Json-F, out-Json};
 ghost use Rattle.test_generated_types.specs.declared.types.Payload.{Payload-F, out-Payload};
@@ -19,45 +18,19 @@ use allocative::{
 use allocative_tally::field::{CountedField, FieldSum, FieldTally, count, count_own};
 use allocative_tally::tally::{CountError, Entries, InlineSum, Sum, Tallied, Tally};
 
-type SextetLayout = Record<And<(u8, (u8, (u8, (u8, (u8, ()))))), (u16, (f64, (f64, ())))>>;
+type FoundLayout<const N: usize> = Record<
+    And<(u8, (u8, (u8, ([u32; N], (BTreeMap<u64, Vec<Event>>, ()))))), (f64, ((u64, u64), ()))>,
+>;
 
-impl Described for Sextet {
-    ghost name = { codes "Sextet" };
-
-    ghost align = { ⟦<SextetLayout as Described>⟧.align };
-
-    ghost needs_drop = { ⟦<SextetLayout as Described>⟧.needs_drop };
-
-    ghost size = { ⟦<SextetLayout as Described>⟧.size };
-
-    fn name() -> &'static str {
-        "Sextet"
-    }
-
-    fn align() -> usize {
-        <SextetLayout>::align()
-    }
-
-    fn needs_drop() -> bool {
-        <SextetLayout>::needs_drop()
-    }
-
-    fn size() -> Option<usize> {
-        <SextetLayout>::size()
-    }
-}
-
-impl Allocative for Sextet {
-    ghost may_show = { λ x. shows.Field (codes "Sextet") ⟦<SextetLayout as Described>⟧.size (shows.Both
+impl<'a, const N: usize> Allocative for Found<'a, N> {
+    ghost may_show = { λ x. shows.Field (codes "Found") ⟦<FoundLayout<N> as Described>⟧.size (shows.Both
         (shows.Both
         (shows.Field (codes "0") ⟦<u8 as Described>⟧.size (⟦<u8 as Allocative>⟧.may_show x.0)) (shows.Both
         (shows.Field (codes "1") ⟦<u8 as Described>⟧.size (⟦<u8 as Allocative>⟧.may_show x.1)) (shows.Both
         (shows.Field (codes "2") ⟦<u8 as Described>⟧.size (⟦<u8 as Allocative>⟧.may_show x.2)) (shows.Both
-        (shows.Field (codes "3") ⟦<u8 as Described>⟧.size (⟦<u8 as Allocative>⟧.may_show x.3))
-        (shows.Field (codes "4") ⟦<u8 as Described>⟧.size (⟦<u8 as Allocative>⟧.may_show x.4))))))
-        (shows.Both
-        (shows.Field (codes "5") ⟦<u16 as Described>⟧.size (⟦<u16 as Allocative>⟧.may_show x.5))
-        (shows.Inside (codes "7") 8 shows.Nothing))) };
+        (shows.Field (codes "3") ⟦<[u32; N] as Described>⟧.size (⟦<[u32; N] as Allocative>⟧.may_show x.3))
+        (shows.Field (codes "4") ⟦<BTreeMap<u64, Vec<Event>> as Described>⟧.size (⟦<BTreeMap<u64, Vec<Event>> as Allocative>⟧.may_show x.4))))))
+        (shows.Inside (codes "5") 8 shows.Nothing)) };
 
     ghost is_strict = { true };
 
@@ -66,14 +39,13 @@ impl Allocative for Sextet {
         let b = Field("1", &self.1);
         let c = Field("2", &self.2);
         let d = Field("3", &self.3);
-        let e = Field("4", &self.4);
-        let f = Field("5", &self.5);
-        let g = Inside("7", 8, ());
-        Whole(self, ((a, b, c, d, e), (f, g))).enter(visitor)
+        let e = CountedField("4", &self.4);
+        let f = Inside("5", 8, ());
+        Declared("Found", <FoundLayout<N>>::size(), ((a, b, c, d, e), f)).enter(visitor)
     }
 }
 
-type TableLayout<K, V> = Record<(HashMap<K, V>, (V, (Option<V>, ())))>;
+type TableLayout<K, V> = Record<(HashMap<K, V>, (V, ()))>;
 
 impl<K: Allocative + Described, V: Allocative + Described> Described for Table<K, V>
 where
@@ -109,50 +81,44 @@ where
     K: Eq + Hash,
 {
     ghost may_show = { λ x. shows.Field (codes "Table") ⟦<TableLayout<K, V> as Described>⟧.size (shows.Both
-        (shows.Field (codes "values") ⟦<HashMap<K, V> as Described>⟧.size (⟦<HashMap<K, V> as Allocative>⟧.may_show x.values)) (shows.Both
-        (shows.Field (codes "last") ⟦<V as Described>⟧.size (⟦<V as Allocative>⟧.may_show x.last))
-        (shows.Field (codes "spare") ⟦<Option<V> as Described>⟧.size (⟦<Option<V> as Allocative>⟧.may_show x.spare)))) };
+        (shows.Field (codes "values") ⟦<HashMap<K, V> as Described>⟧.size (⟦<HashMap<K, V> as Allocative>⟧.may_show x.values))
+        (shows.Field (codes "last") ⟦<V as Described>⟧.size (⟦<V as Allocative>⟧.may_show x.last))) };
 
-    ghost is_strict = { ⟦<HashMap<K, V> as Allocative>⟧.is_strict && (⟦<V as Allocative>⟧.is_strict && (⟦<Option<V> as Allocative>⟧.is_strict)) };
+    ghost is_strict = { ⟦<HashMap<K, V> as Allocative>⟧.is_strict && (⟦<V as Allocative>⟧.is_strict) };
 
     fn visit(&self, visitor: &mut Visitor<'_>) -> Result<(), Refusal> {
         let values = Field("values", &self.values);
         let last = Field("last", &self.last);
-        let spare = Field("spare", &self.spare);
-        Whole(self, (values, last, spare)).enter(visitor)
+        Whole(self, (values, last)).enter(visitor)
     }
 }
 
 /// Values of `Table`, counted.
 #[derive(Drop)]
-pub struct TableTally<S1, S2, S3> {
+pub struct TableTally<S1, S2> {
     own: Sum,
     values: FieldTally<S1>,
     last: FieldTally<S2>,
-    spare: FieldTally<S3>,
 }
 
 #[tactic(auto)]
-impl<S1: Tally, S2: Tally, S3: Tally> Tally for TableTally<S1, S2, S3> {
+impl<S1: Tally, S2: Tally> Tally for TableTally<S1, S2> {
     ghost shape = { λ t. EntryAt Wide (codes "Table") t.own
         (Beside (EntryAt Wide (codes "values") t.values.own (S1.shape t.values.value))
-        (Beside (EntryAt Wide (codes "last") t.last.own (S2.shape t.last.value))
-        (EntryAt Wide (codes "spare") t.spare.own (S3.shape t.spare.value)))) };
+        (EntryAt Wide (codes "last") t.last.own (S2.shape t.last.value))) };
 
     fn none() -> Self {
         TableTally {
             own: Sum::none(),
             values: FieldTally::none(),
             last: FieldTally::none(),
-            spare: FieldTally::none(),
         }
     }
 
     fn enter(&self, visitor: &mut Visitor<'_>) -> Result<(), Refusal> {
         let values = FieldSum("values", &self.values);
         let last = FieldSum("last", &self.last);
-        let spare = FieldSum("spare", &self.spare);
-        InlineSum("Table", self.own, (values, (last, spare))).enter(visitor)
+        InlineSum("Table", self.own, (values, last)).enter(visitor)
     }
 }
 
@@ -161,62 +127,52 @@ impl<K: Tallied, V: Tallied> Tallied for Table<K, V>
 where
     K: Eq + Hash,
 {
-    type Tally = TableTally<
-        <HashMap<K, V> as Tallied>::Tally,
-        <V as Tallied>::Tally,
-        <Option<V> as Tallied>::Tally,
-    >;
+    type Tally = TableTally<<HashMap<K, V> as Tallied>::Tally, <V as Tallied>::Tally>;
 
     fn tally(&self, tally: &mut Self::Tally) -> Result<(), CountError> {
         count_own(&mut tally.own, <Table<K, V>>::size())?;
         count(&mut tally.values, &self.values)?;
         count(&mut tally.last, &self.last)?;
-        count(&mut tally.spare, &self.spare)?;
         Ok(())
     }
 }
 
-type NamedLayout<T> = Record<(u8, Or<(String, (T, ())), (T, (f64, ()))>)>;
+type PlacedLayout<T> = Record<(u8, (T, (f64, ())))>;
 
-type NamedSomebodyFields<T> = Record<(String, (T, ()))>;
+type PlacedSomewhereFields<T> = Record<(T, (f64, ()))>;
 
-type NamedSomewhereFields<T> = Record<(T, (f64, ()))>;
+impl<T: Allocative + Described> Described for Placed<T> {
+    ghost name = { codes "Placed" };
 
-impl<T: Allocative + Described> Described for Named<T> {
-    ghost name = { codes "Named" };
+    ghost align = { ⟦<PlacedLayout<T> as Described>⟧.align };
 
-    ghost align = { ⟦<NamedLayout<T> as Described>⟧.align };
+    ghost needs_drop = { ⟦<PlacedLayout<T> as Described>⟧.needs_drop };
 
-    ghost needs_drop = { ⟦<NamedLayout<T> as Described>⟧.needs_drop };
-
-    ghost size = { ⟦<NamedLayout<T> as Described>⟧.size };
+    ghost size = { ⟦<PlacedLayout<T> as Described>⟧.size };
 
     fn name() -> &'static str {
-        "Named"
+        "Placed"
     }
 
     fn align() -> usize {
-        <NamedLayout<T>>::align()
+        <PlacedLayout<T>>::align()
     }
 
     fn needs_drop() -> bool {
-        <NamedLayout<T>>::needs_drop()
+        <PlacedLayout<T>>::needs_drop()
     }
 
     fn size() -> Option<usize> {
-        <NamedLayout<T>>::size()
+        <PlacedLayout<T>>::size()
     }
 }
 
-impl<T: Allocative + Described> Allocative for Named<T> {
-    ghost use Rattle.test_generated_types.specs.declared.types.Named.TheVariants.{Nobody, Somebody, Somewhere};
+impl<T: Allocative + Described> Allocative for Placed<T> {
+    ghost use Rattle.test_generated_types.specs.declared.types.Placed.TheVariants.{Nowhere, Somewhere};
 
-    ghost may_show = { λ x. shows.Field (codes "Named") ⟦<NamedLayout<T> as Described>⟧.size (elim x [
-      | Nobody ↦ shows.Nothing
-      | Somebody a b ↦ shows.Field (codes "Somebody") ⟦<NamedSomebodyFields<T> as Described>⟧.size (shows.Both
-          (shows.Field (codes "0") ⟦<String as Described>⟧.size (⟦<String as Allocative>⟧.may_show a))
-          (shows.Field (codes "1") ⟦<T as Described>⟧.size (⟦<T as Allocative>⟧.may_show b)))
-      | Somewhere a b ↦ shows.Field (codes "Somewhere") ⟦<NamedSomewhereFields<T> as Described>⟧.size
+    ghost may_show = { λ x. shows.Field (codes "Placed") ⟦<PlacedLayout<T> as Described>⟧.size (elim x [
+      | Nowhere ↦ shows.Nothing
+      | Somewhere a b ↦ shows.Field (codes "Somewhere") ⟦<PlacedSomewhereFields<T> as Described>⟧.size
           (shows.Field (codes "0") ⟦<T as Described>⟧.size (⟦<T as Allocative>⟧.may_show a))
     ]) };
 
@@ -224,37 +180,13 @@ impl<T: Allocative + Described> Allocative for Named<T> {
 
     fn visit(&self, visitor: &mut Visitor<'_>) -> Result<(), Refusal> {
         match self {
-            Named::Nobody => Whole(self, ()).enter(visitor),
-            Named::Somebody(a, b) => {
+            Placed::Nowhere => Whole(self, ()).enter(visitor),
+            Placed::Somewhere(a, _) => {
                 let a = Field("0", a);
-                let b = Field("1", b);
-                let inside = Declared("Somebody", <NamedSomebodyFields<T>>::size(), (a, b));
-                Whole(self, inside).enter(visitor)
-            }
-            Named::Somewhere(a, _) => {
-                let a = Field("0", a);
-                let inside = Declared("Somewhere", <NamedSomewhereFields<T>>::size(), a);
+                let inside = Declared("Somewhere", <PlacedSomewhereFields<T>>::size(), a);
                 Whole(self, inside).enter(visitor)
             }
         }
-    }
-}
-
-type FoundLayout<const N: usize> = Record<
-    ((u64, u64), ([u32; N], (BTreeMap<u64, Vec<Event>>, ()))),
->;
-
-impl<'a, const N: usize> Allocative for Found<'a, N> {
-    ghost may_show = { λ x. shows.Field (codes "Found") ⟦<FoundLayout<N> as Described>⟧.size (shows.Both
-        (shows.Field (codes "places") ⟦<[u32; N] as Described>⟧.size (⟦<[u32; N] as Allocative>⟧.may_show x.places))
-        (shows.Field (codes "counts") ⟦<BTreeMap<u64, Vec<Event>> as Described>⟧.size (⟦<BTreeMap<u64, Vec<Event>> as Allocative>⟧.may_show x.counts))) };
-
-    ghost is_strict = { true };
-
-    fn visit(&self, visitor: &mut Visitor<'_>) -> Result<(), Refusal> {
-        let places = Field("places", &self.places);
-        let counts = CountedField("counts", &self.counts);
-        Declared("Found", <FoundLayout<N>>::size(), (places, counts)).enter(visitor)
     }
 }
 
@@ -484,68 +416,14 @@ impl Tallied for Cart {
     }
 }
 
-type CategoryLayout = Record<(String, (Vec<()>, (Option<u64>, (HashMap<(), ()>, ()))))>;
-
-impl Described for Category {
-    ghost name = { codes "Category" };
-
-    ghost align = { ⟦<CategoryLayout as Described>⟧.align };
-
-    ghost needs_drop = { ⟦<CategoryLayout as Described>⟧.needs_drop };
-
-    ghost size = { ⟦<CategoryLayout as Described>⟧.size };
-
-    fn name() -> &'static str {
-        "Category"
-    }
-
-    fn align() -> usize {
-        <CategoryLayout>::align()
-    }
-
-    fn needs_drop() -> bool {
-        <CategoryLayout>::needs_drop()
-    }
-
-    fn size() -> Option<usize> {
-        <CategoryLayout>::size()
-    }
-}
-
-impl Allocative for Category {
-    ghost may_show = { recursive (λ x. field (codes "Category") ⟦<CategoryLayout as Described>⟧.size (both
-        (plain (shows.Field (codes "name") ⟦<String as Described>⟧.size (⟦<String as Allocative>⟧.may_show (out-Category x).name))) (both
-        (field (codes "children") ⟦<Vec<()> as Described>⟧.size (vec_in ⟦<CategoryLayout as Described>⟧.size child (out-Category x).children)) (both
-        (plain (shows.Field (codes "rank") ⟦<Option<u64> as Described>⟧.size (⟦<Option<u64> as Allocative>⟧.may_show (out-Category x).rank)))
-        (field (codes "by_name") ⟦<HashMap<(), ()> as Described>⟧.size (hash_map_of (pair_in ⟦<String as Described>⟧.size ⟦<String as Allocative>⟧.may_show ⟦<CategoryLayout as Described>⟧.size child) (out-Category x).by_name.entries)))))) };
-
-    ghost is_strict = { true };
-
-    fn visit(&self, visitor: &mut Visitor<'_>) -> Result<(), Refusal> {
-        let name = Field("name", &self.name);
-        let children = Field("children", &self.children);
-        let rank = Field("rank", &self.rank);
-        let by_name = Field("by_name", &self.by_name);
-        Declared(
-            "Category",
-            <Self as Described>::size(),
-            (name, children, rank, by_name),
-        )
-        .enter(visitor)
-    }
-}
-
 type JsonLayout = Record<
     (
         u8,
-        Or<
-            Or<(Vec<()>, ()), (BTreeMap<(), ()>, ())>,
-            Or<(Box<()>, ()), (Option<Box<()>>, (u32, ()))>,
-        >,
+        Or<(BTreeMap<(), ()>, ()), (Option<Box<()>>, (Vec<()>, ()))>,
     ),
 >;
 
-type JsonMaybeFields = Record<(Option<Box<()>>, (u32, ()))>;
+type JsonPairFields = Record<(Option<Box<()>>, (Vec<()>, ()))>;
 
 impl Described for Json {
     ghost name = { codes "Json" };
@@ -576,12 +454,10 @@ impl Described for Json {
 impl Allocative for Json {
     ghost may_show = { recursive (opened out-Json (λ x. field (codes "Json") ⟦<JsonLayout as Described>⟧.size (elim x [
       | Json-F.Null ↦ plain shows.Nothing
-      | Json-F.List a ↦ field (codes "List") ⟦<Vec<()> as Described>⟧.size (vec_in ⟦<JsonLayout as Described>⟧.size child a)
       | Json-F.Table a ↦ field (codes "Table") ⟦<BTreeMap<(), ()> as Described>⟧.size (btree_map_of (pair_in ⟦<String as Described>⟧.size ⟦<String as Allocative>⟧.may_show ⟦<JsonLayout as Described>⟧.size child) a.entries)
-      | Json-F.Boxed a ↦ field (codes "Boxed") ⟦<Box<()> as Described>⟧.size (box_of (child a.value))
-      | Json-F.Maybe a b ↦ field (codes "Maybe") ⟦<JsonMaybeFields as Described>⟧.size (both
+      | Json-F.Pair a b ↦ field (codes "Pair") ⟦<JsonPairFields as Described>⟧.size (both
           (field (codes "first") ⟦<Option<Box<()>> as Described>⟧.size (option_in ⟦<Option<Box<()>> as Described>⟧.size ⟦<Box<()> as Described>⟧.size (λ y. box_of (child y.value)) a))
-          (plain (shows.Field (codes "number") ⟦<u32 as Described>⟧.size (⟦<u32 as Allocative>⟧.may_show b))))
+          (field (codes "rest") ⟦<Vec<()> as Described>⟧.size (vec_in ⟦<JsonLayout as Described>⟧.size child b)))
     ]))) };
 
     ghost is_strict = { true };
@@ -589,22 +465,14 @@ impl Allocative for Json {
     fn visit(&self, visitor: &mut Visitor<'_>) -> Result<(), Refusal> {
         match self {
             Json::Null => Declared("Json", <Self as Described>::size(), ()).enter(visitor),
-            Json::List(a) => {
-                let a = Field("List", a);
-                Declared("Json", <Self as Described>::size(), a).enter(visitor)
-            }
             Json::Table(a) => {
                 let a = Field("Table", a);
                 Declared("Json", <Self as Described>::size(), a).enter(visitor)
             }
-            Json::Boxed(a) => {
-                let a = Field("Boxed", a);
-                Declared("Json", <Self as Described>::size(), a).enter(visitor)
-            }
-            Json::Maybe { first, number } => {
+            Json::Pair { first, rest } => {
                 let first = Field("first", first);
-                let number = Field("number", number);
-                let inside = Declared("Maybe", <JsonMaybeFields>::size(), (first, number));
+                let rest = Field("rest", rest);
+                let inside = Declared("Pair", <JsonPairFields>::size(), (first, rest));
                 Declared("Json", <Self as Described>::size(), inside).enter(visitor)
             }
         }
@@ -662,7 +530,7 @@ impl Allocative for Rope {
     }
 }
 
-type JobLayout = Record<(u64, (PayloadLayout, (Vec<()>, ())))>;
+type JobLayout = Record<(PayloadLayout, (HashMap<(), ()>, ()))>;
 
 impl Described for Job {
     ghost name = { codes "Job" };
@@ -693,34 +561,36 @@ impl Described for Job {
 impl Allocative for Job {
     ghost may_show = { λ x. recursive (both_levels
         (λ x. field (codes "Job") ⟦<JobLayout as Described>⟧.size (both
-        (plain (shows.Field (codes "id") ⟦<u64 as Described>⟧.size (⟦<u64 as Allocative>⟧.may_show (out-Job x).id))) (both
         (field (codes "payload") ⟦<PayloadLayout as Described>⟧.size (child (second (first (out-Job x).payload))))
-        (field (codes "after") ⟦<Vec<()> as Described>⟧.size (vec_in ⟦<JobLayout as Described>⟧.size (λ y. child (first y)) (out-Job x).after)))))
+        (field (codes "earlier_by_number") ⟦<HashMap<(), ()> as Described>⟧.size (hash_map_of (pair_in ⟦<u64 as Described>⟧.size ⟦<u64 as Allocative>⟧.may_show ⟦<JobLayout as Described>⟧.size (λ y. child (first y))) (out-Job x).earlier_by_number.entries))))
         (both_levels
         (opened out-Payload (λ x. field (codes "Payload") ⟦<PayloadLayout as Described>⟧.size (elim x [
           | Payload-F.Payload::Nothing ↦ plain shows.Nothing
-          | Payload-F.Steps a ↦ field (codes "Steps") ⟦<Vec<()> as Described>⟧.size (vec_in ⟦<JobLayout as Described>⟧.size (λ y. child (first y)) a)
-          | Payload-F.When a ↦ field (codes "When") ⟦<Option<TriggerLayout> as Described>⟧.size (option_in ⟦<Option<TriggerLayout> as Described>⟧.size ⟦<TriggerLayout as Described>⟧.size (λ y. child (second (second y))) a)
+          | Payload-F.Payload::Done a ↦ field (codes "Done") ⟦<Option<TriggerLayout> as Described>⟧.size (option_in ⟦<Option<TriggerLayout> as Described>⟧.size ⟦<TriggerLayout as Described>⟧.size (λ y. child (second (second y))) a)
         ])))
         (opened out-Trigger (λ x. field (codes "Trigger") ⟦<TriggerLayout as Described>⟧.size (elim x [
           | Trigger-F.Trigger::Nothing ↦ plain shows.Nothing
-          | Trigger-F.Done a b ↦ field (codes "Done") ⟦<TriggerDoneFields as Described>⟧.size (both
+          | Trigger-F.Trigger::Done a b ↦ field (codes "Done") ⟦<TriggerDoneFields as Described>⟧.size (both
               (field (codes "job") ⟦<Box<()> as Described>⟧.size (box_of (child (first a.value))))
-              (plain (shows.Field (codes "within") ⟦<u64 as Described>⟧.size (⟦<u64 as Allocative>⟧.may_show b))))
+              (plain (shows.Field (codes "within_seconds") ⟦<u64 as Described>⟧.size (⟦<u64 as Allocative>⟧.may_show b))))
         ]))))) (first x) };
 
     ghost is_strict = { true };
 
     #[cycle(jobs)]
     fn visit(&self, visitor: &mut Visitor<'_>) -> Result<(), Refusal> {
-        let id = Field("id", &self.id);
         let payload = Field("payload", &self.payload);
-        let after = Field("after", &self.after);
-        Declared("Job", <Self as Described>::size(), (id, payload, after)).enter(visitor)
+        let earlier_by_number = Field("earlier_by_number", &self.earlier_by_number);
+        Declared(
+            "Job",
+            <Self as Described>::size(),
+            (payload, earlier_by_number),
+        )
+        .enter(visitor)
     }
 }
 
-type PayloadLayout = Record<(u8, Or<(Vec<()>, ()), (Option<TriggerLayout>, ())>)>;
+type PayloadLayout = Record<(u8, (Option<TriggerLayout>, ()))>;
 
 impl Described for Payload {
     ghost name = { codes "Payload" };
@@ -751,20 +621,18 @@ impl Described for Payload {
 impl Allocative for Payload {
     ghost may_show = { λ x. recursive (both_levels
         (λ x. field (codes "Job") ⟦<JobLayout as Described>⟧.size (both
-        (plain (shows.Field (codes "id") ⟦<u64 as Described>⟧.size (⟦<u64 as Allocative>⟧.may_show (out-Job x).id))) (both
         (field (codes "payload") ⟦<PayloadLayout as Described>⟧.size (child (second (first (out-Job x).payload))))
-        (field (codes "after") ⟦<Vec<()> as Described>⟧.size (vec_in ⟦<JobLayout as Described>⟧.size (λ y. child (first y)) (out-Job x).after)))))
+        (field (codes "earlier_by_number") ⟦<HashMap<(), ()> as Described>⟧.size (hash_map_of (pair_in ⟦<u64 as Described>⟧.size ⟦<u64 as Allocative>⟧.may_show ⟦<JobLayout as Described>⟧.size (λ y. child (first y))) (out-Job x).earlier_by_number.entries))))
         (both_levels
         (opened out-Payload (λ x. field (codes "Payload") ⟦<PayloadLayout as Described>⟧.size (elim x [
           | Payload-F.Payload::Nothing ↦ plain shows.Nothing
-          | Payload-F.Steps a ↦ field (codes "Steps") ⟦<Vec<()> as Described>⟧.size (vec_in ⟦<JobLayout as Described>⟧.size (λ y. child (first y)) a)
-          | Payload-F.When a ↦ field (codes "When") ⟦<Option<TriggerLayout> as Described>⟧.size (option_in ⟦<Option<TriggerLayout> as Described>⟧.size ⟦<TriggerLayout as Described>⟧.size (λ y. child (second (second y))) a)
+          | Payload-F.Payload::Done a ↦ field (codes "Done") ⟦<Option<TriggerLayout> as Described>⟧.size (option_in ⟦<Option<TriggerLayout> as Described>⟧.size ⟦<TriggerLayout as Described>⟧.size (λ y. child (second (second y))) a)
         ])))
         (opened out-Trigger (λ x. field (codes "Trigger") ⟦<TriggerLayout as Described>⟧.size (elim x [
           | Trigger-F.Trigger::Nothing ↦ plain shows.Nothing
-          | Trigger-F.Done a b ↦ field (codes "Done") ⟦<TriggerDoneFields as Described>⟧.size (both
+          | Trigger-F.Trigger::Done a b ↦ field (codes "Done") ⟦<TriggerDoneFields as Described>⟧.size (both
               (field (codes "job") ⟦<Box<()> as Described>⟧.size (box_of (child (first a.value))))
-              (plain (shows.Field (codes "within") ⟦<u64 as Described>⟧.size (⟦<u64 as Allocative>⟧.may_show b))))
+              (plain (shows.Field (codes "within_seconds") ⟦<u64 as Described>⟧.size (⟦<u64 as Allocative>⟧.may_show b))))
         ]))))) (second (first x)) };
 
     ghost is_strict = { true };
@@ -773,12 +641,8 @@ impl Allocative for Payload {
     fn visit(&self, visitor: &mut Visitor<'_>) -> Result<(), Refusal> {
         match self {
             Payload::Nothing => Declared("Payload", <Self as Described>::size(), ()).enter(visitor),
-            Payload::Steps(a) => {
-                let a = Field("Steps", a);
-                Declared("Payload", <Self as Described>::size(), a).enter(visitor)
-            }
-            Payload::When(a) => {
-                let a = Field("When", a);
+            Payload::Done(a) => {
+                let a = Field("Done", a);
                 Declared("Payload", <Self as Described>::size(), a).enter(visitor)
             }
         }
@@ -818,20 +682,18 @@ impl Described for Trigger {
 impl Allocative for Trigger {
     ghost may_show = { λ x. recursive (both_levels
         (λ x. field (codes "Job") ⟦<JobLayout as Described>⟧.size (both
-        (plain (shows.Field (codes "id") ⟦<u64 as Described>⟧.size (⟦<u64 as Allocative>⟧.may_show (out-Job x).id))) (both
         (field (codes "payload") ⟦<PayloadLayout as Described>⟧.size (child (second (first (out-Job x).payload))))
-        (field (codes "after") ⟦<Vec<()> as Described>⟧.size (vec_in ⟦<JobLayout as Described>⟧.size (λ y. child (first y)) (out-Job x).after)))))
+        (field (codes "earlier_by_number") ⟦<HashMap<(), ()> as Described>⟧.size (hash_map_of (pair_in ⟦<u64 as Described>⟧.size ⟦<u64 as Allocative>⟧.may_show ⟦<JobLayout as Described>⟧.size (λ y. child (first y))) (out-Job x).earlier_by_number.entries))))
         (both_levels
         (opened out-Payload (λ x. field (codes "Payload") ⟦<PayloadLayout as Described>⟧.size (elim x [
           | Payload-F.Payload::Nothing ↦ plain shows.Nothing
-          | Payload-F.Steps a ↦ field (codes "Steps") ⟦<Vec<()> as Described>⟧.size (vec_in ⟦<JobLayout as Described>⟧.size (λ y. child (first y)) a)
-          | Payload-F.When a ↦ field (codes "When") ⟦<Option<TriggerLayout> as Described>⟧.size (option_in ⟦<Option<TriggerLayout> as Described>⟧.size ⟦<TriggerLayout as Described>⟧.size (λ y. child (second (second y))) a)
+          | Payload-F.Payload::Done a ↦ field (codes "Done") ⟦<Option<TriggerLayout> as Described>⟧.size (option_in ⟦<Option<TriggerLayout> as Described>⟧.size ⟦<TriggerLayout as Described>⟧.size (λ y. child (second (second y))) a)
         ])))
         (opened out-Trigger (λ x. field (codes "Trigger") ⟦<TriggerLayout as Described>⟧.size (elim x [
           | Trigger-F.Trigger::Nothing ↦ plain shows.Nothing
-          | Trigger-F.Done a b ↦ field (codes "Done") ⟦<TriggerDoneFields as Described>⟧.size (both
+          | Trigger-F.Trigger::Done a b ↦ field (codes "Done") ⟦<TriggerDoneFields as Described>⟧.size (both
               (field (codes "job") ⟦<Box<()> as Described>⟧.size (box_of (child (first a.value))))
-              (plain (shows.Field (codes "within") ⟦<u64 as Described>⟧.size (⟦<u64 as Allocative>⟧.may_show b))))
+              (plain (shows.Field (codes "within_seconds") ⟦<u64 as Described>⟧.size (⟦<u64 as Allocative>⟧.may_show b))))
         ]))))) (second (second x)) };
 
     ghost is_strict = { true };
@@ -840,10 +702,13 @@ impl Allocative for Trigger {
     fn visit(&self, visitor: &mut Visitor<'_>) -> Result<(), Refusal> {
         match self {
             Trigger::Nothing => Declared("Trigger", <Self as Described>::size(), ()).enter(visitor),
-            Trigger::Done { job, within } => {
+            Trigger::Done {
+                job,
+                within_seconds,
+            } => {
                 let job = Field("job", job);
-                let within = Field("within", within);
-                let inside = Declared("Done", <TriggerDoneFields>::size(), (job, within));
+                let within_seconds = Field("within_seconds", within_seconds);
+                let inside = Declared("Done", <TriggerDoneFields>::size(), (job, within_seconds));
                 Declared("Trigger", <Self as Described>::size(), inside).enter(visitor)
             }
         }

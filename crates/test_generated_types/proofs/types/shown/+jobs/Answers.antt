@@ -17,17 +17,11 @@ PayloadAllocative::visit-returns-in-Nothing t c =
     (means_opened _ _ refl (let e : out-Payload c.args.self.now ≡ Payload-F.Payload::Nothing = ap out-Payload c.in-Nothing.is ∙ search the_lemmas in e)
     (means_field refl c.size.ensures means_same))
 
-pub PayloadAllocative::visit-returns-in-Steps : goal.PayloadAllocative::visit-returns-in-Steps
-PayloadAllocative::visit-returns-in-Steps t c =
-    visited_as c.enter-in-Steps.ensures
-    (means_opened _ _ refl (let e : out-Payload c.args.self.now ≡ Payload-F.Steps c.in-Steps.a = ap out-Payload c.in-Steps.is ∙ search the_lemmas in e)
-    (means_field refl c.size-in-Steps.ensures means_same))
-
-pub PayloadAllocative::visit-returns-in-When : goal.PayloadAllocative::visit-returns-in-When
-PayloadAllocative::visit-returns-in-When t c =
-    visited_as c.enter-in-When.ensures
-    (means_opened _ _ refl (let e : out-Payload c.args.self.now ≡ Payload-F.When c.in-When.a = ap out-Payload c.in-When.is ∙ search the_lemmas in e)
-    (means_field refl c.size-in-When.ensures means_same))
+pub PayloadAllocative::visit-returns-in-Done : goal.PayloadAllocative::visit-returns-in-Done
+PayloadAllocative::visit-returns-in-Done t c =
+    visited_as c.enter-in-Done.ensures
+    (means_opened _ _ refl (let e : out-Payload c.args.self.now ≡ Payload-F.Payload::Done c.in-Done.a = ap out-Payload c.in-Done.is ∙ search the_lemmas in e)
+    (means_field refl c.size-in-Done.ensures means_same))
 
 pub TriggerAllocative::visit-returns-in-Nothing : goal.TriggerAllocative::visit-returns-in-Nothing
 TriggerAllocative::visit-returns-in-Nothing t c =
@@ -38,5 +32,5 @@ TriggerAllocative::visit-returns-in-Nothing t c =
 pub TriggerAllocative::visit-returns-in-Done : goal.TriggerAllocative::visit-returns-in-Done
 TriggerAllocative::visit-returns-in-Done t c =
     visited_as c.enter-in-Done.ensures
-    (means_opened _ _ refl (let e : out-Trigger c.args.self.now ≡ Trigger-F.Done c.in-Done.job c.in-Done.within = ap out-Trigger c.in-Done.is ∙ search the_lemmas in e)
+    (means_opened _ _ refl (let e : out-Trigger c.args.self.now ≡ Trigger-F.Trigger::Done c.in-Done.job c.in-Done.within_seconds = ap out-Trigger c.in-Done.is ∙ search the_lemmas in e)
     (means_field refl c.size-in-Done-2.ensures (means_field refl c.size-in-Done.ensures means_same)))

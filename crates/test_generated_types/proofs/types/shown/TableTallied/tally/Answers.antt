@@ -8,7 +8,5 @@ returns g c =
     whole_counted c.size.ensures c.in_ok-count_own.ensures.ok
     (both_counted
     (field_counted c.in_ok-count.ensures)
-    (both_counted
-    (field_counted c.in_ok-count-2.ensures)
-    (field_counted c.in_ok-count-3.ensures)))
+    (field_counted c.in_ok-count-2.ensures))
     (search (rules, holding))

@@ -7,6 +7,4 @@ returns g c =
     starts_whole _ c.none.result c.none.ensures.there c.none.ensures.bytes
     (starts_both
     (starts_field c.none-2.ensures)
-    (starts_both
-    (starts_field c.none-3.ensures)
-    (starts_field c.none-4.ensures)))
+    (starts_field c.none-3.ensures))
