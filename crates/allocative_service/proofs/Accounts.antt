@@ -7,7 +7,7 @@ use Rattle.std.specs.BTreeMap.{BTreeMap, UpdatesBy, WritesThrough, get_by_text, 
 use Rattle.std.specs.Cmp.Lexicographic.{slice_cmp}
 use Rattle.std.specs.List.Sorted.{IsStrictlySortedBy}
 use Rattle.std.specs.Map.{keys_of}
-use Rattle.std.specs.Option.{is_some}
+use Rattle.std.specs.Option.{is_some, option_and_then, unwrap_or}
 use Rattle.std.specs.Str.{bytes_eq}
 use Rattle.std.specs.String.{string_cmp, string_cmp_total}
 use Rattle.std.proofs.lemmas.Bool.{false_from_ne_true}
@@ -17,8 +17,8 @@ use Rattle.std.proofs.lemmas.Map.Steps.{set_value_same}
 use Rattle.std.proofs.lemmas.Map.Text.{btree_map_updates_text}
 use Rattle.std.proofs.lemmas.Slice.Eq.{bytes_eq-Decides}
 use Rattle.allocative_service.specs.declared.ledger.Ledger.{Ledger}
-use Rattle.allocative_service.specs.AccountData.{all_bytes, sum_of}
-use Rattle.allocative_service.specs.Accounts.{SameTerms}
+use Rattle.allocative_service.specs.AccountData.{all_bytes, bytes_at, sum_of}
+use Rattle.allocative_service.specs.Accounts.{SameTerms, EntersWithin, Stores, account_of, entry_of, overgrown_of, total_of}
 
 -- All accounts, by their tenants' names.
 abbrev Accounts : Type 0
@@ -48,8 +48,10 @@ changes tenant now old new h = record {
 
 -- A ledger whose accounts have changed so, on the same terms.
 pub in_ledger : (tenant : List ℕ) (now : Option AccountData) (old new : Ledger) →
-    ChangesOne tenant now old.accounts new.accounts → SameTerms old new → ChangesAccount tenant now old new
-in_ledger tenant now old new c same = record { changed = c.changed; others = c.others; terms = same }
+    ChangesOne tenant now old.accounts new.accounts → SameTerms old new → overgrown_of new ≡ overgrown_of old →
+    ChangesAccount tenant now old new
+in_ledger tenant now old new c same over =
+    record { changed = c.changed; others = c.others; terms = same; overgrown = over }
 
 -- What is written through the account that `get_mut` lent: the account changes and no other. The sum of all changes
 -- by as much as that of the account. If the account stays as it is, so do all.
@@ -98,6 +100,25 @@ all_bytes-close tenant old h account = rw (sym account)
 pub account_within : (tenant : List ℕ) (old : Accounts) (h : AccountData) → get_by_text old tenant ≡ Some h →
     sum_of h.entries ≤ all_bytes old.entries
 account_within tenant old h account = omega (arith, all_bytes-close tenant old h (sym account))
+
+-- ---- entries
+-- What is stored is within limits, if there was room for it.
+pub entered : (most : AccountData → ℕ) (all_most : ℕ) (tenant : List ℕ) (number bytes : ℕ) (had : Option ℕ)
+    (old new : Ledger) (h : AccountData) (total : ℕ) → account_of tenant old ≡ Some h → bytes_at number h ≡ had →
+    sum_of h.entries + bytes ≤ most h + unwrap_or had 0 → total_of old + bytes ≤ all_most + unwrap_or had 0 →
+    Stores tenant number bytes (entry_of tenant number old) old new total →
+    EntersWithin most all_most tenant number bytes had old new total
+entered most all_most tenant number bytes had old new h total found there within all s =
+    let same : h ≡ s.before = cc (found, s.account) in
+    let is : entry_of tenant number old ≡ had = ap (option_and_then (bytes_at number)) found ∙ there in
+    let room = subst (λ (k : AccountData). sum_of k.entries + bytes ≤ most k + unwrap_or had 0) same within in
+    let sum = subst (λ (o : Option ℕ). total + unwrap_or o 0 ≡ sum_of s.before.entries + bytes) is s.puts.total_is in
+    let sums = subst (λ (o : Option ℕ). total_of new + unwrap_or o 0 ≡ total_of old + bytes) is s.all_is in
+    subst (λ (o : Option ℕ). EntersWithin most all_most tenant number bytes o old new total) is (record {
+      stores = s;
+      within = omega (arith, room, sum);
+      all_within = omega (arith, all, sums);
+    })
 
 -- ---- results
 -- What holds holds also if the result is an Err.

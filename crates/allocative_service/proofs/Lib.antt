@@ -1,10 +1,10 @@
 pub mod Common
 mod Accounts
-mod Credits
 mod Each
 mod Evicting
 mod Inserting
 mod Most
+mod Shelving
 mod Sums
 mod Using
 mod Walk

@@ -5,17 +5,18 @@ use Rattle.std.specs.Global.{Global}
 use Rattle.std.specs.Map.{lookup, remove_entry, values_of}
 use Rattle.std.specs.Ordering.{nat_cmp}
 
--- A limit and a soft limit in bytes, the most bytes that there ever were, and what was admitted: the bytes of each
--- value by its number, ordered by number.
+-- A limit and a soft limit in bytes, the most bytes that there ever were, by how many bytes at most growth exceeded the
+-- limit since it was set, and what was entered: the bytes of each value by its number, ordered by number.
 pub record AccountData : Type 0 where
   pub limit : ℕ
   pub soft_limit : ℕ
   pub peak : ℕ
+  pub overgrown : ℕ
   pub entries : List (ℕ × ℕ)
 
 -- An account with this limit, no soft limit and no entry.
 abbrev pub new_account : ℕ → AccountData
-new_account limit = record { limit = limit; soft_limit = 2 ^ 64 - 1; peak = 0; entries = [] }
+new_account limit = record { limit = limit; soft_limit = 2 ^ 64 - 1; peak = 0; overgrown = 0; entries = [] }
 
 -- The sum of the bytes of these entries.
 abbrev pub sum_of : List (ℕ × ℕ) → ℕ
@@ -29,15 +30,22 @@ all_bytes accounts = sum_by (λ h. sum_of h.entries) (values_of accounts)
 abbrev pub bytes_at : ℕ → AccountData → Option ℕ
 bytes_at number h = lookup (is_at (nat_cmp number)) h.entries
 
--- The account with these bytes under the number, in place of an entry that was there. Its sum is now `total`, and its
--- peak is at least that.
+-- The account with these bytes under the number, in place of an entry that was there. Its sum is now `total`, its peak is
+-- at least that, and `overgrown` at least what of it exceeds the limit.
 abbrev pub with_bytes : ℕ → ℕ → ℕ → AccountData → AccountData
-with_bytes number bytes total h =
-    record h { peak = max h.peak total; entries = insert_entry nat_cmp h.entries number bytes }
+with_bytes number bytes total h = record h {
+  peak = max h.peak total;
+  overgrown = max h.overgrown (total - h.limit);
+  entries = insert_entry nat_cmp h.entries number bytes;
+}
 
--- The account with this limit.
+-- The account with this limit, which no growth has exceeded yet.
 abbrev pub with_limit : ℕ → AccountData → AccountData
-with_limit limit h = record h { limit = limit }
+with_limit limit h = record h { limit = limit; overgrown = 0 }
+
+-- The most bytes that the account may have: its limit, and what growth exceeded it by.
+abbrev pub most_of : AccountData → ℕ
+most_of h = h.limit + h.overgrown
 
 -- The account with this soft limit.
 abbrev pub with_soft_limit : ℕ → AccountData → AccountData
@@ -51,14 +59,13 @@ with_peak_reset h = record h { peak = sum_of h.entries }
 abbrev pub without : ℕ → AccountData → AccountData
 without number h = record h { entries = remove_entry (is_at (nat_cmp number)) h.entries }
 
--- The bytes are exactly the sum of the account's entries, and at most its limit and its peak.
+-- The bytes are exactly the sum of the account's entries, and at most its peak, and its limit with what growth exceeded
+-- that by: at most the limit itself, if no growth exceeded it.
 abbrev pub IsSummed : ℕ → AccountData → Type 0
-IsSummed bytes h = (bytes ≡ sum_of h.entries) × (bytes ≤ h.limit) × (bytes ≤ h.peak)
+IsSummed bytes h = (bytes ≡ sum_of h.entries) × (bytes ≤ most_of h) × (bytes ≤ h.peak)
 
--- The number now has these bytes in place of `had`. All bytes of the account together are `total`, which is within
--- its limit.
+-- The number now has these bytes in place of `had`. All bytes of the account together are `total`.
 pub record Puts (number bytes : ℕ) (had : Option ℕ) (old new : AccountData) (total : ℕ) : Type 0 where
   pub had_bytes : bytes_at number old ≡ had
   pub is : new ≡ with_bytes number bytes total old
   pub total_is : total + unwrap_or had 0 ≡ sum_of old.entries + bytes
-  pub within : total ≤ old.limit

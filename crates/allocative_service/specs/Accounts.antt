@@ -1,13 +1,15 @@
 -- What a ledger holds, and how its calls change it.
-use Rattle.std.specs.Prelude.{◌≡◌, ◌≢◌, ℕ, ◌+◌, ◌≤◌, List, Option, Some, String, unwrap_or}
+use Rattle.std.specs.Prelude.{◌≡◌, ◌≢◌, ℕ, ◌+◌, ◌-◌, ◌^◌, ◌≤◌, List, Option, Some, String, max, unwrap_or, IsSomeAnd}
 use Rattle.std.specs.BTreeMap.{get_by_text}
 use Rattle.std.specs.Global.{Global}
 use Rattle.std.specs.Option.{option_and_then}
 use Rattle.allocative_service.specs.declared.ledger.Ledger.{Ledger}
+use Rattle.allocative_service.specs.declared.ledger.Standing.{Standing}
 use Rattle.allocative_service.specs.declared.ledger.rejection.Rejection.{Rejection}
+use Rattle.allocative_service.specs.declared.ledger.rejection.Rejection.TheVariants.{TooLarge}
 use Rattle.allocative_service.specs.declared.measure.Measure.{Measure}
-use Rattle.allocative_service.specs.AccountData.{AccountData, all_bytes, bytes_at, sum_of, without, Puts}
-use Rattle.allocative_service.specs.Rejected.{RejectsWithin}
+use Rattle.allocative_service.specs.AccountData.{AccountData, all_bytes, bytes_at, most_of, sum_of, without, Puts}
+use Rattle.allocative_service.specs.Rejected.{RejectsAdded, RejectsWithin}
 
 -- All accounts, each with its tenant's name.
 abbrev pub accounts_of : Ledger → List (String Global × AccountData)
@@ -29,6 +31,14 @@ measure_of l = l.measure
 abbrev pub limit_of : Ledger → ℕ
 limit_of l = l.limit
 
+-- By how many bytes at most growth exceeded the limit of the ledger since that was set.
+abbrev pub overgrown_of : Ledger → ℕ
+overgrown_of l = l.overgrown
+
+-- The most bytes that all accounts may have together: the limit, and what growth exceeded it by.
+abbrev pub all_most_of : Ledger → ℕ
+all_most_of l = limit_of l + overgrown_of l
+
 -- The bytes of all accounts together.
 abbrev pub total_of : Ledger → ℕ
 total_of l = all_bytes (accounts_of l)
@@ -37,16 +47,17 @@ total_of l = all_bytes (accounts_of l)
 abbrev pub SameTerms : Ledger → Ledger → Type 0
 SameTerms old new = (measure_of new ≡ measure_of old) × (limit_of new ≡ limit_of old)
 
--- Both ledgers have the same accounts, the same measure and the same limit.
+-- Both ledgers have the same accounts, the same measure and the same limit, which growth exceeded alike.
 abbrev pub IsUnchanged : Ledger → Ledger → Type 0
-IsUnchanged old new = (accounts_of new ≡ accounts_of old) × SameTerms old new
+IsUnchanged old new = (accounts_of new ≡ accounts_of old) × SameTerms old new × (overgrown_of new ≡ overgrown_of old)
 
 -- The tenant now has this account, or none. The accounts of all other tenants, the measure and the limit of the
--- ledger are unchanged.
+-- ledger are unchanged, and what growth exceeded it by.
 pub record ChangesAccount (tenant : List ℕ) (now : Option AccountData) (old new : Ledger) : Type 0 where
   pub changed : account_of tenant new ≡ now
   pub others : (other : List ℕ) → other ≢ tenant → account_of other new ≡ account_of other old
   pub terms : SameTerms old new
+  pub overgrown : overgrown_of new ≡ overgrown_of old
 
 -- The tenant's account is now what f makes of it, and no other changes.
 pub record MapsAccount (tenant : List ℕ) (f : AccountData → AccountData) (old new : Ledger) : Type 0 where
@@ -55,15 +66,43 @@ pub record MapsAccount (tenant : List ℕ) (f : AccountData → AccountData) (ol
   pub change : ChangesAccount tenant (Some (f before)) old new
 
 -- In the tenant's account, the number now has these bytes in place of `had`, and all bytes of that account together
--- are `total`. All accounts together are within the limit of the ledger.
-pub record Enters (tenant : List ℕ) (number bytes : ℕ) (had : Option ℕ) (old new : Ledger) (total : ℕ) : Type 0 where
+-- are `total`. The accounts of all other tenants, the measure and the limit of the ledger are unchanged, and growth
+-- exceeded it by at least what all accounts together now do.
+pub record Stores (tenant : List ℕ) (number bytes : ℕ) (had : Option ℕ) (old new : Ledger) (total : ℕ) : Type 0 where
   pub before : AccountData
   pub after : AccountData
   pub account : account_of tenant old ≡ Some before
   pub puts : Puts number bytes had before after total
-  pub change : ChangesAccount tenant (Some after) old new
+  pub changed : account_of tenant new ≡ Some after
+  pub others : (other : List ℕ) → other ≢ tenant → account_of other new ≡ account_of other old
+  pub terms : SameTerms old new
   pub all_is : total_of new + unwrap_or had 0 ≡ total_of old + bytes
-  pub all_within : total_of new ≤ limit_of old
+  pub overgrown : overgrown_of new ≡ max (overgrown_of old) (total_of new - limit_of old)
+
+-- In the tenant's account, the number now has these bytes in place of `had`, and all bytes of that account together
+-- are `total`, within what `most` allows the account. All accounts together are within `all_most`.
+pub record EntersWithin (most : AccountData → ℕ) (all_most : ℕ) (tenant : List ℕ) (number bytes : ℕ) (had : Option ℕ)
+    (old new : Ledger) (total : ℕ) : Type 0 where
+  pub stores : Stores tenant number bytes had old new total
+  pub within : total ≤ most stores.before
+  pub all_within : total_of new ≤ all_most
+
+-- In the tenant's account, the number now has these bytes in place of `had`, and all bytes of that account together
+-- are `total`, within its limit. All accounts together are within the limit of the ledger.
+abbrev pub Enters : List ℕ → ℕ → ℕ → Option ℕ → Ledger → Ledger → ℕ → Type 0
+Enters tenant number bytes had old = EntersWithin (λ h. h.limit) (limit_of old) tenant number bytes had old
+
+-- In the tenant's account, the number now has these bytes in place of more, and all bytes of that account together are
+-- `total`. Neither limit is exceeded by more than growth exceeded it by.
+abbrev pub Lowers : List ℕ → ℕ → ℕ → Option ℕ → Ledger → Ledger → ℕ → Type 0
+Lowers tenant number bytes had old = EntersWithin most_of (all_most_of old) tenant number bytes had old
+
+-- The standing has the bytes of the tenant's account, what of them exceeds its limit, and what of the bytes of all
+-- accounts exceeds the limit of the ledger.
+abbrev pub StandsAt : List ℕ → Ledger → Standing → Type 0
+StandsAt tenant l s =
+    IsSomeAnd (account_of tenant l) (λ h. (s.bytes ≡ sum_of h.entries) × (s.excess ≡ sum_of h.entries - h.limit))
+    × (s.ledger_excess ≡ total_of l - limit_of l)
 
 -- The number had these bytes in the tenant's account, and its entry is gone. The sum of the account, and that of all
 -- accounts, is less by exactly these bytes.
@@ -79,3 +118,11 @@ pub record Releases (tenant : List ℕ) (number : ℕ) (old new : Ledger) (bytes
 -- are the ledger's.
 abbrev pub RejectsPut : Ledger → ℕ → ℕ → AccountData → Rejection → Type 0
 RejectsPut l = RejectsWithin (total_of l) (limit_of l)
+
+-- A new entry of `bytes` in this account is rejected. The bytes and the limit of all accounts are the ledger's.
+abbrev pub RejectsNewBytes : Ledger → ℕ → AccountData → Rejection → Type 0
+RejectsNewBytes l = RejectsAdded (total_of l) (limit_of l)
+
+-- Growth of an entry from `had` bytes to `bytes` is rejected: the sum of all accounts of the ledger does not fit a word.
+abbrev pub RejectsGrowth : Ledger → ℕ → ℕ → AccountData → Rejection → Type 0
+RejectsGrowth l had bytes h r = (r ≡ TooLarge) × (2 ^ 64 + had ≤ total_of l + bytes)

@@ -4,6 +4,7 @@ pub mod Accounts
 pub mod Rejected
 pub mod Told
 pub mod Entries
+pub mod Shelf
 pub mod Changes
 pub mod Walk
 pub mod History

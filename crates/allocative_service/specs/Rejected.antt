@@ -23,35 +23,31 @@ RejectsValue measure is_strict size p limit (OverBudget b l) =
 RejectsValue measure is_strict size p limit (NotMeasured e) = MayRefuseMeasure measure is_strict size p e
 RejectsValue measure is_strict size p limit _ = ⊥
 
--- Replacing the `had` bytes of one entry of an account by `bytes` is rejected, by the first of these that holds: the
--- new sum does not fit a word, it exceeds the limit, memory runs out.
-abbrev pub RejectsBytes : ℕ → ℕ → AccountData → Rejection → Type 0
-RejectsBytes had bytes h TooLarge = 2 ^ 64 + had ≤ sum_of h.entries + bytes
-RejectsBytes had bytes h (OverBudget b l) = (sum_of h.entries + bytes < 2 ^ 64 + had)
-    × (b + had ≡ sum_of h.entries + bytes) × (l ≡ h.limit) × (h.limit < b)
-RejectsBytes had bytes h NotKept =
-    (sum_of h.entries + bytes < 2 ^ 64 + had) × (sum_of h.entries + bytes ≤ h.limit + had)
-RejectsBytes had bytes h _ = ⊥
-
 -- Replacing the `had` bytes of one entry of an account by `bytes` is rejected, where all accounts have `all` bytes and
 -- may have `most`, by the first of these that holds: the new sum of all accounts does not fit a word, that of the account
--- exceeds its limit, that of all accounts exceeds `most`, memory runs out.
+-- exceeds its limit, that of all accounts exceeds `most`.
 abbrev pub RejectsWithin : ℕ → ℕ → ℕ → ℕ → AccountData → Rejection → Type 0
 RejectsWithin all most had bytes h TooLarge = 2 ^ 64 + had ≤ all + bytes
 RejectsWithin all most had bytes h (OverBudget b l) =
     (all + bytes < 2 ^ 64 + had) × (b + had ≡ sum_of h.entries + bytes) × (l ≡ h.limit) × (h.limit < b)
 RejectsWithin all most had bytes h (LedgerFull b l) = (all + bytes < 2 ^ 64 + had)
     × (sum_of h.entries + bytes ≤ h.limit + had) × (b + had ≡ all + bytes) × (l ≡ most) × (most < b)
-RejectsWithin all most had bytes h NotKept = (all + bytes < 2 ^ 64 + had)
-    × (sum_of h.entries + bytes ≤ h.limit + had) × (all + bytes ≤ most + had)
 RejectsWithin all most had bytes h _ = ⊥
 
--- Taking `less` bytes off the `had` bytes of an entry is rejected. There are fewer, as the rejection says, or memory
--- runs out.
+-- None of these holds if `bytes` take the place of `had` bytes of one entry of the account.
+pub record HasRoom (all most had bytes : ℕ) (h : AccountData) : Type 0 where
+  pub fits : all + bytes < 2 ^ 64 + had
+  pub within : sum_of h.entries + bytes ≤ h.limit + had
+  pub all_within : all + bytes ≤ most + had
+
+-- A new entry of an account is rejected, where all accounts have `all` bytes and may have `most`: so are its bytes, or
+-- there is room for them and memory runs out.
+abbrev pub RejectsAdded : ℕ → ℕ → ℕ → AccountData → Rejection → Type 0
+RejectsAdded all most bytes h r = RejectsWithin all most 0 bytes h r ⊎ ((r ≡ NotKept) × HasRoom all most 0 bytes h)
+
+-- Taking `less` bytes off the `had` bytes of an entry is rejected: there are fewer, as the rejection says.
 abbrev pub RejectsCredit : ℕ → ℕ → AccountData → Rejection → Type 0
-RejectsCredit less had h (OverCredit b n) = (b ≡ had) × (n ≡ less) × (had < less)
-RejectsCredit less had h NotKept = less ≤ had
-RejectsCredit less had h _ = ⊥
+RejectsCredit less had h r = (r ≡ OverCredit had less) × (had < less)
 
 -- A new entry under a number is rejected. The number has an entry, as the rejection says, or it has none and P says
 -- why.

@@ -52,7 +52,7 @@ impl<K: Eq + Hash, V: Allocative + Described> Model for BoundedCache<K, V> {
 /// Puts the pair first, in place of an entry with an equal key. It returns the old value and its bytes. The other
 /// entries stay: a list is never so long that the capacity would evict one.
 #[tactic(auto, using(crate::proofs::Inserting::putting))]
-fn put<K: Eq + Hash + Drop, V: Drop>(
+pub(crate) fn put<K: Eq + Hash + Drop, V: Drop>(
     entries: &mut LruCache<K, Kept<V>>,
     key: K,
     kept: Kept<V>,

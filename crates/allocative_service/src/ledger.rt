@@ -14,8 +14,20 @@ use allocative::{Allocative, Described};
 use std::alloc::Global;
 use std::collections::BTreeMap;
 
+/// What an account has after growth was entered, and by how much that exceeds the limits.
+#[derive(Clone, Copy, Debug, PartialEq, Eq)]
+pub struct Standing {
+    /// The bytes of all entries of the tenant.
+    pub bytes: usize,
+    /// By how many bytes they exceed the tenant's limit, or 0.
+    pub excess: usize,
+    /// By how many bytes all accounts together exceed the limit of the ledger, or 0.
+    pub ledger_excess: usize,
+}
+
 /// An account for each tenant, by its name, and which bytes of the tenants' values are counted. The bytes of all
-/// accounts together are stored beside them, and are never above the limit of the ledger.
+/// accounts together are stored beside them. They are above the limit of the ledger only if growth was entered that
+/// exceeded it.
 #[derive(Drop)]
 pub struct Ledger {
     alloc: Global,
@@ -23,14 +35,16 @@ pub struct Ledger {
     accounts: BTreeMap<String, Account>,
     bytes: usize,
     limit: usize,
+    /// By how many bytes at most growth exceeded the limit since it was set.
+    overgrown: usize,
     ghost summed: { bytes ≡ all_bytes accounts.entries },
-    ghost within: { bytes ≤ limit },
-    // The limit fits a word, so each sum within it does.
-    ghost fits: { limit < 2 ^ 64 },
+    ghost within: { bytes ≤ limit + overgrown },
+    // All bytes fit a word, so those of each account do.
+    ghost fits: { bytes < 2 ^ 64 },
 }
 
 impl Ledger {
-    ghost use Rattle.allocative_service.specs.Accounts.{account_of, accounts_of, entry_of, limit_of, measure_of, total_of, ChangesAccount, Enters, IsUnchanged, MapsAccount, RejectsPut, Releases};
+    ghost use Rattle.allocative_service.specs.Accounts.{account_of, accounts_of, all_most_of, entry_of, limit_of, measure_of, overgrown_of, total_of, ChangesAccount, Enters, IsUnchanged, Lowers, MapsAccount, RejectsGrowth, RejectsNewBytes, RejectsPut, Releases, StandsAt, Stores};
     ghost use Rattle.allocative_service.specs.AccountData.{IsSummed, bytes_at, new_account, sum_of, with_limit, with_peak_reset, with_soft_limit};
     ghost use Rattle.allocative_service.specs.Measured.{Declares};
     ghost use Rattle.allocative_service.specs.Rejected.{IsLedgerFull, RejectsChange, RejectsCredit, RejectsIn, RejectsLimit, RejectsMeasured, RejectsNew, RejectsOpening};
@@ -40,6 +54,7 @@ impl Ledger {
         ensures empty { accounts_of result ≡ [] }
         ensures measure { measure_of result ≡ measure }
         ensures limit { limit_of result ≡ 2 ^ 64 - 1 }
+        ensures overgrown { overgrown_of result ≡ 0 }
     {
         Ledger {
             alloc,
@@ -47,18 +62,19 @@ impl Ledger {
             accounts: BTreeMap::new(alloc),
             bytes: 0,
             limit: usize::MAX,
+            overgrown: 0,
         }
     }
 
     /// The bytes of all accounts together.
     pub fn bytes(&self) -> usize
         ensures sum { result ≡ total_of self.now }
-        ensures within { result ≤ limit_of self.now }
+        ensures within { result ≤ all_most_of self.now }
     {
         self.bytes
     }
 
-    /// The most bytes that all accounts may have together. `usize::MAX` if no limit was set.
+    /// The most bytes that all accounts may have together, unless they grow. `usize::MAX` if no limit was set.
     pub fn limit(&self) -> usize
         ensures { result ≡ limit_of self.now }
     {
@@ -70,7 +86,9 @@ impl Ledger {
     pub fn set_limit(&mut self, limit: usize) -> Result<(), Rejection>
         ensures set { OnOk result (limit_of self.new ≡ limit) }
         ensures rejected { IfErr result (IsLedgerFull (total_of self.old) limit) }
+        ensures within { OnOk result (overgrown_of self.new ≡ 0) }
         ensures unchanged { OnErr result (limit_of self.new ≡ limit_of self.old) }
+        ensures overgrown { OnErr result (overgrown_of self.new ≡ overgrown_of self.old) }
         ensures accounts { accounts_of self.new ≡ accounts_of self.old }
         ensures measure { measure_of self.new ≡ measure_of self.old }
     {
@@ -79,6 +97,7 @@ impl Ledger {
             return Err(Rejection::LedgerFull { bytes, limit });
         }
         self.limit = limit;
+        self.overgrown = 0;
         Ok(())
     }
 
@@ -166,14 +185,23 @@ impl Ledger {
         &self.accounts
     }
 
-    /// The bytes of all that was admitted for the tenant, which are within its limit. None if the tenant has no
-    /// account.
+    /// The bytes of all entries of the tenant, which are within its limit unless growth exceeded it. None if the tenant
+    /// has no account.
     pub fn bytes_of(&self, tenant: &str) -> Option<usize>
         ensures { MatchOption (account_of tenant.now self.now) (result ≡ None)
             (λ account. IsSomeAnd result (λ bytes. IsSummed bytes account)) }
     {
         let account = self.accounts.get(tenant)?;
         Some(account.bytes())
+    }
+
+    /// By how many bytes all entries of the tenant exceed its limit. It is 0 unless growth was entered that exceeded it.
+    /// None if the tenant has no account.
+    pub fn excess_of(&self, tenant: &str) -> Option<usize>
+        ensures { result ≡ option_map (λ h. sum_of h.entries - h.limit) (account_of tenant.now self.now) }
+    {
+        let account = self.accounts.get(tenant)?;
+        Some(account.excess())
     }
 
     /// The most bytes that the tenant ever had, since its account was opened or its peak was reset. None if the tenant
@@ -196,7 +224,7 @@ impl Ledger {
         Some(account.reset_peak())
     }
 
-    /// Measures a value of any type and adds an entry with its bytes for the tenant, under a number that has none. It
+    /// Measures a value of any type, adds an entry with its bytes for the tenant, under a number that has none, and
     /// returns the bytes of all entries of the tenant.
     ///
     /// It returns an error
@@ -220,19 +248,23 @@ impl Ledger {
             × Enters tenant.now number bytes None self.old self.new total) }
         ensures rejected { IfErr result (RejectsIn
             (RejectsNew number (RejectsMeasured (measure_of self.old) T.is_strict T.size (T.may_show value.now)
-            (RejectsPut self.old 0))) (account_of tenant.now self.old)) }
+            (RejectsNewBytes self.old))) (account_of tenant.now self.old)) }
         ensures unchanged { OnErr result (IsUnchanged self.old self.new) }
     {
-        self.account(tenant)?.check_free(number)?;
+        let account = self.account(tenant)?;
+        account.check_free(number)?;
         let bytes = self.measure.size_of(self.alloc, value)?;
-        self.put(tenant, number, 0, bytes)
+        account.check_room(0, bytes, self.bytes, self.limit)?;
+        let standing = self.store(tenant, number, 0, bytes)?;
+        Ok(standing.bytes)
     }
 
-    /// Measures a value again after it has changed, and replaces the bytes of the entry under the number. It returns
-    /// the bytes of all entries of the tenant.
+    /// Measures a value again after it has changed, replaces the bytes of the entry under the number if that exceeds no
+    /// limit, and returns the bytes of all entries of the tenant.
     ///
     /// The errors are those of `admit`, in the same order, except that it returns `NotThere` if the number has no
-    /// entry, and never `Taken`. After an error all accounts are unchanged, so an entry keeps the bytes that it had.
+    /// entry, and never `Taken` or `NotKept`. After an error all accounts are unchanged, so an entry keeps the bytes
+    /// that it had: ask before the value grows, or call `enter_growth`.
     pub fn measure_again<T: Allocative + Described>(
         &mut self,
         tenant: &str,
@@ -247,26 +279,64 @@ impl Ledger {
             (RejectsPut self.old had))) (account_of tenant.now self.old)) }
         ensures unchanged { OnErr result (IsUnchanged self.old self.new) }
     {
-        let had = self.account(tenant)?.entry(number)?;
+        let account = self.account(tenant)?;
+        let had = account.entry(number)?;
         let bytes = self.measure.size_of(self.alloc, value)?;
-        self.put(tenant, number, had, bytes)
+        account.check_room(had, bytes, self.bytes, self.limit)?;
+        let standing = self.store(tenant, number, had, bytes)?;
+        Ok(standing.bytes)
     }
 
-    /// Adds an entry with bytes that the caller knows for the tenant, under a number that has none. Nothing is
-    /// measured. It returns the bytes of all entries of the tenant. The errors are those of `admit` but `NotMeasured`.
-    /// After an error all accounts are unchanged.
+    /// Measures a value again after it has changed, replaces the bytes of the entry under the number, also beyond the
+    /// limits, and returns the bytes of all entries of the tenant with what of them exceeds the limits.
+    ///
+    /// While an account exceeds its limit, `admit`, `record` and `charge` return `OverBudget`, and while the ledger
+    /// does, `LedgerFull`.
+    ///
+    /// The error is `NoAccount` if the tenant has no account, otherwise `NotThere` if the number has no entry, otherwise
+    /// `NotMeasured` if `Measure::size_of` returns an error, and otherwise `TooLarge` if the bytes of all accounts
+    /// together do not fit a word. After an error all accounts are unchanged.
+    pub fn enter_growth<T: Allocative + Described>(
+        &mut self,
+        tenant: &str,
+        number: u64,
+        value: &T,
+    ) -> Result<Standing, Rejection>
+        ensures entered { IfOk result
+            (λ s. (bytes : ℕ) × (had : ℕ) × Declares (measure_of self.old) T.size (T.may_show value.now) bytes
+            × Stores tenant.now number bytes (Some had) self.old self.new s.bytes) }
+        ensures standing { IfOk result (StandsAt tenant.now self.new) }
+        ensures rejected { IfErr result (RejectsIn
+            (RejectsChange number (λ had. RejectsMeasured (measure_of self.old) T.is_strict T.size (T.may_show value.now)
+            (RejectsGrowth self.old had))) (account_of tenant.now self.old)) }
+        ensures unchanged { OnErr result (IsUnchanged self.old self.new) }
+    {
+        let had = self.account(tenant)?.entry(number)?;
+        let bytes = self.measure.size_of(self.alloc, value)?;
+        if bytes > usize::MAX - (self.bytes - had) {
+            return Err(Rejection::TooLarge);
+        }
+        self.store(tenant, number, had, bytes)
+    }
+
+    /// Adds an entry with bytes that the caller knows for the tenant, under a number that has none, and returns the
+    /// bytes of all entries of the tenant. Nothing is measured. The errors are those of `admit` but `NotMeasured`. After
+    /// an error all accounts are unchanged.
     pub fn record(&mut self, tenant: &str, number: u64, bytes: usize) -> Result<usize, Rejection>
         ensures recorded { IfOk result (Enters tenant.now number bytes None self.old self.new) }
         ensures rejected { IfErr result
-            (RejectsIn (RejectsNew number (RejectsPut self.old 0 bytes)) (account_of tenant.now self.old)) }
+            (RejectsIn (RejectsNew number (RejectsNewBytes self.old bytes)) (account_of tenant.now self.old)) }
         ensures unchanged { OnErr result (IsUnchanged self.old self.new) }
     {
-        self.account(tenant)?.check_free(number)?;
-        self.put(tenant, number, 0, bytes)
+        let account = self.account(tenant)?;
+        account.check_free(number)?;
+        account.check_room(0, bytes, self.bytes, self.limit)?;
+        let standing = self.store(tenant, number, 0, bytes)?;
+        Ok(standing.bytes)
     }
 
-    /// Adds so many bytes to the tenant's entry under the number, for a value that has grown by as many. Nothing is
-    /// measured. It returns the bytes of all entries of the tenant. The errors are those of `measure_again` but
+    /// Adds so many bytes to the tenant's entry under the number, for a value that has grown by as many, and returns the
+    /// bytes of all entries of the tenant. Nothing is measured. The errors are those of `measure_again` but
     /// `NotMeasured`. After an error all accounts are unchanged.
     pub fn charge(&mut self, tenant: &str, number: u64, more: usize) -> Result<usize, Rejection>
         ensures charged { IfOk result
@@ -276,22 +346,24 @@ impl Ledger {
             (account_of tenant.now self.old)) }
         ensures unchanged { OnErr result (IsUnchanged self.old self.new) }
     {
-        let had = self.account(tenant)?.entry(number)?;
+        let account = self.account(tenant)?;
+        let had = account.entry(number)?;
         let Some(bytes) = had.checked_add(more) else {
             return Err(Rejection::TooLarge);
         };
-        self.put(tenant, number, had, bytes)
+        account.check_room(had, bytes, self.bytes, self.limit)?;
+        let standing = self.store(tenant, number, had, bytes)?;
+        Ok(standing.bytes)
     }
 
-    /// Takes so many bytes off the tenant's entry under the number, for a value that has shrunk by as many. Nothing is
-    /// measured. It returns the bytes of all entries of the tenant.
+    /// Takes so many bytes off the tenant's entry under the number, for a value that has shrunk by as many, and returns
+    /// the bytes of all entries of the tenant. Nothing is measured. No limit refuses it.
     ///
-    /// The error is `NoAccount` if the tenant has no account, otherwise `NotThere` if the number has no entry,
-    /// otherwise `OverCredit` if the entry has fewer bytes, and otherwise `NotKept` if memory runs out. After an error
-    /// all accounts are unchanged.
+    /// The error is `NoAccount` if the tenant has no account, otherwise `NotThere` if the number has no entry, and
+    /// otherwise `OverCredit` if the entry has fewer bytes. After an error all accounts are unchanged.
     pub fn credit(&mut self, tenant: &str, number: u64, less: usize) -> Result<usize, Rejection>
         ensures credited { IfOk result (λ total. (had : ℕ) × (bytes : ℕ) × (bytes + less ≡ had)
-            × Enters tenant.now number bytes (Some had) self.old self.new total) }
+            × Lowers tenant.now number bytes (Some had) self.old self.new total) }
         ensures rejected { IfErr result
             (RejectsIn (RejectsChange number (RejectsCredit less)) (account_of tenant.now self.old)) }
         ensures unchanged { OnErr result (IsUnchanged self.old self.new) }
@@ -300,7 +372,8 @@ impl Ledger {
         let Some(bytes) = had.checked_sub(less) else {
             return Err(Rejection::OverCredit { bytes: had, less });
         };
-        self.put(tenant, number, had, bytes)
+        let standing = self.store(tenant, number, had, bytes)?;
+        Ok(standing.bytes)
     }
 
     /// Removes the tenant's entry under the number. It returns the bytes of the entry. If there is none, it returns
@@ -319,6 +392,7 @@ impl Ledger {
     /// The account of a tenant. The error is `NoAccount` exactly if there is none.
     fn account(&self, tenant: &str) -> Result<&Account, Rejection>
         ensures found { IfOk result (λ account. account_of tenant.now self.now ≡ Some account.now) }
+        ensures part { IfOk result (λ account. sum_of account.now.entries ≤ total_of self.now) }
         ensures missing { IfErr result
             (λ r. (r ≡ Rejection.NoAccount) × (account_of tenant.now self.now ≡ None)) }
     {
@@ -328,28 +402,39 @@ impl Ledger {
         }
     }
 
-    /// Stores the bytes for the tenant under the number, in place of the `had` bytes that it has. It returns the bytes
-    /// of all entries of the tenant.
-    fn put(
+    /// Stores the bytes for the tenant under the number, in place of the `had` bytes that it has, also beyond the limits.
+    ///
+    /// The error is `NoAccount` if the tenant has no account, and otherwise `NotKept` if the number has no entry and
+    /// memory runs out. After an error all accounts are unchanged.
+    fn store(
         &mut self,
         tenant: &str,
         number: u64,
         had: usize,
         bytes: usize,
-    ) -> Result<usize, Rejection>
-        requires { had ≡ unwrap_or (entry_of tenant.now number self.old) 0 }
-        ensures put { IfOk result
-            (Enters tenant.now number bytes (entry_of tenant.now number self.old) self.old self.new) }
-        ensures rejected { IfErr result
-            (RejectsIn (RejectsPut self.old had bytes) (account_of tenant.now self.old)) }
+    ) -> Result<Standing, Rejection>
+        requires had { had ≡ unwrap_or (entry_of tenant.now number self.old) 0 }
+        requires fits { total_of self.old + bytes < 2 ^ 64 + had }
+        ensures stored { IfOk result
+            (λ s. Stores tenant.now number bytes (entry_of tenant.now number self.old) self.old self.new s.bytes) }
+        ensures standing { IfOk result (StandsAt tenant.now self.new) }
+        ensures rejected { IfErr result (RejectsIn
+            (λ h r. (r ≡ Rejection.NotKept) × (bytes_at number h ≡ None)) (account_of tenant.now self.old)) }
         ensures unchanged { OnErr result (IsUnchanged self.old self.new) }
     {
         let Some(account) = self.accounts.get_mut(tenant) else {
             return Err(Rejection::NoAccount);
         };
-        let all = account.check_room(had, bytes, self.bytes, self.limit)?;
         let total = account.put(number, had, bytes)?;
+        let excess = account.excess();
+        let all = self.bytes - had + bytes;
+        let ledger_excess = all.saturating_sub(self.limit);
         self.bytes = all;
-        Ok(total)
+        self.overgrown = self.overgrown.max(ledger_excess);
+        Ok(Standing {
+            bytes: total,
+            excess,
+            ledger_excess,
+        })
     }
 }

@@ -1,8 +1,9 @@
-//! What a service needs beside its values: a limit in bytes for each tenant, a cache bounded in bytes, and a history of
-//! profiles that says what changed.
+//! What a service needs beside its values: a limit in bytes for each tenant, a shelf that keeps a tenant's values,
+//! a cache bounded in bytes, and a history of profiles that says what changed.
 #![tactic(auto)]
 
 pub mod cache;
 pub mod history;
 pub mod ledger;
 pub mod measure;
+pub mod shelf;

@@ -32,6 +32,10 @@ pub enum Request<'a> {
     Put(&'a str, u64, Draft<'a>),
     Get(&'a str, u64),
     Drop(&'a str, u64),
+    /// More text at the end of a note, also beyond the tenant's limit.
+    Append(&'a str, u64, &'a str),
+    /// The largest documents of a tenant go, until the others are within its limit.
+    Shed(&'a str),
     /// Another bound on the bytes of all pages.
     Bound(usize),
     Clear,
@@ -57,6 +61,7 @@ pub fn read_request(line: &str) -> Option<Request<'_>> {
         "picture" => Some(Request::Picture),
         "change" => Some(Request::Change),
         "close" => Some(Request::Close(read_name(rest)?)),
+        "shed" => Some(Request::Shed(read_name(rest)?)),
         "reset" => Some(Request::Reset(read_name(rest)?)),
         "whole" => Some(Request::Whole(rest.parse::<usize>().ok()?)),
         "bound" => Some(Request::Bound(rest.parse::<usize>().ok()?)),
@@ -89,6 +94,7 @@ fn read_of_tenant<'a>(word: &str, rest: &'a str) -> Option<Request<'a>> {
         "get" => Some(Request::Get(tenant, key)),
         "drop" => Some(Request::Drop(tenant, key)),
         "put" => Some(Request::Put(tenant, key, read_draft(value)?)),
+        "append" => Some(Request::Append(tenant, key, value)),
         _ => None,
     }
 }

@@ -6,7 +6,7 @@ use allocative_picture::options::Options;
 use allocative_picture::picture::{change_picture, picture};
 use allocative_service::cache::{BoundedCache, CacheError};
 use allocative_service::history::{History, report};
-use allocative_service::ledger::{Account, Budget, Ledger, Rejection};
+use allocative_service::ledger::{Account, Budget, Ledger, Rejection, Standing};
 use allocative_service::measure::Measure;
 use anyhow::Result;
 use std::alloc::{AllocError, Global};
@@ -71,6 +71,8 @@ impl Service {
             Request::Put(tenant, key, draft) => self.put(tenant, key, draft),
             Request::Get(tenant, key) => self.get(tenant, key),
             Request::Drop(tenant, key) => self.remove(tenant, key),
+            Request::Append(tenant, key, text) => self.append(tenant, key, text),
+            Request::Shed(tenant) => self.shed(tenant),
             Request::Bound(bytes) => self.set_bound(bytes),
             Request::Clear => Ok(self.clear()),
             Request::Pages => self.list_pages(),
@@ -146,6 +148,40 @@ impl Service {
             None => format!(in self.alloc; "{tenant} has no document {key}\n")?,
         };
         self.forget_with_page(tenant, key)?;
+        Ok(text)
+    }
+
+    /// Appends a text to a note, and enters what the note has grown by.
+    fn append(&mut self, tenant: &str, key: u64, added: &str) -> Result<String, Refusal> {
+        for note in &mut self.held.notes {
+            if note.key == key && note.tenant.as_str() == tenant {
+                write!(note.text, " {added}")?;
+                let entered = self.ledger.enter_growth(tenant, key, note);
+                let mut text = tell_standing(self.alloc, tenant, entered)?;
+                text.push_str(self.renew_page(tenant, key)?.as_str())?;
+                return Ok(text);
+            }
+        }
+        Ok(format!(in self.alloc; "{tenant} has no note {key}\n")?)
+    }
+
+    /// Drops the largest documents of a tenant, until the others are within its limit.
+    fn shed(&mut self, tenant: &str) -> Result<String, Refusal> {
+        let Some(account) = self.ledger.accounts().get(tenant) else {
+            return tell(self.alloc, Err(Rejection::NoAccount));
+        };
+        let mut documents = Vec::new(self.alloc);
+        for (key, bytes) in account.entries() {
+            documents.push((*bytes, *key))?;
+        }
+        documents.sort()?;
+        let mut text = String::new(self.alloc);
+        for (_bytes, key) in documents.iter().rev() {
+            if self.ledger.excess_of(tenant) == Some(0) {
+                break;
+            }
+            text.push_str(self.remove(tenant, *key)?.as_str())?;
+        }
         Ok(text)
     }
 
@@ -348,6 +384,20 @@ fn tell_entered(
 ) -> Result<String, Refusal> {
     match entered {
         Ok(bytes) => Ok(format!(in alloc; "{tenant} has {bytes} bytes\n")?),
+        Err(rejection) => tell(alloc, Err(rejection)),
+    }
+}
+
+/// Says how many bytes a tenant has after growth and how many are beyond its limit, or why the growth is not entered.
+fn tell_standing(
+    alloc: Global,
+    tenant: &str,
+    entered: Result<Standing, Rejection>,
+) -> Result<String, Refusal> {
+    match entered {
+        Ok(Standing { bytes, excess, .. }) => {
+            Ok(format!(in alloc; "{tenant} has {bytes} bytes, {excess} too many\n")?)
+        }
         Err(rejection) => tell(alloc, Err(rejection)),
     }
 }

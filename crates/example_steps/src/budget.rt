@@ -19,6 +19,8 @@ pub(crate) fn serve(rt: &impl Print, alloc: Global) -> Result<()> {
         Ok(bytes) => println!(rt; "{bytes} bytes")?,
         Err(rejection) => println!(rt; "{rejection}")?,
     }
+    let standing = ledger.enter_growth("acme", 1, &note)?;
+    println!(rt; "{} bytes, {} too many", standing.bytes, standing.excess)?;
     history.take_profile(alloc, &note)?;
     if let Some(changes) = history.between(alloc, 1, 0)? {
         print!(rt; "{}", report(alloc, changes.as_slice())?)?;

@@ -1,7 +1,7 @@
-//! The admitted bytes of one tenant, within a limit.
-ghost use Rattle.std.specs.Prelude.{◌≡◌, ℕ, ◌+◌, ◌<◌, ◌≤◌, ◌↔◌, Some, None, IsSome, IsTrue, IfOk, IfErr, IfNone, OnOk, OnErr, unwrap_or};
-ghost use Rattle.allocative_service.specs.AccountData.{IsSummed, bytes_at, new_account, sum_of, with_limit, with_peak_reset, with_soft_limit, without, Puts};
-ghost use Rattle.allocative_service.specs.Rejected.{RejectsBytes, RejectsNew, RejectsChange, RejectsLimit, RejectsWithin};
+//! The bytes of one tenant's entries, and their limit.
+ghost use Rattle.std.specs.Prelude.{◌≡◌, ℕ, ◌+◌, ◌-◌, ◌^◌, ◌<◌, ◌≤◌, ◌↔◌, Some, None, IsSome, IsTrue, IfOk, IfErr, IfNone, OnOk, OnErr, unwrap_or};
+ghost use Rattle.allocative_service.specs.AccountData.{IsSummed, bytes_at, most_of, new_account, sum_of, with_limit, with_peak_reset, with_soft_limit, without, Puts};
+ghost use Rattle.allocative_service.specs.Rejected.{HasRoom, RejectsAdded, RejectsNew, RejectsChange, RejectsLimit, RejectsWithin};
 
 use crate::ledger::budget::Budget;
 use crate::ledger::rejection::Rejection;
@@ -9,13 +9,16 @@ use std::alloc::Global;
 use std::collections::BTreeMap;
 use std::marker::Model;
 
-/// The bytes of each value of one tenant, by its number. Their sum is stored beside them, and is never above the limit.
+/// The bytes of each value of one tenant, by its number. Their sum is stored beside them. It is above the limit only if
+/// growth was entered that exceeded it.
 #[derive(Drop)]
 pub struct Account {
     budget: Budget,
     soft_limit: usize,
     bytes: usize,
     peak: usize,
+    /// By how many bytes at most growth exceeded the limit since it was set.
+    overgrown: usize,
     entries: BTreeMap<u64, usize>,
 }
 
@@ -28,6 +31,7 @@ impl Model for Account {
       limit = a.budget.limit;
       soft_limit = a.soft_limit;
       peak = a.peak;
+      overgrown = a.overgrown;
       entries = a.entries.entries;
     } };
 
@@ -35,6 +39,7 @@ impl Model for Account {
       limit = a.budget.limit;
       soft_limit = a.soft_limit;
       peak = a.peak;
+      overgrown = a.overgrown;
       entries = a.entries.entries;
     }) };
 }
@@ -49,11 +54,12 @@ impl Account {
             soft_limit: usize::MAX,
             bytes: 0,
             peak: 0,
+            overgrown: 0,
             entries: BTreeMap::new(alloc),
         }
     }
 
-    /// The most bytes that the entries may have together.
+    /// The most bytes that the entries may have together, unless they grow.
     pub fn limit(&self) -> usize
         ensures { result ≡ self.now.limit }
     {
@@ -73,6 +79,7 @@ impl Account {
             return Err(Rejection::OverBudget { bytes, limit });
         }
         self.budget = budget;
+        self.overgrown = 0;
         Ok(())
     }
 
@@ -102,6 +109,14 @@ impl Account {
         ensures { IsSummed result self.now }
     {
         self.bytes
+    }
+
+    /// By how many bytes all entries together exceed the limit. It is 0 unless growth was entered that exceeded it.
+    pub fn excess(&self) -> usize
+        ensures excess { result ≡ sum_of self.now.entries - self.now.limit }
+        ensures within { result ≤ self.now.overgrown }
+    {
+        self.bytes.saturating_sub(self.budget.limit)
     }
 
     /// The most bytes that all entries together ever had, since the account was opened or the peak was reset.
@@ -144,9 +159,10 @@ impl Account {
     /// The bytes of the entry under the number. The error is `NotThere` exactly if it has none.
     pub fn entry(&self, number: u64) -> Result<usize, Rejection>
         ensures found { IfOk result (λ bytes. bytes_at number self.now ≡ Some bytes) }
+        ensures part { IfOk result (λ bytes. bytes ≤ sum_of self.now.entries) }
         ensures missing { IfErr result
             (λ r. (r ≡ Rejection.NotThere number) × (bytes_at number self.now ≡ None)) }
-        ensures within { sum_of self.now.entries ≤ self.now.limit }
+        ensures within { sum_of self.now.entries ≤ most_of self.now }
     {
         match self.entries.get(&number) {
             Some(bytes) => Ok(*bytes),
@@ -165,63 +181,71 @@ impl Account {
     /// After an error the account is unchanged.
     pub fn enter(&mut self, number: u64, bytes: usize) -> Result<usize, Rejection>
         ensures entered { IfOk result (Puts number bytes None self.old self.new) }
-        ensures rejected { IfErr result (RejectsNew number (RejectsBytes 0 bytes) self.old) }
+        ensures within { IfOk result (λ total. total ≤ self.old.limit) }
+        ensures rejected { IfErr result
+            (RejectsNew number (RejectsAdded (sum_of self.old.entries) (2 ^ 64 - 1) bytes) self.old) }
         ensures unchanged { OnErr result (self.new ≡ self.old) }
     {
         self.check_free(number)?;
+        self.check_room(0, bytes, self.bytes, usize::MAX)?;
         self.put(number, 0, bytes)
     }
 
     /// Replaces the bytes of the entry under a number. It returns the bytes of all entries together.
     ///
-    /// The error is `NotThere` if the number has no entry, and otherwise `TooLarge`, `OverBudget` or `NotKept` as for
-    /// `enter`. After an error the account is unchanged.
+    /// The error is `NotThere` if the number has no entry, and otherwise `TooLarge` or `OverBudget` as for `enter`. After
+    /// an error the account is unchanged.
     pub fn change(&mut self, number: u64, bytes: usize) -> Result<usize, Rejection>
         ensures changed { IfOk result
             (λ total. (had : ℕ) × Puts number bytes (Some had) self.old self.new total) }
+        ensures within { IfOk result (λ total. total ≤ self.old.limit) }
         ensures rejected { IfErr result
-            (RejectsChange number (λ had. RejectsBytes had bytes) self.old) }
+            (RejectsChange number (λ had. RejectsWithin (sum_of self.old.entries) (2 ^ 64 - 1) had bytes) self.old) }
         ensures unchanged { OnErr result (self.new ≡ self.old) }
     {
         let had = self.entry(number)?;
+        self.check_room(had, bytes, self.bytes, usize::MAX)?;
         self.put(number, had, bytes)
     }
 
-    /// Stores the bytes under the number, in place of the `had` bytes that it has.
+    /// Stores the bytes under the number, in place of the `had` bytes that it has, also beyond the limit. It returns the
+    /// bytes of all entries together. The error is `NotKept` if the number has no entry and memory runs out. After it
+    /// the account is unchanged.
     #[tactic(auto, using(crate::proofs::Sums::sums))]
     pub(crate) fn put(&mut self, number: u64, had: usize, bytes: usize) -> Result<usize, Rejection>
-        requires { had ≡ unwrap_or (bytes_at number self.old) 0 }
+        requires had { had ≡ unwrap_or (bytes_at number self.old) 0 }
+        requires fits { sum_of self.old.entries + bytes < 2 ^ 64 + had }
         ensures put { IfOk result (Puts number bytes (bytes_at number self.old) self.old self.new) }
         ensures sum { IfOk result (λ total. sum_of self.new.entries ≡ total) }
-        ensures rejected { IfErr result (RejectsBytes had bytes self.old) }
+        ensures rejected { IfErr result
+            (λ r. (r ≡ Rejection.NotKept) × (bytes_at number self.old ≡ None)) }
         ensures unchanged { OnErr result (self.new ≡ self.old) }
     {
-        let Some(total) = (self.bytes - had).checked_add(bytes) else {
-            return Err(Rejection::TooLarge);
-        };
-        self.budget.check(total)?;
+        let total = self.bytes - had + bytes;
         let Ok(_had) = self.entries.insert(number, bytes) else {
             return Err(Rejection::NotKept);
         };
         self.bytes = total;
         self.peak = self.peak.max(total);
+        self.overgrown = self.overgrown.max(total.saturating_sub(self.budget.limit));
         Ok(total)
     }
 
-    /// The bytes of all accounts together, which are `all` before, if `bytes` took the place of `had` bytes of an entry.
+    /// Checks that there is room for `bytes` in place of `had` bytes of an entry. All accounts have `all` bytes together
+    /// and may have `most`.
     ///
-    /// The error is `TooLarge` if they do not fit a word, otherwise `OverBudget` if the bytes of all entries exceed the
-    /// limit, and otherwise `LedgerFull` if those of all accounts exceed `most`.
+    /// The error is `TooLarge` if the new bytes of all accounts do not fit a word, otherwise `OverBudget` if those of
+    /// this account exceed its limit, and otherwise `LedgerFull` if those of all accounts exceed `most`.
     pub(crate) fn check_room(
         &self,
         had: usize,
         bytes: usize,
         all: usize,
         most: usize,
-    ) -> Result<usize, Rejection>
+    ) -> Result<(), Rejection>
         requires part { had ≤ sum_of self.now.entries }
         requires within { sum_of self.now.entries ≤ all }
-        ensures sum { IfOk result (λ sum. (sum + had ≡ all + bytes) × (sum ≤ most)) }
+        ensures room { OnOk result (HasRoom all most had bytes self.now) }
         ensures rejected { IfErr result (RejectsWithin all most had bytes self.now) }
     {
         let Some(sum) = (all - had).checked_add(bytes) else {
@@ -234,7 +258,7 @@ impl Account {
                 limit: most,
             });
         }
-        Ok(sum)
+        Ok(())
     }
 
     /// Removes the entry under the number. It returns the bytes of the entry, or None if there is none. The peak stays.

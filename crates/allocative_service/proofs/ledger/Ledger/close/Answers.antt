@@ -13,10 +13,10 @@ pub invariant_of-self-2 : goal.invariant_of-self-2
 invariant_of-self-2 c =
     let s = all_bytes-close c.args.tenant.now c.args.self.now.accounts c.in_ok-account.account
     c.in_ok-account.ensures.value in
-    record { summed = rw c.remove.ensures.entries (omega (arith, s, c.bytes.ensures.0, c.args.self.now.summed)); within = omega (arith, c.args.self.now.within); fits = c.args.self.now.fits }
+    record { summed = rw c.remove.ensures.entries (omega (arith, s, c.bytes.ensures.0, c.args.self.now.summed)); within = omega (arith, c.args.self.now.within); fits = omega (arith, c.args.self.now.fits) }
 
 pub returns-clause-closed : goal.returns-clause-closed
-returns-clause-closed c = in_ledger _ _ _ _ (changes c.args.tenant.now None _ _ c.remove.ensures.updates) (refl, refl)
+returns-clause-closed c = in_ledger _ _ _ _ (changes c.args.tenant.now None _ _ c.remove.ensures.updates) (refl, refl) refl
 
 pub returns-clause-all : goal.returns-clause-all
 returns-clause-all c = rw c.remove.ensures.entries

@@ -27,4 +27,4 @@ invariant_of-self c =
 pub returns-clause-opened : goal.returns-clause-opened
 returns-clause-opened c = rw (← c.new-account.ensures)
     (in_ledger _ _ _ _ (opens c.args.tenant.now c.in-Ok.name c.new-account.result c.args.self.now.accounts
-    c.insert.new.self c.in-Ok.ensures.ok c.in-Ok-insert.ensures.updates) (refl, refl))
+    c.insert.new.self c.in-Ok.ensures.ok c.in-Ok-insert.ensures.updates) (refl, refl) refl)

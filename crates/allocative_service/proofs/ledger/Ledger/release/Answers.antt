@@ -17,7 +17,7 @@ pub returns-in_err-bytes-clause-unchanged : goal.returns-in_err-bytes-clause-unc
 returns-in_err-bytes-clause-unchanged c =
     let w = written c.args.tenant.now _ _ c.args.self.now.accounts (c.get_mut.follows.lender c.release.new.self)
     c.in_ok-account.ensures.value (c.get_mut.follows.holds c.release.new.self) in
-    IfNone-weaker c.from_residual-in_err-bytes.result (λ is. (w.same is, (refl, refl)))
+    IfNone-weaker c.from_residual-in_err-bytes.result (λ is. (w.same is, (refl, refl), refl))
     (IfNone-always c.from_residual-in_err-bytes.result c.in_err-bytes.ensures.unchanged)
 
 -- The sum is less by the bytes of the entry.
@@ -25,7 +25,7 @@ pub invariant_of-self-2 : goal.invariant_of-self-2
 invariant_of-self-2 c =
     let w = written c.args.tenant.now _ _ c.args.self.now.accounts (c.get_mut.follows.lender c.release.new.self)
     c.in_ok-account.ensures.value (c.get_mut.follows.holds c.release.new.self) in
-    record { summed = omega (arith, w.all, c.in_ok-bytes.ensures.sum, c.args.self.now.summed); within = omega (arith, c.args.self.now.within); fits = c.args.self.now.fits }
+    record { summed = omega (arith, w.all, c.in_ok-bytes.ensures.sum, c.args.self.now.summed); within = omega (arith, c.args.self.now.within); fits = omega (arith, c.args.self.now.fits) }
 
 -- The entry is removed from the tenant's account.
 pub returns-clause-released : goal.returns-clause-released
@@ -39,6 +39,6 @@ returns-clause-released c =
       had_bytes = sym c.in_ok-bytes.ensures.value;
       sum_is = subst (λ (h : AccountData). sum_of h.entries + c.in_ok-bytes.bytes ≡ sum_of before.entries)
           c.release.ensures.without c.in_ok-bytes.ensures.sum;
-      change = rw (← c.release.ensures.without) (in_ledger _ _ _ _ w.one (refl, refl));
+      change = rw (← c.release.ensures.without) (in_ledger _ _ _ _ w.one (refl, refl) refl);
       all_is = omega (arith, w.all, c.in_ok-bytes.ensures.sum);
     }

@@ -15,4 +15,4 @@ pub returns-clause-reset : goal.returns-clause-reset
 returns-clause-reset c =
     let w = written c.args.tenant.now _ _ c.args.self.now.accounts (c.get_mut.follows.lender c.reset_peak.new.self)
     c.in_ok-account.ensures.value (c.get_mut.follows.holds c.reset_peak.new.self) in
-    record { before = c.in_ok-account.account.now; account = sym c.in_ok-account.ensures.value; change = rw (← c.reset_peak.ensures.reset) (in_ledger _ _ _ _ w.one (refl, refl)) }
+    record { before = c.in_ok-account.account.now; account = sym c.in_ok-account.ensures.value; change = rw (← c.reset_peak.ensures.reset) (in_ledger _ _ _ _ w.one (refl, refl) refl) }

@@ -17,11 +17,11 @@ pub returns-clause-set : goal.returns-clause-set
 returns-clause-set c =
     let w = written c.args.tenant.now _ _ c.args.self.now.accounts (c.get_mut.follows.lender c.set_budget.new.self)
     c.in-Some.ensures.value (c.get_mut.follows.holds c.set_budget.new.self) in
-    on_ok_weaker c.set_budget.result (λ is. record { before = c.in-Some.account.now; account = sym c.in-Some.ensures.value; change = rw (← is) (in_ledger _ _ _ _ w.one (refl, refl)) }) c.set_budget.ensures.set
+    on_ok_weaker c.set_budget.result (λ is. record { before = c.in-Some.account.now; account = sym c.in-Some.ensures.value; change = rw (← is) (in_ledger _ _ _ _ w.one (refl, refl) refl) }) c.set_budget.ensures.set
 
 -- A rejection changes no account.
 pub returns-clause-unchanged : goal.returns-clause-unchanged
 returns-clause-unchanged c =
     let w = written c.args.tenant.now _ _ c.args.self.now.accounts (c.get_mut.follows.lender c.set_budget.new.self)
     c.in-Some.ensures.value (c.get_mut.follows.holds c.set_budget.new.self) in
-    on_err_weaker c.set_budget.result (λ is. (w.same is, (refl, refl))) c.set_budget.ensures.unchanged
+    on_err_weaker c.set_budget.result (λ is. (w.same is, (refl, refl), refl)) c.set_budget.ensures.unchanged

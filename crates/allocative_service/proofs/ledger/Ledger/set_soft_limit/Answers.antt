@@ -15,4 +15,4 @@ pub returns-clause-set : goal.returns-clause-set
 returns-clause-set c =
     let w = written c.args.tenant.now _ _ c.args.self.now.accounts (c.get_mut.follows.lender c.set_soft_limit.new.self)
     c.in_ok-account.ensures.value (c.get_mut.follows.holds c.set_soft_limit.new.self) in
-    record { before = c.in_ok-account.account.now; account = sym c.in_ok-account.ensures.value; change = rw (← c.set_soft_limit.ensures) (in_ledger _ _ _ _ w.one (refl, refl)) }
+    record { before = c.in_ok-account.account.now; account = sym c.in_ok-account.ensures.value; change = rw (← c.set_soft_limit.ensures) (in_ledger _ _ _ _ w.one (refl, refl) refl) }
