@@ -1,8 +1,8 @@
 -- What a caller of `visit_field_with` learns from the closure's outcome.
 use Rattle.std.proofs.Common.{◌≡◌, ℕ, Result, Ok, Err, MutBor, false, subst, refl, Some}
-use Rattle.allocative.proofs.Common.{Restore, Refusal, Key, Forest, held, ShowsNoContent, State, Going, OfHeld}
+use Rattle.allocative.proofs.Common.{Restore, Refusal, Key, Forest, held, ShowsNoContent, State, Going, OfSum}
 use Rattle.allocative.proofs.Common.{nothing_held, close_entry, Showing, Inside, AddsForest, OpensEntry, Settles}
-use Rattle.allocative.proofs.Common.{Visitor, called, refused_inside, IsHeldSum, ClosesEntry}
+use Rattle.allocative.proofs.Common.{Visitor, called, refused_inside, IsSum, ClosesEntry}
 use Rattle.std.specs.Fn.{Once}
 use Rattle.allocative.specs.Closures.{CallShows, CallsInside, not_called, CalledAtRoot, AnswersSum, after_told}
 use Rattle.allocative.proofs.Visits.{adds_inline, entry_err, not_entered, adds_refused_err}
@@ -11,7 +11,7 @@ use Rattle.allocative.proofs.Roots.{visits_root, held_by_visit}
 
 -- what is answered once the visitor is left
 pub sum_answered : (o : Restore) (c : State) (n : ℕ) {t : State} {q : Result (Unit {0}) Refusal} → ClosesEntry o c t →
-    Settles t q → q ≡ Ok tt → IsHeldSum t n → AnswersSum (close_entry o c) (Ok n)
+    Settles t q → q ≡ Ok tt → IsSum t n → AnswersSum (close_entry o c) (Ok n)
 sum_answered o c n {t} l k e s = rw (← l.closes) (subst (Settles t) e k, s)
 
 -- If the collector settles an error once the visitor is left, that error is the answer.
@@ -46,7 +46,7 @@ module _ {F : Type 0} (g : Once F (MutBor Visitor × Unit {0}) (Result (Unit {0}
       let c = h.called in
       let shown : AddsForest p h.before.collector.now c.told h.after.collector.now =
       rw c.now (told_shows c.told (each h.before c.after c.told c.calls)) in
-      let begun = Going (OfHeld nothing_held) in
+      let begun = Going (OfSum nothing_held) in
       let end = close_entry h.after.outer h.after.collector.now in
       held_by_visit p begun end tt n refl (visits_root begun (Ok tt) h.begun refl shown (record { closes = refl })
       c.same_outer h.answers.0) h.answers.1

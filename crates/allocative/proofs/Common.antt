@@ -4,9 +4,9 @@ pub use Rattle.std.specs.Fn.{FnOnceReturnsAtMut}
 pub use Rattle.std.specs.Iterator.{Yields}
 pub use Rattle.std.specs.Map.Iter.{deref}
 pub use Rattle.allocative_described.specs.Sizes.{checked, size_product}
-pub use Rattle.allocative_graph.specs.Collector.{Failed, Going, Kind, Live, OfGraph, OfHeld, OfOwned, Restore, State}
+pub use Rattle.allocative_graph.specs.Collector.{Failed, Going, Kind, Live, OfGraph, OfSum, Restore, State, Summing}
 pub use Rattle.allocative_graph.specs.Collector.{Takes, begin, enter, enter_first, failed_with, is_graph, outer_of}
-pub use Rattle.allocative_graph.specs.Collector.{leave, close_entry, nothing_held, nothing_owned, count_owning, plus}
+pub use Rattle.allocative_graph.specs.Collector.{leave, close_entry, nothing_held, nothing_owned, count_entry, entry_bytes, plus}
 pub use Rattle.allocative_graph.specs.Collector.{visitors}
 pub use Rattle.allocative_graph.specs.Forest.{Again, Empty, First, Forest, entry_of, followed_by}
 pub use Rattle.allocative_graph.specs.Held.{ShowsNoContent, held}
@@ -16,8 +16,8 @@ pub use Rattle.allocative_graph.specs.Shows.{Both, Field, Inside, InsideAs, Uniq
 pub use Rattle.allocative_graph.specs.Shows.{Showing, each_shows, sized, slice_shows}
 pub use Rattle.allocative_graph.specs.Sums.{add_all}
 pub use Rattle.allocative_graph.specs.Visits.{RefusesEntry, OpensRoot, OpensEntry, OpensShared, HasFailed, IsProfileOf}
-pub use Rattle.allocative_graph.specs.Visits.{Profile, VisitsRoot, Settles, AddsForest, already, enters_again}
-pub use Rattle.allocative_graph.specs.Visits.{enters_first, forgotten, goes_past, hidden, is_entered, is_refused}
+pub use Rattle.allocative_graph.specs.Visits.{Profile, VisitsRoot, Settles, AddsForest, already, enters_again, ExceedsSum}
+pub use Rattle.allocative_graph.specs.Visits.{enters_first, forgotten, hidden, is_entered, is_refused}
 pub use Rattle.allocative_graph.specs.Visits.{is_refused_shared, RefusesSized, refused, stays_failed, stays_shared}
 pub use Rattle.allocative_graph.specs.Visits.{ClosesEntry, is_too_large_shared, counts}
 pub use Rattle.allocative_graph.specs.declared.refusal.Refusal.{Refusal}
@@ -27,11 +27,10 @@ pub use Rattle.serde_json.specs.declared.value.Value.TheOpen.{Value-F}
 pub use Rattle.slab.specs.Slab.{values}
 pub use Rattle.allocative.specs.Bodies.{are_shown_each, buffer_shows, bytes_shown, table_shows, with_room, without_room}
 pub use Rattle.allocative.specs.Bodies.{without_size}
-pub use Rattle.allocative.specs.Built.{as_graph}
 pub use Rattle.allocative.specs.Closures.{called, refused_inside}
 pub use Rattle.allocative.specs.Strict.{CanTake, HasRoomFor, IsDeclared, MayRefuse, FailsOnlyIfFull, RootFailsOnlyIfFull}
 pub use Rattle.allocative.specs.Strict.{ShowsContents, all_bytes, has_added, has_refused}
-pub use Rattle.allocative.specs.Kinds.{IsHeldSum, state_of}
+pub use Rattle.allocative.specs.Kinds.{IsSum, state_of}
 pub use Rattle.allocative.specs.Levels.{levels_shown}
 pub use Rattle.allocative.specs.Making.{Done, Entry, Makes, MakesPlan, Plan, entry_refused, gives, inside_refused, made}
 pub use Rattle.allocative.specs.Making.{made_none, makes, one}

@@ -45,13 +45,13 @@ use denote.Param.Shared.{copy_shared}
 use denote.Struct.Field.{usize-field}
 use denote.Struct.Laws.{usize-laws, usize-copy}
 pub use Rattle.allocative.proofs.Common.{name_if_ok, Refusal, Key, State, Visitor, LendsCollector, with_state}
-pub use Rattle.allocative.proofs.Common.{OpensRoot, Settles, as_graph, OpensShared, EndsWith, EndsWithout}
+pub use Rattle.allocative.proofs.Common.{OpensRoot, Settles, OpensShared, EndsWith, EndsWithout}
 pub use Rattle.allocative.proofs.Common.{AnswersShared, answer_without_visitor, transpose, Identity, enters_first, LendsNested, Nests}
 pub use Rattle.allocative.proofs.Common.{IsRefused, OpensEntry, RefusesEntry, Failed}
 pub use Rattle.std.specs.Borrow.{RestsIfErr}
 pub use prog.Wp.{WpFn, Closed}
 pub use denote.Param.{layout, bounded, param}
-pub use Rattle.allocative.specs.Lending.{LendsBegunGraph, LendsPointed, OpensSharedAt}
+pub use Rattle.allocative.specs.Lending.{LendsBegun, LendsPointed, OpensSharedAt}
 pub use contract.BorrowLft.{◌⊑◌}
 pub use mir.MapTy.{inst_fn}
 pub use Rattle.allocative.specs.contracts.visitor.collector.Collector.{the_row as collector_row}

@@ -1,13 +1,12 @@
 -- What the collector's own calls do, by what they find: the collector had failed, or it was going.
-use Rattle.std.proofs.Common.{◌≡◌, ℕ, ◌+◌, ◌-◌, ◌<◌, ◌≤◌, ◌^◌, Bool, true, false, Some, Option, Ok, Err}
-use Rattle.std.proofs.Common.{refl}
-use Rattle.allocative.proofs.Common.{Restore, Refusal, TooLarge, Key, Identity, Live, Kind, OfGraph, OfHeld, OfOwned}
-use Rattle.allocative.proofs.Common.{count_owning, State, Failed, Going, OpensEntry, stays_failed, is_refused}
-use Rattle.allocative.proofs.Common.{is_entered, RefusesSized, OpensShared, stays_shared, is_refused_shared, goes_past}
+use Rattle.std.proofs.Common.{◌≡◌, ℕ, ◌+◌, ◌<◌, ◌^◌, Bool, true, false, Some, Option, Ok, Err, refl}
+use Rattle.allocative.proofs.Common.{Restore, Refusal, TooLarge, Key, Identity, Live, Kind, OfGraph, OfSum, Summing}
+use Rattle.allocative.proofs.Common.{count_entry, entry_bytes, ExceedsSum, State, Failed, Going, OpensEntry, stays_failed, is_refused}
+use Rattle.allocative.proofs.Common.{is_entered, RefusesSized, OpensShared, stays_shared, is_refused_shared}
 use Rattle.allocative.proofs.Common.{is_too_large_shared, counts, enters_first, enters_again, Done}
 use Rattle.allocative.proofs.Common.{one, Makes, made_none, made, entry_refused}
 use Rattle.allocative_collectors.specs.Meets.{MeetsAs}
-use Rattle.allocative_graph.specs.Collector.{Holding, Owning, enter, leave, outer_of}
+use Rattle.allocative_graph.specs.Collector.{enter, leave, outer_of}
 use Rattle.allocative_graph.specs.Sums.{bytes_entered}
 use Rattle.allocative_graph.specs.Visits.{HasRoom, Refuses}
 use Rattle.allocative.specs.Making.{had_failed}
@@ -61,20 +60,16 @@ pub shared_failed : {k : Key} {n : ℕ} {i : Identity} {s t : State} {r : Refusa
     OpensShared k n i s (Err r) t
 shared_failed i j = rw (i, j) stays_shared
 
--- Opening a shared entry leaves a collector of held bytes as it is, and no content is shown.
-pub shared_held : {k : Key} {n : ℕ} {i : Identity} (h : Holding) {s t : State} → s ≡ Going (OfHeld h) →
-    t ≡ Going (OfHeld h) → OpensShared k n i s (Ok false) t
-shared_held h i j = rw (i, j) goes_past
+-- A collector of a sum counts a shared pointer if the sum fits a word, and no content is shown.
+pub shared_counted : {k : Key} {n : ℕ} {i : Identity} (a : Summing) {s t : State} → s ≡ Going (OfSum a) →
+    a.sum + entry_bytes a.figure true n < 2 ^ 64 → t ≡ Going (OfSum (count_entry true n a)) →
+    OpensShared k n i s (Ok false) t
+shared_counted a i r j = rw (i, j) (counts r refl)
 
--- A collector of owned bytes counts a shared pointer if the sum fits a word, and no content is shown.
-pub shared_counted : {k : Key} {n : ℕ} {i : Identity} (o : Owning) {s t : State} → s ≡ Going (OfOwned o) →
-    o.sum + (n - o.spare) < 2 ^ 64 → t ≡ Going (OfOwned (count_owning n o)) → OpensShared k n i s (Ok false) t
-shared_counted o i r j = rw (i, j) (counts r refl)
-
--- A collector of owned bytes refuses a shared pointer with TooLarge if the sum does not fit a word.
-pub shared_too_large : {k : Key} {n : ℕ} {i : Identity} (o : Owning) {s t : State} {e : Refusal} →
-    s ≡ Going (OfOwned o) → e ≡ TooLarge → 2 ^ 64 ≤ o.sum + (n - o.spare) → t ≡ Failed e → OpensShared k n i s (Err e) t
-shared_too_large o i e r j = rw (i, j) (is_too_large_shared e r)
+-- A collector of a sum refuses a shared pointer with TooLarge if the sum does not fit a word.
+pub shared_too_large : {k : Key} {n : ℕ} {i : Identity} (a : Summing) {s t : State} {e : Refusal} →
+    s ≡ Going (OfSum a) → e ≡ TooLarge → ExceedsSum true n a → t ≡ Failed e → OpensShared k n i s (Err e) t
+shared_too_large a i e r j = rw (i, j) (is_too_large_shared e r)
 
 -- A flame graph's collector refuses a shared entry as it refuses an inline entry of as many bytes.
 pub shared_refused : {k : Key} {n : ℕ} {i : Identity} (c : Live) {s t : State} {e : Refusal} → s ≡ Going (OfGraph c) →
@@ -89,4 +84,4 @@ shared_met c d true i r m j = rw (i, j) (enters_first r m.0 m.1)
 shared_met c d false i r m j = rw (i, j) (enters_again r m.0 m.1)
 
 -- The rules for the collector's own calls.
-pub ruleset opening = (opens_failed, opens_refused, opens_entered, makes_failed_entry, makes_refused_entry, makes_one, none_failed, none_made, shared_failed, shared_held, shared_counted, shared_too_large, shared_refused, shared_met, refuses_entry)
+pub ruleset opening = (opens_failed, opens_refused, opens_entered, makes_failed_entry, makes_refused_entry, makes_one, none_failed, none_made, shared_failed, shared_counted, shared_too_large, shared_refused, shared_met, refuses_entry)

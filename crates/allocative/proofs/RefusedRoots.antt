@@ -1,7 +1,7 @@
 -- A root that is refused after others: it may be refused only if the whole list of roots may be.
 use Rattle.std.proofs.Common.{◌≡◌, ℕ, ◌+◌, ◌<◌, ◌^◌, List, [], ◌∷◌, ◌++◌, length, take, drop, get_or, Bool, true, false}
 use Rattle.std.proofs.Common.{IsTrue, Result, Ok, Err, IfErr, inr, refl, ap, sym, subst, ◌∙◌}
-use Rattle.allocative.proofs.Common.{Refusal, Forest, Kind, OfGraph, OfHeld, OfOwned, State, Failed, Going, plus}
+use Rattle.allocative.proofs.Common.{Refusal, Forest, Kind, OfGraph, OfSum, State, Failed, Going, plus}
 use Rattle.allocative.proofs.Common.{is_graph, begin, Showing, Both, each_shows, VisitsRoot, all_bytes, HasRoomFor}
 use Rattle.allocative.proofs.Common.{CanTake, MayRefuse, RootFailsOnlyIfFull}
 use Rattle.std.specs.List.{list_all}
@@ -19,8 +19,7 @@ use Rattle.allocative.proofs.Within.{around_item}
 room_begun : (b : Kind) (f g : Forest) → HasRoomFor (plus (begin b) f) g → HasRoomFor (begin (plus b f)) g
 room_begun (OfGraph c) f g h = subst (λ (n : ℕ). n + all_bytes g < 2 ^ 63)
     (bytes_entered-plus (go [] c) f ∙ sym (bytes_entered-plus c f)) h
-room_begun (OfHeld k) f g h = h
-room_begun (OfOwned k) f g h = h
+room_begun (OfSum s) f g h = h
 
 -- If all roots can be taken, so can one of them after those before it.
 can_among : {T : Type 0} (p : T → Showing) (front : List T) (x : T) (back : List T) (b : Kind) (f : Forest) →

@@ -1,26 +1,26 @@
 -- What a visit by a root visitor amounts to.
-use Rattle.std.proofs.Common.{◌≡◌, ℕ, suc, min, ◌+◌, ◌-◌, ◌<◌, ◌≤◌, ◌^◌, inr, Option, Some, None, List, length}
-use Rattle.std.proofs.Common.{take, get_or, Bool, IsTrue, Result, Ok, Err, IsErr, refl, ap, sym, subst, ◌∙◌, arith}
+use Rattle.std.proofs.Common.{◌≡◌, ℕ, suc, ◌+◌, ◌<◌, ◌≤◌, ◌^◌, inr, Option, Some, None, List, length}
+use Rattle.std.proofs.Common.{take, get_or, Bool, IsTrue, Result, Ok, Err, IsErr, refl, ap, sym, subst, ◌∙◌, arith, inl}
 use Rattle.std.proofs.Common.{IfOk, IfErr}
 use Rattle.allocative.proofs.Common.{Restore, Refusal, TooLarge, Forest, followed_by, add_all, held, ShowsNoContent, Kind}
-use Rattle.allocative.proofs.Common.{OfGraph, OfHeld, OfOwned, State, Failed, Going, leave, plus, Takes, visitors}
-use Rattle.allocative.proofs.Common.{is_graph, begin, outer_of, close_entry, nothing_held, nothing_owned, Showing, Both}
+use Rattle.allocative.proofs.Common.{OfGraph, OfSum, State, Failed, Going, leave, plus, Takes, visitors}
+use Rattle.allocative.proofs.Common.{is_graph, begin, outer_of, close_entry, nothing_held, Showing, Both}
 use Rattle.allocative.proofs.Common.{each_shows, AddsForest, refused, hidden, forgotten, OpensRoot, Settles, VisitsRoot}
-use Rattle.allocative.proofs.Common.{Profile, IsProfileOf, IsHeldSum, MayRefuse, FailsOnlyIfFull, has_added}
+use Rattle.allocative.proofs.Common.{Profile, IsProfileOf, IsSum, MayRefuse, FailsOnlyIfFull, has_added}
 use Rattle.allocative.proofs.Common.{has_refused, RootFailsOnlyIfFull, ClosesEntry}
-use Rattle.allocative.specs.SizeOf.{AnswersSize, AnswersVisit, AnswersVisitOf, IsSizeOfOwned}
+use Rattle.allocative.specs.SizeOf.{AnswersSize, AnswersVisit, AnswersVisitOf}
 use Rattle.allocative.specs.RefusedVisits.{RefusesVisit}
-use Rattle.allocative.specs.Built.{as_graph}
 use Rattle.allocative.proofs.Within.{err_or, same_err}
 use Rattle.allocative.specs.Visited.{Effect, WasVisited, VisitsRootWithEffect, not_begun, root_visited}
 use Rattle.allocative_graph.specs.Forest.{met_after, Fits, own, all}
 use Rattle.allocative_graph.specs.Sums.{sums_of}
 use Rattle.allocative_graph.specs.Meaning.{content_of}
 use Rattle.allocative_graph.specs.Graph.{Graph, graph, warnings, warned_paths, sum_of}
-use Rattle.allocative_graph.specs.Collector.{entries_at, IsClosed, IsAtRoot, no_entries, no_outer}
-use Rattle.allocative_graph.specs.Owned.{direct, owned}
+use Rattle.allocative_graph.specs.Collector.{entries_at, IsClosed, IsAtRoot, no_entries, forest_bytes}
+use Rattle.allocative_graph.specs.Owned.{direct}
 use Rattle.allocative_graph.specs.Visits.{added, Ends, IsProfile, IsSumOfTwo}
 use Rattle.allocative_graph.proofs.Plus.{plus-following, takes_both, visitors-leave, closed-visitors, closed-plus}
+use Rattle.allocative_graph.proofs.Plus.{figure_after-zero, figure_after-none}
 use Rattle.allocative_graph.proofs.Plus.{is_graph-plus, is_graph-leave, is_graph-begin}
 use Rattle.allocative.proofs.Showing.{each_and_one}
 use Rattle.allocative_graph.proofs.Reach.{all_is_meaning, reaches_exactly}
@@ -31,23 +31,20 @@ use Rattle.std.proofs.lemmas.List.{take_more}
 -- If no visitor was open, exactly one is open after a root visitor was opened.
 visitors-begin : (b : Kind) → IsClosed b → visitors (begin b) ≡ 1
 visitors-begin (OfGraph c) h = ap suc h
-visitors-begin (OfHeld k) h = ap suc h
-visitors-begin (OfOwned k) h = ap suc h.0
+visitors-begin (OfSum s) h = ap suc h.0
 
 -- The entries of a root visitor, and its end.
 out_of_begin : (b : Kind) (f : Forest) → IsAtRoot b → leave (outer_of 0 b) (plus (begin b) f) ≡ plus b f
 out_of_begin (OfGraph c) f h = λ i. OfGraph
     (record c { sums = add_all c.sums (entries_at (sym h.0 i) f); met = met_after c.met f })
-out_of_begin (OfHeld k) f h = refl
-out_of_begin (OfOwned k) f h =
-    let spare : k.spare - 0 ≡ k.spare - direct f = omega (arith, h) in
-    λ i. OfOwned (record k { sum = k.sum + (owned f - min k.spare (direct f)); spare = spare i })
+out_of_begin (OfSum s) f h =
+    let same = figure_after-zero s.figure ∙ sym (figure_after-none s.figure (direct f) h) in
+    λ i. OfSum (record s { sum = s.sum + forest_bytes s.figure f; figure = same i })
 
 -- What a collector can take with a root visitor open, it can take without it.
 takes_begin : (b : Kind) (f : Forest) → Takes (begin b) f → Takes b f
 takes_begin (OfGraph c) f t = t
-takes_begin (OfHeld k) f t = t
-takes_begin (OfOwned k) f t = t
+takes_begin (OfSum s) f t = t
 
 -- A step of `visits_root`: adding at the root visitor, and then leaving it, is a visit of a root.
 visits_going : {p : Showing} (b e : Kind) {c : State} {r : Result Unit Refusal} (q : Result Unit Refusal) → IsClosed b →
@@ -103,63 +100,51 @@ root_only_if_full (Going b) (Err z) {p} {c = c} {d = d} {r = r} h i v l e k = λ
     rw g (only_if_full_going b (begin b) z closed h.1 refl v' k')
 
 -- The sum of a run of held bytes.
-pub held_by_visit : (p : Showing) (s t : State) (u : Unit) (n : ℕ) → s ≡ Going (OfHeld nothing_held) →
-    VisitsRoot p s (Ok u) t → IsHeldSum t n → (f : Forest) × p f × ShowsNoContent f × (n ≡ held f)
+pub held_by_visit : (p : Showing) (s t : State) (u : Unit) (n : ℕ) → s ≡ Going (OfSum nothing_held) →
+    VisitsRoot p s (Ok u) t → IsSum t n → (f : Forest) × p f × ShowsNoContent f × (n ≡ held f)
 held_by_visit p (Failed r) t u n e h k = absurd (cc)
 held_by_visit p (Going b) (Failed r) u n e h k = absurd h
 held_by_visit p (Going b) (Going c) u n e (z, f, a, t, g) k =
-    let i : b ≡ OfHeld nothing_held = cc in
-    let t' : Takes (OfHeld nothing_held) f = subst (λ (x : Kind). Takes x f) i t in
-    let g' : c ≡ plus (OfHeld nothing_held) f = rw i at g in
-    let k' : n ≡ 0 + (held f + 0) = subst (λ (x : Kind). IsHeldSum (Going x) n) g' k in
-    (f, a, t', omega (arith, k'))
-
--- The sum of a run of owned bytes.
-pub owned_by_visit : (p : Showing) (s t : State) (u : Unit) (n : ℕ) → s ≡ Going (OfOwned nothing_owned) →
-    VisitsRoot p s (Ok u) t → IsHeldSum t n → IsSizeOfOwned p n
-owned_by_visit p (Failed r) t u n e h k = absurd (cc)
-owned_by_visit p (Going b) (Failed r) u n e h k = absurd h
-owned_by_visit p (Going b) (Going c) u n e (z, f, a, t, g) k =
-    let i : b ≡ OfOwned nothing_owned = cc in
-    let t' : Takes (OfOwned nothing_owned) f = subst (λ (x : Kind). Takes x f) i t in
-    let g' : c ≡ plus (OfOwned nothing_owned) f = rw i at g in
-    let k' : n ≡ 0 + (owned f - min 0 (direct f)) = subst (λ (x : Kind). IsHeldSum (Going x) n) g' k in
+    let i : b ≡ OfSum nothing_held = cc in
+    let t' : Takes (OfSum nothing_held) f = subst (λ (x : Kind). Takes x f) i t in
+    let g' : c ≡ plus (OfSum nothing_held) f = rw i at g in
+    let k' : n ≡ 0 + (held f + 0) = subst (λ (x : Kind). IsSum (Going x) n) g' k in
     (f, a, t', omega (arith, k'))
 
 -- After a visit at a closed collector, the result is what is answered of the collector that the visit left.
 pub visit_answered : {T : Type 0} {z : Kind} {p : Showing} {effect : Effect} {answers : State → Result T Refusal → Type 0}
     {s t : State} {q : Result Unit Refusal} {r : Result T Refusal} →
-    IsClosed z → outer_of 0 z ≡ no_outer → VisitsRootWithEffect p effect s t q → s ≡ Going z →
-    (Settles t q → answers t r) → AnswersVisitOf z p effect answers r
-visit_answered closed none (not_begun x b) is up = absurd ((rw is at b).1 closed)
-visit_answered {z = z} {p} {effect} {answers} {r = r} closed none (root_visited {o = o} {a = a} {c = c} b v l e k) is up =
+    IsClosed z → VisitsRootWithEffect p effect s t q → s ≡ Going z → (Settles t q → answers t r) →
+    AnswersVisitOf z p effect answers r
+visit_answered closed (not_begun x b) is up = absurd ((rw is at b).1 closed)
+visit_answered {z = z} {p} {effect} {answers} {r = r} closed (root_visited {o = o} {a = a} {c = c} b v l e k) is up =
     let b' : OpensRoot (Going z) (Ok o) a = rw is at b in
     record {
       after = c;
       visited = subst (λ (x : State). WasVisited p effect x c) b'.3 v;
-      answer = subst (λ (x : State). answers x r) (l.closes ∙ ap (λ (w : Restore). close_entry w c) (e ∙ b'.2 ∙ none))
+      answer = subst (λ (x : State). answers x r) (l.closes ∙ ap (λ (w : Restore). close_entry w c) (e ∙ b'.2))
           (up k);
     }
 
 -- If the visit returns an error, so does the call, with that error.
 pub visit_refused : {T : Type 0} {z : Kind} {p : Showing} {effect : Effect} {answers : State → Result T Refusal → Type 0}
     {s t : State} {e : Refusal} {r : Result T Refusal} →
-    IsClosed z → outer_of 0 z ≡ no_outer → VisitsRootWithEffect p effect s t (Err e) → s ≡ Going z →
-    (Settles t (Err e) → answers t (Err e)) → IsErr r → e ≡ err_or e r → AnswersVisitOf z p effect answers r
-visit_refused closed none v is up h i = rw (same_err _ h i) (visit_answered closed none v is up)
+    IsClosed z → VisitsRootWithEffect p effect s t (Err e) → s ≡ Going z → (Settles t (Err e) → answers t (Err e)) →
+    IsErr r → e ≡ err_or e r → AnswersVisitOf z p effect answers r
+visit_refused closed v is up h i = rw (same_err _ h i) (visit_answered closed v is up)
 
 -- If the visit returns Ok and there is no declared size, the size is refused with TooLarge.
 pub size_not_there : {p : Showing} {effect : Effect} {size : Option ℕ} {s t : State} {u : Unit} (n : ℕ) →
-    VisitsRootWithEffect p effect s t (Ok u) → s ≡ Going (OfHeld nothing_held) → IsHeldSum t n → size ≡ None →
+    VisitsRootWithEffect p effect s t (Ok u) → s ≡ Going (OfSum nothing_held) → IsSum t n → size ≡ None →
     AnswersVisit p effect (AnswersSize size) (Err TooLarge)
 size_not_there n v is h y =
-    visit_answered refl refl v is (λ k. inr (n, (k, h), refl, λ own z. absurd (cc)))
+    visit_answered (refl, tt) v is (λ k. inr (n, (k, h), refl, λ own z. absurd (cc)))
 
 -- If held bytes and declared size together do not fit a word, the size is refused with TooLarge.
 pub size_too_large : {p : Showing} {effect : Effect} {size : Option ℕ} {s t : State} {u : Unit} (n : ℕ) {own : ℕ} →
-    VisitsRootWithEffect p effect s t (Ok u) → s ≡ Going (OfHeld nothing_held) → IsHeldSum t n → size ≡ Some own →
+    VisitsRootWithEffect p effect s t (Ok u) → s ≡ Going (OfSum nothing_held) → IsSum t n → size ≡ Some own →
     2 ^ 64 ≤ n + own → AnswersVisit p effect (AnswersSize size) (Err TooLarge)
-size_too_large n {own = own} v is h y l = visit_answered refl refl v is (λ k. inr (
+size_too_large n {own = own} v is h y l = visit_answered (refl, tt) v is (λ k. inr (
   n,
   (k, h),
   refl,
@@ -168,15 +153,15 @@ size_too_large n {own = own} v is h y l = visit_answered refl refl v is (λ k. i
       rw (← same) l,
 ))
 
--- A root that is refused at a closed collector of a flame graph is refused with what its visit left.
-pub root_refused : {p : Showing} {effect : Effect} (s : State) {t : State} {u : Unit} (r : Result Unit Refusal) →
-    Settles (as_graph s) (Ok u) → VisitsRootWithEffect p effect s t r → IfErr r (RefusesVisit p effect (as_graph s))
-root_refused s (Ok v) k h = tt
-root_refused (Failed x) (Err e) k h = absurd (cc)
-root_refused (Going (OfGraph c)) (Err e) k h =
-    inr (OfGraph c, refl, visit_answered k refl h refl (λ y. y))
-root_refused (Going (OfHeld k)) (Err e) h v = absurd (cc)
-root_refused (Going (OfOwned k)) (Err e) h v = absurd (cc)
+-- A root is refused with what a collector in this state refuses, or with what its visit left.
+pub root_refused : {p : Showing} {effect : Effect} (s t : State) (r : Result Unit Refusal) → VisitsRoot p s r t →
+    VisitsRootWithEffect p effect s t r → IfErr r (RefusesVisit p effect s)
+root_refused s t (Ok u) v h = tt
+root_refused (Failed x) t (Err e) v h = inl v.0
+root_refused (Going b) (Failed x) (Err e) v (not_begun y k) = absurd (k.1 v.0)
+root_refused (Going b) (Going c) (Err e) v (not_begun y k) = inl (v.0, k.1)
+root_refused (Going b) t (Err e) v (root_visited o w l i k) =
+    inr (b, refl, visit_answered o.0 (root_visited o w l i k) refl (λ y. y))
 
 -- Two runs are one of all that r allows, if r allows what both show.
 visits_joined : {p q r : Showing} (s m t : State) (u v w : Unit) → ((f : Forest) → Both p q f → r f) →

@@ -1,30 +1,29 @@
 -- How visits that refuse only if they must compose: one after another, inside an entry, and as a shared content.
-use Rattle.std.proofs.Common.{◌≡◌, ℕ, ◌+◌, ◌<◌, ◌^◌, Bool, true, false, ◌&&◌, IsTrue, cond, List, [], ◌∷◌, ◌++◌}
+use Rattle.std.proofs.Common.{◌≡◌, ℕ, ◌+◌, ◌<◌, ◌^◌, Bool, true, false, ◌&&◌, IsTrue, List, [], ◌∷◌, ◌++◌}
 use Rattle.std.proofs.Common.{flat_map, Option, Some, None, inl, inr, Result, Ok, Err, refl, sym, ◌∙◌, ap, subst, arith}
 use Rattle.std.proofs.Common.{◌-◌}
 use Rattle.allocative.proofs.Common.{Restore, Refusal, Memory, TooLarge, Key, Identity, Forest, Empty, First, Again}
-use Rattle.allocative.proofs.Common.{followed_by, entry_of, add_all, held, Live, Kind, OfGraph, OfHeld, State, Failed}
+use Rattle.allocative.proofs.Common.{followed_by, entry_of, add_all, Live, Kind, OfGraph, OfSum, State, Failed}
 use Rattle.allocative.proofs.Common.{Going, plus, enter, enter_first, Takes, is_graph, outer_of, leave}
 use Rattle.allocative.proofs.Common.{failed_with, Showing, Nothing, Both, InsideAs, Inside, sized, Field}
 use Rattle.allocative.proofs.Common.{Shared, each_shows, HasFailed, OpensEntry, stays_failed, is_refused}
-use Rattle.allocative.proofs.Common.{is_entered, OpensShared, stays_shared, is_refused_shared, goes_past, enters_first}
+use Rattle.allocative.proofs.Common.{is_entered, OpensShared, stays_shared, is_refused_shared, enters_first}
 use Rattle.allocative.proofs.Common.{enters_again, all_bytes, HasRoomFor, ShowsContents, IsDeclared, CanTake, MayRefuse}
-use Rattle.allocative.proofs.Common.{FailsOnlyIfFull, has_added, has_refused, ClosesEntry, OfOwned, is_too_large_shared}
-use Rattle.allocative.proofs.Common.{counts}
+use Rattle.allocative.proofs.Common.{FailsOnlyIfFull, has_added, has_refused, ClosesEntry, Summing, is_too_large_shared}
+use Rattle.allocative.proofs.Common.{counts, entry_bytes}
 use Rattle.std.proofs.lemmas.Bool.{false≢true, and_parts}
 use Rattle.std.proofs.lemmas.Grind.{flat_map-append}
 use Rattle.allocative_graph.specs.declared.refusal.Refusal.TheVariants.{Open}
 use Rattle.allocative_graph.specs.Path.{Path}
 use Rattle.allocative_graph.specs.Forest.{Inline, Unique, Bag, own_behind, contents, content_entries}
 use Rattle.allocative_graph.specs.Sums.{Sums, bytes_entered, add}
-use Rattle.allocative_graph.specs.Held.{inline_bytes}
-use Rattle.allocative_graph.specs.Collector.{Owning, entries_at, plus_live}
+use Rattle.allocative_graph.specs.Collector.{entries_at, plus_live}
 use Rattle.allocative_graph.specs.Visits.{HasRoom, Refuses}
 use Rattle.allocative_graph.proofs.Below.{bytes_entered-add}
 use Rattle.allocative_graph.proofs.Following.{own-following, contents-following}
 use Rattle.allocative_graph.proofs.Plus.{plus-nothing, plus-following, takes_nothing, takes_both, inside_entry}
-use Rattle.allocative_graph.proofs.Plus.{takes_entry, inside_first, takes_shared, held_again, owned_again}
-use Rattle.allocative_graph.proofs.Plus.{is_graph-plus, is_graph-enter}
+use Rattle.allocative_graph.proofs.Plus.{takes_entry, inside_first, takes_shared, counted_again, forest_bytes-again}
+use Rattle.allocative_graph.proofs.Plus.{forest_bytes-following, forest_bytes-entry, is_graph-plus, is_graph-enter}
 use Rattle.allocative.specs.Strict.{FitsWords, had_failed}
 
 -- ---- the bytes of all entries
@@ -80,55 +79,26 @@ words_both o (Unique k n f after) g h = let r = words_both o after g h.3 in ((h.
 words_both o (First k n i f after) g h = words_both o after g h
 words_both o (Again k n i after) g h = words_both o after g h
 
-abbrev sum_in : Kind → ℕ
-sum_in (OfGraph c) = 0
-sum_in (OfHeld h) = h.sum
-sum_in (OfOwned o) = o.sum
-
 -- What is added first has room, and what comes after it has room then.
 room_apart : (b : Kind) (f g : Forest) → HasRoomFor b (followed_by f g) → HasRoomFor b f × HasRoomFor (plus b f) g
 room_apart (OfGraph c) f g h =
     (omega (arith, h, all_bytes-following f g), omega (arith, h, all_bytes-following f g, bytes_entered-plus c f))
-room_apart (OfHeld d) f g (h, l) =
-    let h' : sum_in (plus (plus (OfHeld d) f) g) < 2 ^ 64 =
-    subst (λ (n : ℕ). n < 2 ^ 64) (ap sum_in (plus-following (OfHeld d) f g)) h in
-    let w = words_both d.open_visitors f g l in
-    ((omega (arith, h'), w.0), (h', w.1))
-room_apart (OfOwned d) f g (h, l) =
-    let h' : sum_in (plus (plus (OfOwned d) f) g) < 2 ^ 64 =
-    subst (λ (n : ℕ). n < 2 ^ 64) (ap sum_in (plus-following (OfOwned d) f g)) h in
-    let w = words_both d.open_visitors f g l in
-    ((omega (arith, h'), w.0), (h', w.1))
-
--- A step of `room_within`: if a sum fits with an entry and its inside, it fits with the entry alone.
-inline_room : (u : Bool) (m s n x : ℕ) → s + ((x + 0) + cond u (n + 0) 0) < m → s + cond u n 0 < m
-inline_room true m s n x h = omega (arith, h)
-inline_room false m s n x h = omega (arith, h)
-
--- For owned bytes: if an entry with its inside fits, there is room to open it, and then for its inside.
-owned_within : (u : Bool) (k : Key) (n : ℕ) (d : Owning) (f : Forest) →
-    sum_in (plus (OfOwned d) (entry_of u k n f)) < 2 ^ 64 → FitsWords d.open_visitors (entry_of u k n f) →
-    HasRoom u n (OfOwned d) × HasRoomFor (enter u k n (OfOwned d)) f
-owned_within true k n d f h l =
-    let h' : sum_in (plus (enter true k n (OfOwned d)) f) < 2 ^ 64 =
-    subst (λ (m : ℕ). m < 2 ^ 64) (sym (ap sum_in (inside_entry true k n (OfOwned d) f))) h in
-    ((omega (arith, h'), l.1), (h', l.2))
-owned_within false k n d f h l =
-    let h' : sum_in (plus (enter false k n (OfOwned d)) f) < 2 ^ 64 =
-    subst (λ (m : ℕ). m < 2 ^ 64) (sym (ap sum_in (inside_entry false k n (OfOwned d) f))) h in
-    ((omega (arith, h'), l.1), (h', l.2))
+room_apart (OfSum s) f g (h, l) =
+    let sum = forest_bytes-following s.figure f g in
+    let w = words_both s.open_visitors f g l in
+    ((omega (arith, h, sum), w.0), (omega (arith, h, sum), w.1))
 
 -- An entry has room, and so has then what is inside it.
 room_within : (u : Bool) (k : Key) (n : ℕ) (b : Kind) (f : Forest) → HasRoomFor b (entry_of u k n f) →
     HasRoom u n b × HasRoomFor (enter u k n b) f
 room_within true k n (OfGraph c) f h = (omega (arith, h), omega (arith, h, bytes_entered-plus c (Unique k n Empty Empty)))
 room_within false k n (OfGraph c) f h = (omega (arith, h), omega (arith, h, bytes_entered-plus c (Inline k n Empty Empty)))
-room_within true k n (OfHeld d) f (h, l) =
-    ((inline_room d.is_in_unique _ d.sum 0 (inline_bytes f + held f) h, l.1), (subst (λ (m : ℕ). m < 2 ^ 64) (sym (ap sum_in (inside_entry true k n (OfHeld d) f))) h, l.2))
-room_within false k n (OfHeld d) f (h, l) =
-    ((inline_room d.is_in_unique _ d.sum n (held f) h, l.1), (subst (λ (m : ℕ). m < 2 ^ 64) (sym (ap sum_in (inside_entry false k n (OfHeld d) f))) h, l.2))
-room_within true k n (OfOwned d) f (h, l) = owned_within true k n d f h l
-room_within false k n (OfOwned d) f (h, l) = owned_within false k n d f h l
+room_within true k n (OfSum s) f (h, l) =
+    let sum = forest_bytes-entry s.figure true k n f in
+    ((omega (arith, h, sum), l.1), (omega (arith, h, sum), l.2))
+room_within false k n (OfSum s) f (h, l) =
+    let sum = forest_bytes-entry s.figure false k n f in
+    ((omega (arith, h, sum), l.1), (omega (arith, h, sum), l.2))
 
 -- ---- contents
 -- If two forests one after the other show all their contents, each of them does.
@@ -221,10 +191,11 @@ can_pointer : {p : Showing} (k : Key) (n : ℕ) (i : Identity) (c : Live) → Ca
     bytes_entered c.sums + n < 2 ^ 63
 can_pointer k n i c (d, room) = let h = room (Again k n i Empty) (inr refl) in omega (arith, h)
 
--- If the collector of owned bytes can take a shared entry, its sum with the pointer fits a word.
-can_count : {p : Showing} (k : Key) (n : ℕ) (i : Identity) (o : Owning) → CanTake (OfOwned o) (Shared k n i p) →
-    o.sum + (n - o.spare) < 2 ^ 64
-can_count k n i o (d, room) = let h = (room (Again k n i Empty) (inr refl)).0 in omega (arith, h)
+-- If the collector of a sum can take a shared entry, its sum with the pointer fits a word.
+can_count : {p : Showing} (k : Key) (n : ℕ) (i : Identity) (s : Summing) → CanTake (OfSum s) (Shared k n i p) →
+    s.sum + entry_bytes s.figure true n < 2 ^ 64
+can_count k n i s (d, room) =
+    let h = (room (Again k n i Empty) (inr refl)).0 in omega (arith, h, forest_bytes-again s.figure k n i)
 
 -- ---- why a visit may be refused
 -- If b takes p whenever c takes q, and both or neither make a graph, what may refuse p at b may refuse q at c.
@@ -240,14 +211,10 @@ entry_refuses : (p : Showing) (u : Bool) (k : Key) (n : ℕ) (b : Kind) (e : Ref
 entry_refuses p u k n (OfGraph c) e (inl (i, h)) =
     subst (MayRefuse (InsideAs u k n p) (OfGraph c)) (sym i) (λ w. omega (arith, h, can_entry u k n (OfGraph c) w))
 entry_refuses p u k n (OfGraph c) e (inr (i, h)) = subst (MayRefuse (InsideAs u k n p) (OfGraph c)) (sym i) refl
-entry_refuses p u k n (OfHeld d) e (i, inl h) =
-    subst (MayRefuse (InsideAs u k n p) (OfHeld d)) (sym i) (λ w. omega (arith, h, (can_entry u k n (OfHeld d) w).0))
-entry_refuses p u k n (OfHeld d) e (i, inr h) =
-    subst (MayRefuse (InsideAs u k n p) (OfHeld d)) (sym i) (λ w. omega (arith, h, (can_entry u k n (OfHeld d) w).1))
-entry_refuses p u k n (OfOwned d) e (i, inl h) =
-    subst (MayRefuse (InsideAs u k n p) (OfOwned d)) (sym i) (λ w. omega (arith, h, (can_entry u k n (OfOwned d) w).0))
-entry_refuses p u k n (OfOwned d) e (i, inr h) =
-    subst (MayRefuse (InsideAs u k n p) (OfOwned d)) (sym i) (λ w. omega (arith, h, (can_entry u k n (OfOwned d) w).1))
+entry_refuses p u k n (OfSum s) e (i, inl h) =
+    subst (MayRefuse (InsideAs u k n p) (OfSum s)) (sym i) (λ w. omega (arith, h, (can_entry u k n (OfSum s) w).0))
+entry_refuses p u k n (OfSum s) e (i, inr h) =
+    subst (MayRefuse (InsideAs u k n p) (OfSum s)) (sym i) (λ w. omega (arith, h, (can_entry u k n (OfSum s) w).1))
 
 -- If the collector of a flame graph refuses a pointer with e, a visit that shows it may be refused with e.
 pointer_refuses : (p : Showing) (k : Key) (n : ℕ) (i : Identity) (c : Live) (e : Refusal) →
@@ -278,13 +245,9 @@ only_if_full_weaker up down = only_if_full_as up (λ k w. down w.0)
 -- The bytes of an entry that can be added fit a word.
 pub entry_fits : {p : Showing} (u : Bool) (k : Key) (n : ℕ) (b : Kind) → CanTake b (InsideAs u k n p) → n < 2 ^ 64
 entry_fits u k n (OfGraph c) w = omega (arith, can_entry u k n (OfGraph c) w)
-entry_fits true k n (OfHeld d) w = let r = declared_inside true k n w.0 in
+entry_fits true k n (OfSum s) w = let r = declared_inside true k n w.0 in
     (w.1 (entry_of true k n r.0) (r.0, r.1, refl)).1.0
-entry_fits false k n (OfHeld d) w = let r = declared_inside false k n w.0 in
-    (w.1 (entry_of false k n r.0) (r.0, r.1, refl)).1.0
-entry_fits true k n (OfOwned d) w = let r = declared_inside true k n w.0 in
-    (w.1 (entry_of true k n r.0) (r.0, r.1, refl)).1.0
-entry_fits false k n (OfOwned d) w = let r = declared_inside false k n w.0 in
+entry_fits false k n (OfSum s) w = let r = declared_inside false k n w.0 in
     (w.1 (entry_of false k n r.0) (r.0, r.1, refl)).1.0
 
 -- A visit of p that returns Ok, followed by one of q, fails only if full, if each of the two does.
@@ -435,10 +398,8 @@ only_if_full_content {p} {k} {n} {i} o g is h l = inner (rw is at g) h l
 -- If the content of an opened shared entry is not to be shown, a visit that returns Ok then fails only if full.
 pub only_if_full_again : {p : Showing} {k : Key} {n : ℕ} {i : Identity} {is_first : Bool} {s t : State} {x : Unit} →
     OpensShared k n i s (Ok is_first) t → is_first ≡ false → FailsOnlyIfFull (Shared k n i p) s (Ok x) t
-only_if_full_again {k = k} {n = n} {i = i} (goes_past {h = h}) is =
-    has_added (Again k n i Empty) (inr refl) tt (sym (held_again k n i h))
-only_if_full_again {k = k} {n = n} {i = i} (counts {o = o} r e) is =
-    has_added (Again k n i Empty) (inr refl) tt (ap OfOwned e ∙ sym (owned_again k n i o))
+only_if_full_again {k = k} {n = n} {i = i} (counts {a = a} r e) is =
+    has_added (Again k n i Empty) (inr refl) tt (ap OfSum e ∙ sym (counted_again k n i a))
 only_if_full_again {k = k} {n = n} {i = i} (enters_again {c = c} r h e) is =
     has_added (Again k n i Empty) (inr refl) (h, tt) (ap OfGraph e)
 only_if_full_again (enters_first r h e) is = absurd (false≢true (sym is))
@@ -449,9 +410,8 @@ pub only_if_full_not_shared : {p : Showing} {k : Key} {n : ℕ} {i : Identity} {
 only_if_full_not_shared stays_shared = had_failed
 only_if_full_not_shared {k = k} {n = n} {i = i} (is_refused_shared {c = c} {e = e} h) =
     has_refused (pointer_refuses _ k n i c e h)
-only_if_full_not_shared {p} {k} {n} {i} (is_too_large_shared {o = o} {e = e} j h) =
-    has_refused (subst (MayRefuse (Shared k n i p) (OfOwned o)) (sym j)
-    (λ w. omega (arith, h, can_count k n i o w)))
+only_if_full_not_shared {p} {k} {n} {i} (is_too_large_shared {a = a} {e = e} j h) =
+    has_refused (subst (MayRefuse (Shared k n i p) (OfSum a)) (sym j) (λ w. omega (arith, h.1, can_count k n i a w)))
 
 -- Of a visit that is not strict nothing is asked.
 pub not_strict : {p : Showing} {a b : State} {r : Result Unit Refusal} → IsTrue false → FailsOnlyIfFull p a r b

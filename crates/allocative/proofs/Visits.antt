@@ -6,14 +6,14 @@ use Rattle.allocative.proofs.Common.{Live, Kind, OfGraph, State, Failed, Going, 
 use Rattle.allocative.proofs.Common.{is_graph, visitors, outer_of, failed_with, close_entry, Showing, Nothing, Both}
 use Rattle.allocative.proofs.Common.{InsideAs, Inside, Unique, Field, sized, Shared, each_shows, AddsForest}
 use Rattle.allocative.proofs.Common.{already, refused, hidden, forgotten, HasFailed, OpensEntry, stays_failed}
-use Rattle.allocative.proofs.Common.{is_refused, is_entered, OpensShared, stays_shared, is_refused_shared, goes_past}
-use Rattle.allocative.proofs.Common.{enters_first, enters_again, RefusesEntry, ClosesEntry, OfOwned}
+use Rattle.allocative.proofs.Common.{is_refused, is_entered, OpensShared, stays_shared, is_refused_shared}
+use Rattle.allocative.proofs.Common.{enters_first, enters_again, RefusesEntry, ClosesEntry, OfSum}
 use Rattle.allocative.proofs.Common.{is_too_large_shared, counts}
 use Rattle.std.proofs.lemmas.Bool.{false≢true}
 use Rattle.std.specs.FinSet.{contains}
 use Rattle.allocative_graph.specs.Visits.{added}
 use Rattle.allocative_graph.proofs.Plus.{plus-nothing, plus-following, takes_nothing, takes_both, inside_entry}
-use Rattle.allocative_graph.proofs.Plus.{takes_entry, inside_first, takes_shared, held_again, owned_again}
+use Rattle.allocative_graph.proofs.Plus.{takes_entry, inside_first, takes_shared, counted_again}
 use Rattle.allocative_graph.proofs.Plus.{visitors-plus, visitors-enter, visitors-leave, is_graph-plus, is_graph-enter}
 use Rattle.allocative_graph.proofs.Plus.{is_graph-leave}
 use Rattle.allocative.proofs.Strict.{each_append, each_one}
@@ -145,10 +145,8 @@ adds_content g is z s l = adds_shared (rw is at g) z s l
 -- If a shared entry is opened and its content is not to be shown, the pointer alone is shown.
 pub adds_again : {p : Showing} {k : Key} {n : ℕ} {i : Identity} {is_first : Bool} {s t : State} {x : Unit} →
     OpensShared k n i s (Ok is_first) t → is_first ≡ false → AddsForest (Shared k n i p) s (Ok x) t
-adds_again {k = k} {n = n} {i = i} (goes_past {h = h}) is =
-    added (Again k n i Empty) (inr refl) tt (sym (held_again k n i h))
-adds_again {k = k} {n = n} {i = i} (counts {o = o} r e) is =
-    added (Again k n i Empty) (inr refl) tt (ap OfOwned e ∙ sym (owned_again k n i o))
+adds_again {k = k} {n = n} {i = i} (counts {a = a} r e) is =
+    added (Again k n i Empty) (inr refl) tt (ap OfSum e ∙ sym (counted_again k n i a))
 adds_again {k = k} {n = n} {i = i} (enters_again {c = c} r h e) is =
     added (Again k n i Empty) (inr refl) (h, tt) (ap OfGraph e)
 adds_again (enters_first r h e) is = absurd (false≢true (sym is))

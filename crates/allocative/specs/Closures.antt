@@ -4,11 +4,11 @@ use Rattle.std.specs.Borrow.{MutBor}
 use Rattle.std.specs.Fn.{Once, FnOnceReturnsAtMut}
 use Rattle.allocative_graph.specs.declared.refusal.Refusal.{Refusal}
 use Rattle.allocative_graph.specs.Path.{Key}
-use Rattle.allocative_graph.specs.Collector.{State, Going, OfHeld, Restore, nothing_held, failed_with, close_entry}
+use Rattle.allocative_graph.specs.Collector.{State, Going, OfSum, Restore, nothing_held, failed_with, close_entry}
 use Rattle.allocative_graph.specs.Shows.{Showing}
 use Rattle.allocative_graph.specs.Visits.{AddsForest, HasFailed, OpensEntry, Settles, ClosesEntry}
 use Rattle.allocative.specs.declared.visitor.Visitor.{Visitor}
-use Rattle.allocative.specs.Kinds.{IsHeldSum}
+use Rattle.allocative.specs.Kinds.{IsSum}
 use Rattle.allocative.specs.Visited.{OpensRootAt}
 
 -- The collector after a closure told this: its own refusal is the first cause if nothing had failed.
@@ -16,10 +16,10 @@ abbrev pub after_told : Result (Unit {0}) Refusal → State → State
 after_told (Ok u) s = s
 after_told (Err e) s = failed_with e s
 
--- What is answered of a collector of held bytes: their sum if it has not failed and no visitor is out, else the first
+-- What is answered of a collector of a sum: the sum if it has not failed and no visitor is out, else the first
 -- cause, or Open.
 abbrev pub AnswersSum : State → Result ℕ Refusal → Type 0
-AnswersSum s (Ok n) = Settles s (Ok tt) × IsHeldSum s n
+AnswersSum s (Ok n) = Settles s (Ok tt) × IsSum s n
 AnswersSum s (Err e) = Settles s (Err e)
 
 module _ {F : Type 0}
@@ -70,6 +70,6 @@ module _ {F : Type 0}
   pub record CalledAtRoot (answer : Result ℕ Refusal) : Type 0 where
     pub before : Visitor
     pub after : Visitor
-    pub begun : OpensRootAt (Going (OfHeld nothing_held)) before
+    pub begun : OpensRootAt (Going (OfSum nothing_held)) before
     pub called : CalledAt before after
     pub answers : AnswersSum (close_entry after.outer after.collector.now) answer

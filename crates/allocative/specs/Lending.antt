@@ -7,7 +7,6 @@ use Rattle.allocative_graph.specs.Collector.{State, no_outer}
 use Rattle.allocative_graph.specs.Identity.{Identity}
 use Rattle.allocative_graph.specs.Visits.{OpensEntry, OpensShared, OpensRoot}
 use Rattle.allocative.specs.Shared.{answer_without_visitor}
-use Rattle.allocative.specs.Built.{as_graph}
 use Rattle.allocative.specs.declared.visitor.Visitor.{Visitor}
 use Rattle.allocative.specs.contracts.visitor.collector.Collector as collector
 
@@ -26,12 +25,6 @@ LendsPointed k n i s r = RestsIfErr collector.the_row s (λ v. v.collector.ghost
 abbrev pub LendsBegun : MutBor State → Result Visitor Refusal → Fml
 LendsBegun s r =
     RestsIfErr collector.the_row s (λ v. v.collector.ghost_name) r (λ t. IfErr r (λ e. OpensRoot s.now (Err e) t))
-
--- The collector, seen as that of a flame graph, ends as the root visitor leaves it or, if no visitor is returned, as
--- beginning says.
-abbrev pub LendsBegunGraph : MutBor State → Result Visitor Refusal → Fml
-LendsBegunGraph s r = RestsIfErr collector.the_row s (λ v. v.collector.ghost_name) r
-    (λ t. IfErr r (λ e. OpensRoot (as_graph s.now) (Err e) (as_graph t)))
 
 -- The visitor v borrows the collector s.
 abbrev pub Borrows : MutBor State → Visitor → Type 0

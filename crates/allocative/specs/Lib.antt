@@ -15,7 +15,6 @@ pub mod Kinds
 pub mod Shared
 pub mod Lending
 pub mod Nested
-pub mod Built
 pub mod Rooted
 pub mod RefusedVisits
 pub mod SizeOf

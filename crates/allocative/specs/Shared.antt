@@ -1,28 +1,27 @@
 -- What entering a shared value returns, and in which form.
-use Rattle.std.specs.Prelude.{◌≡◌, ℕ, ◌+◌, ◌-◌, ◌<◌, ◌≤◌, ◌^◌, Bool, true, false, not, Option, None, Some, Result, Ok}
-use Rattle.std.specs.Prelude.{Err}
+use Rattle.std.specs.Prelude.{◌≡◌, ℕ, ◌+◌, ◌<◌, ◌^◌, Bool, true, false, not, Option, None, Some, Result, Ok, Err}
 use Rattle.std.specs.FinSet.{contains}
 use Rattle.allocative_graph.specs.declared.refusal.Refusal.{Refusal}
 use Rattle.allocative_graph.specs.declared.refusal.Refusal.TheVariants.{TooLarge}
 use Rattle.allocative_graph.specs.Path.{Key}
 use Rattle.allocative_graph.specs.Identity.{Identity}
 use Rattle.allocative_graph.specs.Sums.{bytes_entered}
-use Rattle.allocative_graph.specs.Collector.{OfGraph, OfHeld, OfOwned, State, Failed, Going}
-use Rattle.allocative_graph.specs.Visits.{Refuses}
+use Rattle.allocative_graph.specs.Collector.{OfGraph, OfSum, State, Failed, Going, entry_bytes}
+use Rattle.allocative_graph.specs.Visits.{Refuses, ExceedsSum}
 use Rattle.allocative.specs.declared.visitor.Visitor.{Visitor}
 
--- What is returned for a pointer of n bytes to i. A failed collector returns its first cause. The collector of held
--- bytes always returns that nothing is shown. A flame graph's collector returns, if no bound is exceeded, that the
--- content is shown exactly if i was not met; or an error as for an inline entry. That of owned bytes counts the
--- pointer: it returns that nothing is shown, or TooLarge if the sum does not fit.
+-- What is returned for a pointer of n bytes to i. A failed collector returns its first cause. A flame graph's collector
+-- returns, if no bound is exceeded, that the content is shown exactly if i was not met; or an error as for an inline
+-- entry. That of a sum counts the pointer: it returns that nothing is shown, or TooLarge if the sum does not fit, which
+-- is never so for held bytes.
 abbrev pub AnswersShared : Key → ℕ → Identity → State → Result Bool Refusal → Type 0
 AnswersShared k n i (Failed r) result = result ≡ Err r
-AnswersShared k n i (Going (OfHeld h)) result = result ≡ Ok false
 AnswersShared k n i (Going (OfGraph c)) (Ok is_first) = (bytes_entered c.sums + n < 2 ^ 63)
     × (contains c.met i ≡ not is_first)
 AnswersShared k n i (Going (OfGraph c)) (Err e) = Refuses false n (OfGraph c) e
-AnswersShared k n i (Going (OfOwned o)) (Ok is_first) = (o.sum + (n - o.spare) < 2 ^ 64) × (is_first ≡ false)
-AnswersShared k n i (Going (OfOwned o)) (Err e) = (e ≡ TooLarge) × (2 ^ 64 ≤ o.sum + (n - o.spare))
+AnswersShared k n i (Going (OfSum s)) (Ok is_first) =
+    (s.sum + entry_bytes s.figure true n < 2 ^ 64) × (is_first ≡ false)
+AnswersShared k n i (Going (OfSum s)) (Err e) = (e ≡ TooLarge) × ExceedsSum true n s
 
 -- The result if no visitor is returned: nothing is shown, or an error.
 abbrev pub answer_without_visitor : Option Refusal → Result Bool Refusal

@@ -5,8 +5,8 @@ use Rattle.allocative_graph.specs.declared.refusal.Refusal.TheVariants.{TooLarge
 use Rattle.allocative_graph.specs.Forest.{Forest}
 use Rattle.allocative_graph.specs.Held.{held, ShowsNoContent}
 use Rattle.allocative_graph.specs.Owned.{owned}
-use Rattle.allocative_graph.specs.Collector.{Kind, State, Going, OfHeld, OfOwned, begin, close_entry, no_outer}
-use Rattle.allocative_graph.specs.Collector.{nothing_held, nothing_owned}
+use Rattle.allocative_graph.specs.Collector.{Kind, State, Going, OfSum, begin, close_entry, outer_of, nothing_held}
+use Rattle.allocative_graph.specs.Collector.{nothing_owned}
 use Rattle.allocative_graph.specs.Shows.{Showing}
 use Rattle.allocative_graph.specs.Visits.{Settles}
 use Rattle.allocative.specs.Strict.{CanTake}
@@ -24,7 +24,7 @@ IsSizeOfUnique size p bytes = (own : ℕ) × (size ≡ Some own) × (f : Forest)
 
 -- What p allows can be counted: an empty collector of held bytes with a root visitor open can take it.
 abbrev pub CanBeHeld : Showing → Type 0
-CanBeHeld p = CanTake (begin (OfHeld nothing_held)) p
+CanBeHeld p = CanTake (begin (OfSum nothing_held)) p
 
 -- Why the bytes that a strict value holds are refused: only with TooLarge, if what it shows cannot be counted.
 abbrev pub MayRefuseHeld : Bool → Showing → Refusal → Type 0
@@ -53,11 +53,11 @@ pub record AnswersVisitOf {T : Type 0} (b : Kind) (p : Showing) (effect : Effect
     (answers : State → Result T Refusal → Type 0) (result : Result T Refusal) : Type 0 where
   pub after : State
   pub visited : WasVisited p effect (Going (begin b)) after
-  pub answer : answers (close_entry no_outer after) result
+  pub answer : answers (close_entry (outer_of 0 b) after) result
 
 -- The same of a collector that holds nothing.
 abbrev pub AnswersVisit : Showing → Effect → (State → Result ℕ Refusal → Type 0) → Result ℕ Refusal → Type 0
-AnswersVisit = AnswersVisitOf (OfHeld nothing_held)
+AnswersVisit = AnswersVisitOf (OfSum nothing_held)
 
 -- The bytes that a value owns, by some forest that p allows.
 abbrev pub IsSizeOfOwned : Showing → ℕ → Type 0
@@ -66,8 +66,8 @@ IsSizeOfOwned p bytes = (f : Forest) × p f × ShowsNoContent f × (bytes ≡ ow
 -- Why the bytes that a strict value owns are refused: only with TooLarge, if an empty collector of owned bytes with a
 -- root visitor open cannot take all that p allows.
 abbrev pub MayRefuseOwned : Bool → Showing → Refusal → Type 0
-MayRefuseOwned is_strict p e = IsTrue is_strict → (e ≡ TooLarge) × ¬ CanTake (begin (OfOwned nothing_owned)) p
+MayRefuseOwned is_strict p e = IsTrue is_strict → (e ≡ TooLarge) × ¬ CanTake (begin (OfSum nothing_owned)) p
 
 -- The result is what is answered of a collector of owned bytes after the visit: their sum, the first cause, or Open.
 abbrev pub AnswersOwned : Showing → Effect → Result ℕ Refusal → Type 0
-AnswersOwned p effect = AnswersVisitOf (OfOwned nothing_owned) p effect AnswersSum
+AnswersOwned p effect = AnswersVisitOf (OfSum nothing_owned) p effect AnswersSum

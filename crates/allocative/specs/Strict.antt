@@ -4,8 +4,8 @@ use Rattle.allocative_graph.specs.declared.refusal.Refusal.{Refusal}
 use Rattle.allocative_graph.specs.declared.refusal.Refusal.TheVariants.{Memory, TooLarge, Open}
 use Rattle.allocative_graph.specs.Forest.{Forest, Empty, Inline, Unique, First, Again}
 use Rattle.allocative_graph.specs.Sums.{bytes_entered}
-use Rattle.allocative_graph.specs.Collector.{Kind, OfGraph, OfHeld, OfOwned, State, Failed, Going, plus, plus_holding}
-use Rattle.allocative_graph.specs.Collector.{plus_owning, Takes, is_graph, begin, IsClosed, no_entries}
+use Rattle.allocative_graph.specs.Collector.{Kind, OfGraph, OfSum, State, Failed, Going, plus, plus_sum, Takes, is_graph}
+use Rattle.allocative_graph.specs.Collector.{begin, IsClosed, no_entries}
 use Rattle.allocative_graph.specs.Shows.{Showing}
 
 -- The bytes of all entries of f, with those of its contents.
@@ -27,12 +27,11 @@ FitsWords open_visitors (Unique k n inside after) = (n < 2 ^ 64) × (suc open_vi
 FitsWords open_visitors (First k n i inside after) = FitsWords open_visitors after
 FitsWords open_visitors (Again k n i after) = FitsWords open_visitors after
 
--- The forest f exceeds no bound of the collector. A flame graph counts all bytes. The collector of held bytes counts
--- what is held, and that of owned bytes what is owned, and each entry has to fit.
+-- The forest f exceeds no bound of the collector. A flame graph counts all bytes. The collector of a sum counts what is
+-- held, or what is owned, and each entry has to fit.
 abbrev pub HasRoomFor : Kind → Forest → Type 0
 HasRoomFor (OfGraph c) f = bytes_entered c.sums + all_bytes f < 2 ^ 63
-HasRoomFor (OfHeld h) f = ((plus_holding h f).sum < 2 ^ 64) × FitsWords h.open_visitors f
-HasRoomFor (OfOwned o) f = ((plus_owning o f).sum < 2 ^ 64) × FitsWords o.open_visitors f
+HasRoomFor (OfSum s) f = ((plus_sum s f).sum < 2 ^ 64) × FitsWords s.open_visitors f
 
 -- Each shared entry of f shows its content.
 abbrev pub ShowsContents : Forest → Type 0

@@ -117,9 +117,8 @@ impl Visitor<'_> {
     /// One more pointer of `size` bytes to the shared value with the identity `id`.
     ///
     /// A flame graph's collector returns a visitor at the value's content, whose paths start at the root,
-    /// exactly if the identity was not met before, and `None` if it was. The collector of held bytes
-    /// always returns `None`, and adds nothing. That of owned bytes adds the pointer, and returns `None`, or
-    /// `TooLarge` if the sum does not fit.
+    /// exactly if the identity was not met before, and `None` if it was. The collector of a sum returns `None`. For
+    /// held bytes it adds nothing; for owned bytes it adds the pointer, or returns `TooLarge` if the sum does not fit.
     ///
     /// A collector that has failed returns its first cause. Otherwise a flame graph's collector returns
     /// `TooLarge` exactly if the bound would be exceeded, which is tested before the identity is looked up,

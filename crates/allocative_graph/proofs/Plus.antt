@@ -1,18 +1,20 @@
 -- What a collector has after forests, entries and leaving.
-use Rattle.std.proofs.Common.{◌≡◌, ◌↔◌, ◌≤◌, suc, ℕ, ◌+◌, Bool, true, false, cond, [], ◌∷◌, ◌++◌, refl, ap}
+use Rattle.std.proofs.Common.{◌≡◌, ◌↔◌, ◌≤◌, suc, ℕ, ◌+◌, Bool, true, false, cond, [], ◌∷◌, ◌++◌, refl, ap, sym, subst, ◌∙◌}
 use Rattle.std.proofs.Common.{arith, append-nil}
 use Rattle.allocative_graph.proofs.Common.{contains, Key, Identity, Forest, Empty, Inline, Unique, First, Again}
 use Rattle.allocative_graph.proofs.Common.{own_behind, contents, followed_by}
 use Rattle.allocative_graph.specs.Forest.{entry_of}
-use Rattle.allocative_graph.specs.Collector.{Live, Holding, Owning, Kind, OfGraph, OfHeld, OfOwned}
-use Rattle.allocative_graph.specs.Collector.{plus_owning, count_owning, enter_first, plus, Takes, enter}
-use Rattle.allocative_graph.specs.Collector.{leave, begin, is_graph, visitors, Restore, outer_of, IsClosed}
+use Rattle.allocative_graph.specs.Collector.{Live, Summing, Kind, OfGraph, OfSum, entry_bytes, forest_bytes}
+use Rattle.allocative_graph.specs.Collector.{figure_inside, figure_after, HasNoSpare, count_entry, enter_first, plus}
+use Rattle.allocative_graph.specs.Collector.{Takes, enter, leave, begin, is_graph, visitors, Restore, outer_of, IsClosed}
+use Rattle.allocative_graph.specs.declared.restore.Restore.TheVariants.{Held, Owned}
 use Rattle.allocative_graph.proofs.Owned.{direct-following, owned-following, direct-owned}
 use Rattle.allocative_graph.specs.Held.{held, inline_bytes}
+use Rattle.allocative_graph.specs.Owned.{direct}
 use Rattle.allocative_graph.proofs.Following.{entries_at-following, contents-following, met-following, fits-following}
 use Rattle.allocative_graph.proofs.Basics.{each-append, each-parts}
 
--- ---- the collector of held bytes
+-- ---- a sum of held or of owned bytes
 abbrev held_in : Bool → Forest → ℕ
 held_in u f = held f + cond u (inline_bytes f) 0
 
@@ -24,62 +26,98 @@ held_in-following u (Unique k n f after) g = grind (arith, held_in-following u a
 held_in-following u (First k n j f after) g = held_in-following u after g
 held_in-following u (Again k n j after) g = held_in-following u after g
 
--- ---- the collector of owned bytes
--- For the collector of owned bytes, adding two forests in one is adding the first and then the second.
-owning-following : (o : Owning) (f g : Forest) → plus_owning o (followed_by f g) ≡ plus_owning (plus_owning o f) g
-owning-following o f g = grind (arith, direct-following f g, owned-following f g, direct-owned f, direct-owned g)
+-- The bytes that two forests add one after another add up.
+pub forest_bytes-following : (r : Restore) (f g : Forest) →
+    forest_bytes r (followed_by f g) ≡ forest_bytes r f + forest_bytes (figure_after r (direct f)) g
+forest_bytes-following (Held u) f g = held_in-following u f g
+forest_bytes-following (Owned spare) f g =
+    grind (arith, direct-following f g, owned-following f g, direct-owned f, direct-owned g)
+
+-- An entry with a forest inside it adds what the entry does, and then what the forest does there.
+pub forest_bytes-entry : (r : Restore) (u : Bool) (k : Key) (n : ℕ) (f : Forest) →
+    forest_bytes r (entry_of u k n f) ≡ entry_bytes r u n + forest_bytes (figure_inside r u n) f
+forest_bytes-entry (Held u) true k n f = grind arith
+forest_bytes-entry (Held u) false k n f = grind arith
+forest_bytes-entry (Owned spare) true k n f = grind (arith, direct-owned f)
+forest_bytes-entry (Owned spare) false k n f = grind (arith, direct-owned f)
+
+-- The bytes directly inside an entry take spare bytes one after another.
+figure_after-add : (r : Restore) (m n : ℕ) → figure_after r (m + n) ≡ figure_after (figure_after r m) n
+figure_after-add (Held u) m n = refl
+figure_after-add (Owned spare) m n = ap Owned (omega arith)
+
+-- With no bytes inside it, an entry keeps its figure.
+pub figure_after-zero : (r : Restore) → figure_after r 0 ≡ r
+figure_after-zero (Held u) = refl
+figure_after-zero (Owned spare) = ap Owned (omega arith)
+
+-- What has no spare bytes keeps its figure.
+pub figure_after-none : (r : Restore) (n : ℕ) → HasNoSpare r → figure_after r n ≡ r
+figure_after-none (Held u) n h = refl
+figure_after-none (Owned spare) n h = ap Owned (omega (arith, h))
+
+-- An empty forest adds nothing.
+forest_bytes-nothing : (r : Restore) → forest_bytes r Empty ≡ 0
+forest_bytes-nothing (Held u) = grind arith
+forest_bytes-nothing (Owned spare) = grind arith
 
 -- ---- each
 -- An empty forest leaves a collector unchanged.
 pub plus-nothing : (c : Kind) → plus c Empty ≡ c
 plus-nothing (OfGraph c) = refl
-plus-nothing (OfHeld h) = grind arith
-plus-nothing (OfOwned o) = grind arith
+plus-nothing (OfSum s) =
+    let none : s.sum + forest_bytes s.figure Empty ≡ s.sum = omega (arith, forest_bytes-nothing s.figure) in
+    λ i. OfSum (record s { sum = none i; figure = figure_after-zero s.figure i })
 
 -- A collector has after two forests in one what it has after the first and then the second.
 pub plus-following : (c : Kind) (f g : Forest) → plus c (followed_by f g) ≡ plus (plus c f) g
 plus-following (OfGraph c) f g = λ i. OfGraph
     (record c { sums = entries_at-following c.sums c.here f g i; met = met-following c.met f g i })
-plus-following (OfHeld h) f g = grind (arith, held_in-following h.is_in_unique f g)
-plus-following (OfOwned o) f g = ap OfOwned (owning-following o f g)
+plus-following (OfSum s) f g =
+    let r = s.figure in
+    let sum : s.sum + forest_bytes r (followed_by f g)
+        ≡ (s.sum + forest_bytes r f) + forest_bytes (figure_after r (direct f)) g =
+    omega (arith, forest_bytes-following r f g) in
+    let after = ap (figure_after r) (direct-following f g) ∙ figure_after-add r (direct f) (direct g) in
+    λ i. OfSum (record s { sum = sum i; figure = after i })
 
 -- A collector takes the empty forest.
 pub takes_nothing : (c : Kind) → Takes c Empty
 takes_nothing (OfGraph c) = tt
-takes_nothing (OfHeld h) = tt
-takes_nothing (OfOwned o) = tt
+takes_nothing (OfSum s) = tt
 
 -- A collector takes two forests in one exactly if it takes the first and, with that added, the second.
 pub takes_following : (c : Kind) (f g : Forest) → Takes c (followed_by f g) ↔ (Takes c f × Takes (plus c f) g)
 takes_following (OfGraph c) f g = fits-following c.met f g
-takes_following (OfHeld h) f g = rw (contents-following f g)
-    (each-parts (λ c. ⊥) (contents f) (contents g), λ w. each-append (λ c. ⊥) (contents f) (contents g) w.0 w.1)
-takes_following (OfOwned o) f g = rw (contents-following f g)
+takes_following (OfSum s) f g = rw (contents-following f g)
     (each-parts (λ c. ⊥) (contents f) (contents g), λ w. each-append (λ c. ⊥) (contents f) (contents g) w.0 w.1)
 
 -- If a collector takes a forest and, with that added, another, it takes both in one.
 pub takes_both : (c : Kind) (f g : Forest) → Takes c f → Takes (plus c f) g → Takes c (followed_by f g)
 takes_both c f g v w = (takes_following c f g).1 (v, w)
 
+-- An entry has its own bytes at the top.
+direct-entry : (u : Bool) (k : Key) (n : ℕ) (f : Forest) → n ≡ direct (entry_of u k n f)
+direct-entry true k n f = omega arith
+direct-entry false k n f = omega arith
+
 -- An entry with f inside it is entering, adding f and one step back.
 pub inside_entry : (u : Bool) (k : Key) (n : ℕ) (c : Kind) (f : Forest) →
     leave (outer_of n c) (plus (enter u k n c) f) ≡ plus c (entry_of u k n f)
 inside_entry true k n (OfGraph c) f = rw (append-nil (own_behind (c.here ++ k ∷ []) f), append-nil (contents f))
 inside_entry false k n (OfGraph c) f = rw (append-nil (own_behind (c.here ++ k ∷ []) f), append-nil (contents f))
-inside_entry true k n (OfHeld h) f = grind arith
-inside_entry false k n (OfHeld h) f = grind arith
-inside_entry true k n (OfOwned o) f = grind (arith, direct-owned f)
-inside_entry false k n (OfOwned o) f = grind (arith, direct-owned f)
+inside_entry u k n (OfSum s) f =
+    let sum : (s.sum + entry_bytes s.figure u n) + forest_bytes (figure_inside s.figure u n) f
+        ≡ s.sum + forest_bytes s.figure (entry_of u k n f) = omega (arith, forest_bytes-entry s.figure u k n f) in
+    λ i. OfSum (record s { sum = sum i; figure = figure_after s.figure (direct-entry u k n f i) })
 
 -- A collector takes an entry with a forest inside it if, once the entry is entered, it takes that forest.
 pub takes_entry : (u : Bool) (k : Key) (n : ℕ) (c : Kind) (f : Forest) → Takes (enter u k n c) f →
     Takes c (entry_of u k n f)
 takes_entry true k n (OfGraph c) f w = (w, tt)
 takes_entry false k n (OfGraph c) f w = (w, tt)
-takes_entry true k n (OfHeld h) f w = each-append (λ c. ⊥) (contents f) [] w tt
-takes_entry false k n (OfHeld h) f w = each-append (λ c. ⊥) (contents f) [] w tt
-takes_entry true k n (OfOwned o) f w = each-append (λ c. ⊥) (contents f) [] w tt
-takes_entry false k n (OfOwned o) f w = each-append (λ c. ⊥) (contents f) [] w tt
+takes_entry true k n (OfSum s) f w = each-append (λ c. ⊥) (contents f) [] w tt
+takes_entry false k n (OfSum s) f w = each-append (λ c. ⊥) (contents f) [] w tt
 
 -- The content of a shared entry starts at the root.
 pub inside_first : (k : Key) (n : ℕ) (j : Identity) (c : Live) (f : Forest) (outer : Restore) →
@@ -91,27 +129,41 @@ pub takes_shared : (k : Key) (n : ℕ) (j : Identity) (c : Live) (f : Forest) �
     Takes (OfGraph (enter_first k n j c)) f → Takes (OfGraph c) (First k n j f Empty)
 takes_shared k n j c f new w = (new, w, tt)
 
--- A shared entry without its content leaves a collector of held bytes as it is.
-pub held_again : (k : Key) (n : ℕ) (j : Identity) (h : Holding) → plus (OfHeld h) (Again k n j Empty) ≡ OfHeld h
-held_again k n j h = grind arith
+-- A shared entry without its content adds to a sum what a unique entry with nothing inside it adds.
+pub forest_bytes-again : (r : Restore) (k : Key) (n : ℕ) (j : Identity) →
+    forest_bytes r (Again k n j Empty) ≡ entry_bytes r true n
+forest_bytes-again (Held u) k n j = grind arith
+forest_bytes-again (Owned spare) k n j = grind arith
 
--- A shared entry without its content adds to a collector of owned bytes what it has beyond the spare ones.
-pub owned_again : (k : Key) (n : ℕ) (j : Identity) (o : Owning) →
-    plus (OfOwned o) (Again k n j Empty) ≡ OfOwned (count_owning n o)
-owned_again k n j o = grind arith
+-- A shared entry without its content is counted in a sum.
+pub counted_again : (k : Key) (n : ℕ) (j : Identity) (s : Summing) →
+    plus (OfSum s) (Again k n j Empty) ≡ OfSum (count_entry true n s)
+counted_again k n j s =
+    let alone : n + 0 ≡ n = omega arith in
+    λ i. OfSum (record s {
+      sum = s.sum + forest_bytes-again s.figure k n j i;
+      figure = figure_after s.figure (alone i);
+    })
+
+-- A shared entry without its content leaves a sum of held bytes as it is.
+pub held_again : (k : Key) (n : ℕ) (j : Identity) (s : Summing) (u : Bool) → s.figure ≡ Held u →
+    plus (OfSum s) (Again k n j Empty) ≡ OfSum s
+held_again k n j s u h =
+    let none : (r : Restore) → r ≡ Held u → entry_bytes r true n ≡ 0 = λ r e. rw e refl in
+    let same : (r : Restore) → r ≡ Held u → figure_after r n ≡ r = λ r e. rw e refl in
+    let sum : s.sum + entry_bytes s.figure true n ≡ s.sum = omega (arith, none s.figure h) in
+    counted_again k n j s ∙ (λ i. OfSum (record s { sum = sum i; figure = same s.figure h i }))
 
 -- ---- the count of visitors
 -- A closed collector has no open visitor.
 pub closed-visitors : (c : Kind) → IsClosed c → visitors c ≡ 0
 closed-visitors (OfGraph c) h = h
-closed-visitors (OfHeld k) h = h
-closed-visitors (OfOwned o) h = h.0
+closed-visitors (OfSum s) h = h.0
 
 -- A closed collector stays closed as forests are added.
 pub closed-plus : (c : Kind) (f : Forest) → IsClosed c → IsClosed (plus c f)
 closed-plus (OfGraph c) f h = h
-closed-plus (OfHeld k) f h = h
-closed-plus (OfOwned o) f h = (h.0, omega (arith, h.1))
+closed-plus (OfSum s) f h = (h.0, subst HasNoSpare (sym (figure_after-none s.figure (direct f) h.1)) h.1)
 
 -- A forest that is added leaves the number of open visitors as it was.
 pub visitors-plus : (c : Kind) (f : Forest) → visitors (plus c f) ≡ visitors c

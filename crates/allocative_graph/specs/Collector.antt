@@ -10,6 +10,7 @@ use Rattle.allocative_graph.specs.Forest.{met_after, Fits}
 use Rattle.allocative_graph.specs.Sums.{Sums, add_all}
 use Rattle.allocative_graph.specs.Held.{held, inline_bytes, ShowsNoContent}
 use Rattle.allocative_graph.specs.Owned.{direct, owned}
+use Rattle.allocative_graph.specs.declared.restore.Restore.TheVariants.{Held, Owned}
 use Rattle.allocative_graph.specs.declared.restore.Restore as declared
 
 -- The collector of a flame graph: the sums of what was entered, the identities met, the current path, the paths to go
@@ -21,34 +22,26 @@ pub record Live : Type 0 where
   pub back : List Path
   pub open_visitors : ℕ
 
--- The collector of held bytes: their sum, the number of open visitors, which were entered and not left, and whether
--- the current visitor is that of a unique entry.
-pub record Holding : Type 0 where
-  pub sum : ℕ
-  pub open_visitors : ℕ
-  pub is_in_unique : Bool
-
--- The collector of owned bytes: their sum, the spare bytes of the current entry, which no entry directly inside it
--- has taken, and the number of open visitors, which were entered and not left. A unique entry has no spare bytes, nor
--- has the root.
-pub record Owning : Type 0 where
-  pub sum : ℕ
-  pub spare : ℕ
-  pub open_visitors : ℕ
-
--- What leaving an entry restores: whether the entry outside is unique, and its spare bytes.
+-- The figure of an entry, by what is summed: `Held`, whether it is unique; or `Owned`, its spare bytes, which no entry
+-- directly inside it has taken. Leaving an entry restores that of the entry outside.
 abbrev pub Restore : Type 0
 Restore = declared.Restore
 
+-- The collector of a sum of bytes: the sum, the figure of the current entry, which says whether held or owned bytes are
+-- summed, and the number of open visitors, which were entered and not left.
+pub record Summing : Type 0 where
+  pub sum : ℕ
+  pub figure : Restore
+  pub open_visitors : ℕ
+
 -- What is restored if nothing outside counts.
 abbrev pub no_outer : Restore
-no_outer = record { is_unique = false; spare = 0 }
+no_outer = Held false
 
--- A collector of one of the three kinds.
+-- A collector of a flame graph, or of a sum of held or owned bytes.
 pub data Kind : Type 0 where
   OfGraph : Live → Kind
-  OfHeld : Holding → Kind
-  OfOwned : Owning → Kind
+  OfSum : Summing → Kind
 
 -- What a contract sees of a collector: it has failed, with its first cause, or it is going.
 pub data State : Type 0 where
@@ -94,122 +87,124 @@ enter_first k n i c = go [] (plus_live c (First k n i Empty Empty))
 abbrev pub enter_again : Key → ℕ → Identity → Live → Live
 enter_again k n i c = plus_live c (Again k n i Empty)
 
--- ---- the collector of held bytes
--- h with the forest f added: what f holds and, in a unique entry, the inline entries at its top.
-abbrev pub plus_holding : Holding → Forest → Holding
-plus_holding h f = record h { sum = h.sum + (held f + cond h.is_in_unique (inline_bytes f) 0) }
+-- ---- the collector of a sum: what differs between held and owned bytes
+-- The bytes that an entry of n bytes adds to the sum, directly inside the entry with this figure. Held bytes: all of
+-- them if it is inline and in a unique one, otherwise none. Owned bytes: those beyond the spare ones.
+abbrev pub entry_bytes : Restore → Bool → ℕ → ℕ
+entry_bytes (Held is_in_unique) is_unique n = cond is_unique 0 (cond is_in_unique n 0)
+entry_bytes (Owned spare) is_unique n = n - spare
 
--- The bytes that an entry of n bytes adds: all of them if it is inline and directly in a unique entry, otherwise none.
-abbrev pub held_bytes : Bool → Bool → ℕ → ℕ
-held_bytes is_in_unique is_unique n = cond is_in_unique (cond is_unique 0 n) 0
+-- The bytes that a forest adds there: what it holds and, in a unique entry, the inline entries at its top; or what it
+-- owns, less what its top entries take of the spare bytes.
+abbrev pub forest_bytes : Restore → Forest → ℕ
+forest_bytes (Held is_in_unique) f = held f + cond is_in_unique (inline_bytes f) 0
+forest_bytes (Owned spare) f = owned f - min spare (direct f)
+
+-- The figure of an entry of n bytes, directly inside the entry with this one. A unique entry has no spare bytes.
+abbrev pub figure_inside : Restore → Bool → ℕ → Restore
+figure_inside (Held is_in_unique) is_unique n = Held is_unique
+figure_inside (Owned spare) is_unique n = Owned (cond is_unique 0 n)
+
+-- The figure of an entry once n more bytes are directly inside it: they take spare bytes.
+abbrev pub figure_after : Restore → ℕ → Restore
+figure_after (Held is_unique) n = Held is_unique
+figure_after (Owned spare) n = Owned (spare - n)
+
+-- No bytes are spare.
+abbrev pub HasNoSpare : Restore → Type 0
+HasNoSpare (Held is_unique) = ⊤
+HasNoSpare (Owned spare) = spare ≡ 0
+
+-- ---- the collector of a sum: what is alike
+-- s with the forest f added.
+abbrev pub plus_sum : Summing → Forest → Summing
+plus_sum s f = record s { sum = s.sum + forest_bytes s.figure f; figure = figure_after s.figure (direct f) }
+
+-- One more entry with nothing inside it and no visitor at it. A shared entry counts as a unique one.
+abbrev pub count_entry : Bool → ℕ → Summing → Summing
+count_entry is_unique n s =
+    record s { sum = s.sum + entry_bytes s.figure is_unique n; figure = figure_after s.figure n }
 
 -- One more entry, and a visitor at it.
-abbrev pub enter_holding : Bool → ℕ → Holding → Holding
-enter_holding is_unique n h = record {
-  sum = h.sum + held_bytes h.is_in_unique is_unique n;
-  open_visitors = suc h.open_visitors;
-  is_in_unique = is_unique;
+abbrev pub enter_sum : Bool → ℕ → Summing → Summing
+enter_sum is_unique n s = record {
+  sum = s.sum + entry_bytes s.figure is_unique n;
+  figure = figure_inside s.figure is_unique n;
+  open_visitors = suc s.open_visitors;
 }
 
 -- One visitor less; `outer` is what leaving it restores.
-abbrev pub leave_holding : Restore → Holding → Holding
-leave_holding outer h = record { sum = h.sum; open_visitors = pred h.open_visitors; is_in_unique = outer.is_unique }
-
--- ---- the collector of owned bytes
--- o with the forest f added: what f owns, less what its top entries take of the spare bytes.
-abbrev pub plus_owning : Owning → Forest → Owning
-plus_owning o f = record o { sum = o.sum + (owned f - min o.spare (direct f)); spare = o.spare - direct f }
-
--- One more entry with nothing inside it and no visitor at it. It takes spare bytes first, and adds the others.
-abbrev pub count_owning : ℕ → Owning → Owning
-count_owning n o = record o { sum = o.sum + (n - o.spare); spare = o.spare - n }
-
--- One more entry, and a visitor at it. Its own bytes are spare there, unless it is unique.
-abbrev pub enter_owning : Bool → ℕ → Owning → Owning
-enter_owning is_unique n o = record {
-  sum = o.sum + (n - o.spare);
-  spare = cond is_unique 0 n;
-  open_visitors = suc o.open_visitors;
-}
-
--- One visitor less; `outer` is what leaving it restores.
-abbrev pub leave_owning : Restore → Owning → Owning
-leave_owning outer o = record { sum = o.sum; spare = outer.spare; open_visitors = pred o.open_visitors }
+abbrev pub leave_sum : Restore → Summing → Summing
+leave_sum outer s = record { sum = s.sum; figure = outer; open_visitors = pred s.open_visitors }
 
 -- ---- each collector
 -- Whether the collector is that of a flame graph.
 abbrev pub is_graph : Kind → Bool
 is_graph (OfGraph c) = true
-is_graph (OfHeld h) = false
-is_graph (OfOwned o) = false
+is_graph (OfSum s) = false
 
 -- The number of open visitors, which were entered and not left.
 abbrev pub visitors : Kind → ℕ
 visitors (OfGraph c) = c.open_visitors
-visitors (OfHeld h) = h.open_visitors
-visitors (OfOwned o) = o.open_visitors
+visitors (OfSum s) = s.open_visitors
 
--- What leaving an entry of n bytes that is opened now restores: whether the current entry is unique, for held bytes,
--- or its spare bytes less n, for owned bytes. The collector of a flame graph needs nothing.
+-- What leaving an entry of n bytes that is opened now restores: the figure of the current entry with that one inside.
+-- The collector of a flame graph needs nothing.
 abbrev pub outer_of : ℕ → Kind → Restore
 outer_of n (OfGraph c) = no_outer
-outer_of n (OfHeld h) = record { is_unique = h.is_in_unique; spare = 0 }
-outer_of n (OfOwned o) = record { is_unique = false; spare = o.spare - n }
+outer_of n (OfSum s) = figure_after s.figure n
 
 -- The collector with the forest f at its current place.
 abbrev pub plus : Kind → Forest → Kind
 plus (OfGraph c) f = OfGraph (plus_live c f)
-plus (OfHeld h) f = OfHeld (plus_holding h f)
-plus (OfOwned o) f = OfOwned (plus_owning o f)
+plus (OfSum s) f = OfSum (plus_sum s f)
 
--- f can be added: for a flame graph, it shows contents exactly if their identities were not met; for held and owned
--- bytes, it shows no content.
+-- f can be added: for a flame graph, it shows contents exactly if their identities were not met; for a sum, it shows
+-- no content.
 abbrev pub Takes : Kind → Forest → Type 0
 Takes (OfGraph c) f = Fits c.met f
-Takes (OfHeld h) f = ShowsNoContent f
-Takes (OfOwned o) f = ShowsNoContent f
+Takes (OfSum s) f = ShowsNoContent f
 
 -- One more entry, unique or inline, and a visitor at it.
 abbrev pub enter : Bool → Key → ℕ → Kind → Kind
 enter is_unique k n (OfGraph c) = OfGraph (enter_live is_unique k n c)
-enter is_unique k n (OfHeld h) = OfHeld (enter_holding is_unique n h)
-enter is_unique k n (OfOwned o) = OfOwned (enter_owning is_unique n o)
+enter is_unique k n (OfSum s) = OfSum (enter_sum is_unique n s)
 
 -- One visitor less; `outer` is what leaving it restores.
 abbrev pub leave : Restore → Kind → Kind
 leave outer (OfGraph c) = OfGraph (leave_live c)
-leave outer (OfHeld h) = OfHeld (leave_holding outer h)
-leave outer (OfOwned o) = OfOwned (leave_owning outer o)
+leave outer (OfSum s) = OfSum (leave_sum outer s)
 
 -- One more visitor, which is a root visitor. It is where the collector began.
 abbrev pub begin : Kind → Kind
 begin (OfGraph c) = OfGraph (go [] c)
-begin (OfHeld h) = OfHeld (record h { open_visitors = suc h.open_visitors })
-begin (OfOwned o) = OfOwned (record o { open_visitors = suc o.open_visitors })
+begin (OfSum s) = OfSum (record s { open_visitors = suc s.open_visitors })
 
--- No visitor is open. For owned bytes, also none are spare, as is so once each visitor was left.
+-- No visitor is open. For owned bytes, also none are spare, which is true once all visitors have left.
 abbrev pub IsClosed : Kind → Type 0
 IsClosed (OfGraph c) = c.open_visitors ≡ 0
-IsClosed (OfHeld h) = h.open_visitors ≡ 0
-IsClosed (OfOwned o) = (o.open_visitors ≡ 0) × (o.spare ≡ 0)
+IsClosed (OfSum s) = (s.open_visitors ≡ 0) × HasNoSpare s.figure
 
 -- The current path is the root's, with nothing to go back to. For owned bytes, none are spare.
 abbrev pub IsAtRoot : Kind → Type 0
 IsAtRoot (OfGraph c) = (c.here ≡ []) × (c.back ≡ [])
-IsAtRoot (OfHeld h) = ⊤
-IsAtRoot (OfOwned o) = o.spare ≡ 0
+IsAtRoot (OfSum s) = HasNoSpare s.figure
 
 -- The collector of a flame graph before any call.
 abbrev pub no_entries : Live
 no_entries = record { sums = finmap.empty; met = set.empty; here = []; back = []; open_visitors = 0 }
 
+-- A collector of a sum before any call, with this figure of the root.
+abbrev pub nothing_summed : Restore → Summing
+nothing_summed root = record { sum = 0; figure = root; open_visitors = 0 }
+
 -- The collector of held bytes before any call.
-abbrev pub nothing_held : Holding
-nothing_held = record { sum = 0; open_visitors = 0; is_in_unique = false }
+abbrev pub nothing_held : Summing
+nothing_held = nothing_summed (Held false)
 
 -- The collector of owned bytes before any call.
-abbrev pub nothing_owned : Owning
-nothing_owned = record { sum = 0; spare = 0; open_visitors = 0 }
+abbrev pub nothing_owned : Summing
+nothing_owned = nothing_summed (Owned 0)
 
 -- A collector that has not failed fails with r. One that has failed keeps its cause.
 abbrev pub failed_with : Refusal → State → State

@@ -13,8 +13,9 @@ use Rattle.allocative_graph.specs.Meaning.{Reached, IsMeaning, ReachesExactly, c
 use Rattle.allocative_graph.specs.Sums.{Sums, bytes_in, below_in, is_unique_in, is_entered_in, sums_of, below}
 use Rattle.allocative_graph.specs.Graph.{Graph, graph, remaining, total, under, default, IsTree, text, warnings}
 use Rattle.allocative_graph.specs.Graph.{warned_paths, sum_of, size_at, CanBeAdded, HasPlainKeys, HasWords}
-use Rattle.allocative_graph.specs.Collector.{Live, Holding, Owning, Kind, OfGraph, OfHeld, OfOwned, plus, Takes, enter}
-use Rattle.allocative_graph.specs.Collector.{enter_first, enter_again, count_owning, leave, Restore, outer_of}
+use Rattle.allocative_graph.specs.Collector.{Live, Summing, Kind, OfGraph, OfSum, plus, Takes, enter, enter_first}
+use Rattle.allocative_graph.specs.Collector.{enter_again, count_entry, leave, Restore, outer_of}
+use Rattle.allocative_graph.specs.declared.restore.Restore.TheVariants.{Held}
 use Rattle.allocative_graph.specs.Report.{exact_text, without_lines}
 use Rattle.allocative_graph.specs.Read.{IsRead, IsFault, Exceeds, CanBeRead}
 use Rattle.allocative_graph.specs.declared.read.LineFault.{LineFault}
@@ -97,9 +98,10 @@ pub record SharedLaw : Type 0 where
       OfGraph (enter_again k n i c) ≡ plus (OfGraph c) (Again k n i Empty)
   pub again_taken : (k : Key) (n : ℕ) (i : Identity) (c : Live) → contains c.met i ≡ true →
       Takes (OfGraph c) (Again k n i Empty)
-  pub held : (k : Key) (n : ℕ) (i : Identity) (h : Holding) → plus (OfHeld h) (Again k n i Empty) ≡ OfHeld h
-  pub owned : (k : Key) (n : ℕ) (i : Identity) (o : Owning)
-      → plus (OfOwned o) (Again k n i Empty) ≡ OfOwned (count_owning n o)
+  pub held : (k : Key) (n : ℕ) (i : Identity) (s : Summing) (is_in_unique : Bool) → s.figure ≡ Held is_in_unique
+      → plus (OfSum s) (Again k n i Empty) ≡ OfSum s
+  pub owned : (k : Key) (n : ℕ) (i : Identity) (s : Summing)
+      → plus (OfSum s) (Again k n i Empty) ≡ OfSum (count_entry true n s)
 
 -- ---- of paths
 -- A prefix of a path comes before it, and otherwise the first keys that differ decide. Keys are ordered in this way

@@ -1,5 +1,5 @@
 -- What calls of a collector and of its visitors do, as relations between the collector before and after a call.
-use Rattle.std.specs.Prelude.{◌≡◌, ℕ, suc, ◌+◌, ◌-◌, ◌<◌, ◌≤◌, ◌^◌, ◌⊎◌, Bool, true, false, List, Option, None, Some}
+use Rattle.std.specs.Prelude.{◌≡◌, ℕ, suc, ◌+◌, ◌<◌, ◌≤◌, ◌^◌, ◌⊎◌, Bool, true, false, List, Option, None, Some}
 use Rattle.std.specs.Prelude.{Result, Ok, Err}
 use Rattle.std.specs.FinSet.{contains}
 use Rattle.allocative_graph.specs.declared.refusal.Refusal.{Refusal}
@@ -10,10 +10,9 @@ use Rattle.allocative_graph.specs.Forest.{Forest, Bag, own, all, followed_by}
 use Rattle.allocative_graph.specs.Meaning.{IsWhole, IsMeaning, ReachesExactly, ReachApart, content_of}
 use Rattle.allocative_graph.specs.Sums.{Sums, bytes_entered, sums_of}
 use Rattle.allocative_graph.specs.Graph.{Graph, Warned, graph, warnings, warned_paths, sum_of, CanBeAdded}
-use Rattle.allocative_graph.specs.Collector.{Live, Holding, Owning, Kind, OfGraph, OfHeld, OfOwned, State, Failed}
-use Rattle.allocative_graph.specs.Collector.{Going, held_bytes, enter, enter_first, enter_again, count_owning, plus}
-use Rattle.allocative_graph.specs.Collector.{Takes, is_graph, visitors, Restore, outer_of, begin, close_entry, IsClosed}
-use Rattle.allocative_graph.specs.Collector.{IsAtRoot}
+use Rattle.allocative_graph.specs.Collector.{Live, Summing, Kind, OfGraph, OfSum, State, Failed, Going, entry_bytes}
+use Rattle.allocative_graph.specs.Collector.{enter, enter_first, enter_again, count_entry, plus, Takes, is_graph}
+use Rattle.allocative_graph.specs.Collector.{visitors, Restore, outer_of, begin, close_entry, IsClosed, IsAtRoot}
 use Rattle.allocative_graph.specs.Shows.{Showing}
 
 -- What visiting a value does to a collector, if p is what the value may show. A failed collector stays as it is.
@@ -36,19 +35,20 @@ HasFailed s r = s ≡ Failed r
 -- An entry of n bytes exceeds no bound.
 abbrev pub HasRoom : Bool → ℕ → Kind → Type 0
 HasRoom is_unique n (OfGraph c) = bytes_entered c.sums + n < 2 ^ 63
-HasRoom is_unique n (OfHeld h) = (h.sum + held_bytes h.is_in_unique is_unique n < 2 ^ 64)
-    × (suc h.open_visitors < 2 ^ 64)
-HasRoom is_unique n (OfOwned o) = (o.sum + (n - o.spare) < 2 ^ 64) × (suc o.open_visitors < 2 ^ 64)
+HasRoom is_unique n (OfSum s) = (s.sum + entry_bytes s.figure is_unique n < 2 ^ 64) × (suc s.open_visitors < 2 ^ 64)
 
 -- An entry of n bytes is refused with e. Either e is TooLarge and a bound would be exceeded, or e is Memory and no
 -- bound would be exceeded. Memory is refused only by the collector of a flame graph.
 abbrev pub Refuses : Bool → ℕ → Kind → Refusal → Type 0
 Refuses is_unique n (OfGraph c) e = ((e ≡ TooLarge) × (2 ^ 63 ≤ bytes_entered c.sums + n))
     ⊎ ((e ≡ Memory) × (bytes_entered c.sums + n < 2 ^ 63))
-Refuses is_unique n (OfHeld h) e = (e ≡ TooLarge)
-    × ((2 ^ 64 ≤ h.sum + held_bytes h.is_in_unique is_unique n) ⊎ (2 ^ 64 ≤ suc h.open_visitors))
-Refuses is_unique n (OfOwned o) e = (e ≡ TooLarge)
-    × ((2 ^ 64 ≤ o.sum + (n - o.spare)) ⊎ (2 ^ 64 ≤ suc o.open_visitors))
+Refuses is_unique n (OfSum s) e = (e ≡ TooLarge)
+    × ((2 ^ 64 ≤ s.sum + entry_bytes s.figure is_unique n) ⊎ (2 ^ 64 ≤ suc s.open_visitors))
+
+-- An entry of n bytes makes a sum too large that fitted a word. In a sum of held bytes a unique one never does so: it
+-- adds none.
+abbrev pub ExceedsSum : Bool → ℕ → Summing → Type 0
+ExceedsSum is_unique n s = (s.sum < 2 ^ 64) × (2 ^ 64 ≤ s.sum + entry_bytes s.figure is_unique n)
 
 -- An entry of a declared size is refused with e: with TooLarge if there is no size, otherwise as `Refuses` says.
 abbrev pub RefusesSized : Bool → Option ℕ → Kind → Refusal → Type 0
@@ -71,17 +71,15 @@ RefusesEntry is_unique size (Failed r) e = e ≡ r
 RefusesEntry is_unique size (Going b) e = RefusesSized is_unique size b e
 
 -- What opening a shared entry does. The call returns whether its content is to be shown: in a flame graph's
--- collector, exactly if the identity was not met. The collector of held bytes stays as it is, and that of owned bytes
--- counts the pointer.
+-- collector, exactly if the identity was not met. That of a sum counts the pointer: held bytes stay as they are.
 pub data OpensShared (k : Key) (n : ℕ) (i : Identity) : State → Result Bool Refusal → State → Type 0 where
   stays_shared : {r : Refusal} → OpensShared k n i (Failed r) (Err r) (Failed r)
   is_refused_shared : {c : Live} {e : Refusal} → Refuses false n (OfGraph c) e
       → OpensShared k n i (Going (OfGraph c)) (Err e) (Failed e)
-  goes_past : {h : Holding} → OpensShared k n i (Going (OfHeld h)) (Ok false) (Going (OfHeld h))
-  is_too_large_shared : {o : Owning} {e : Refusal} → e ≡ TooLarge → 2 ^ 64 ≤ o.sum + (n - o.spare)
-      → OpensShared k n i (Going (OfOwned o)) (Err e) (Failed e)
-  counts : {o p : Owning} → o.sum + (n - o.spare) < 2 ^ 64 → p ≡ count_owning n o
-      → OpensShared k n i (Going (OfOwned o)) (Ok false) (Going (OfOwned p))
+  is_too_large_shared : {a : Summing} {e : Refusal} → e ≡ TooLarge → ExceedsSum true n a
+      → OpensShared k n i (Going (OfSum a)) (Err e) (Failed e)
+  counts : {a b : Summing} → a.sum + entry_bytes a.figure true n < 2 ^ 64 → b ≡ count_entry true n a
+      → OpensShared k n i (Going (OfSum a)) (Ok false) (Going (OfSum b))
   enters_first : {c d : Live} → bytes_entered c.sums + n < 2 ^ 63 → contains c.met i ≡ false → d ≡ enter_first k n i c
       → OpensShared k n i (Going (OfGraph c)) (Ok true) (Going (OfGraph d))
   enters_again : {c d : Live} → bytes_entered c.sums + n < 2 ^ 63 → contains c.met i ≡ true → d ≡ enter_again k n i c
@@ -128,13 +126,13 @@ pub record Profile : Type 0 where
   pub warned : List Warned
 
 -- How the collector of a flame graph ends: with its first cause; with Open if a visitor is open; or with what p says
--- of its sums, or Memory if memory runs out.
+-- of its sums, or Memory if memory runs out. A collector of a sum ends with Open.
 abbrev pub Ends : {T : Type 0} → (Sums → T → Type 0) → State → Result T Refusal → Type 0
 Ends p (Failed r) result = result ≡ Err r
 Ends p (Going (OfGraph c)) (Ok made) = IsClosed (OfGraph c) × p c.sums made
 Ends p (Going (OfGraph c)) (Err e) = ((e ≡ Open) × ¬ IsClosed (OfGraph c)) ⊎ ((e ≡ Memory) × IsClosed (OfGraph c))
-Ends p (Going (OfHeld h)) result = ⊥
-Ends p (Going (OfOwned o)) result = ⊥
+Ends p (Going (OfSum s)) (Ok made) = ⊥
+Ends p (Going (OfSum s)) (Err e) = e ≡ Open
 
 -- The graph, the warnings and the paths that have one are those of the sums.
 abbrev pub IsProfile : Sums → Profile → Type 0

@@ -4,12 +4,13 @@ use Rattle.std.proofs.Common.{arith}
 use Rattle.std.proofs.Common.{append-nil, List, [], ◌∷◌, ◌++◌, length, get_or, take, drop}
 use Rattle.std.proofs.lemmas.List.{take-append-drop}
 use Rattle.allocative.proofs.Common.{Refusal, Key, Forest, Empty, followed_by, entry_of, add_all, Live, Kind, OfGraph}
-use Rattle.allocative.proofs.Common.{OfHeld, OfOwned, State, plus, Showing, Nothing, Both, InsideAs, AddsForest}
+use Rattle.allocative.proofs.Common.{OfSum, State, plus, Showing, Nothing, Both, InsideAs, AddsForest}
 use Rattle.allocative.proofs.Common.{already}
 use Rattle.allocative.proofs.Common.{refused, hidden, forgotten, CanTake, HasRoomFor, FailsOnlyIfFull}
 use Rattle.allocative.proofs.Common.{ShowsContents, each_shows, has_added, has_refused, Entered, Means}
 use Rattle.allocative_graph.specs.Forest.{own_behind, met_after, Inline, Unique, First, Again}
-use Rattle.allocative_graph.specs.Collector.{Holding, Owning, plus_live, plus_holding, plus_owning, entries_at}
+use Rattle.allocative_graph.specs.Collector.{Restore, plus_live, forest_bytes, figure_after, entries_at}
+use Rattle.allocative_graph.specs.declared.restore.Restore.TheVariants.{Held, Owned}
 use Rattle.allocative_graph.specs.Path.{Path}
 use Rattle.allocative_graph.specs.Visits.{added}
 use Rattle.allocative_graph.specs.Identity.{Identities}
@@ -42,32 +43,23 @@ same_live c f g m =
     let met = same_met c.met f m.plain ∙ sym (same_met c.met g m.plain_merged) in
     λ i. record c { sums = sums i; met = met i }
 
--- Held bytes are the same after either forest.
-same_holding : (h : Holding) (f g : Forest) → Merged f g → plus_holding h f ≡ plus_holding h g
-same_holding h f g m = λ i. record h { sum = h.sum + (m.same_held i + cond h.is_in_unique (m.same_inline i) 0) }
-
--- Owned bytes are the same after either forest.
-same_owning : (o : Owning) (f g : Forest) → Merged f g → plus_owning o f ≡ plus_owning o g
-same_owning o f g m = λ i. record o {
-  sum = o.sum + (m.same_owned i - min o.spare (m.same_direct i));
-  spare = o.spare - m.same_direct i;
-}
+-- Held and owned bytes are the same after either forest.
+same_bytes : (r : Restore) (f g : Forest) → Merged f g → forest_bytes r f ≡ forest_bytes r g
+same_bytes (Held is_in_unique) f g m = λ i. m.same_held i + cond is_in_unique (m.same_inline i) 0
+same_bytes (Owned spare) f g m = λ i. m.same_owned i - min spare (m.same_direct i)
 
 -- Each collector is the same after either forest.
 same_plus : (c : Kind) (f g : Forest) → Merged f g → plus c f ≡ plus c g
 same_plus (OfGraph c) f g m = ap OfGraph (same_live c f g m)
-same_plus (OfHeld h) f g m = ap OfHeld (same_holding h f g m)
-same_plus (OfOwned o) f g m = ap OfOwned (same_owning o f g m)
+same_plus (OfSum s) f g m = λ i. OfSum (record s {
+  sum = s.sum + same_bytes s.figure f g m i;
+  figure = figure_after s.figure (m.same_direct i);
+})
 
 -- If a forest exceeds no bound of a collector, the merged one exceeds none.
 room_merged : (b : Kind) (f g : Forest) → Merged f g → HasRoomFor b f → HasRoomFor b g
 room_merged (OfGraph c) f g m h = omega (arith, m.same_bytes)
-room_merged (OfHeld d) f g m h = (
-  omega (arith, h.0, m.same_held, m.same_inline, ap (λ x. x.sum) (same_holding d f g m)),
-  m.fits d.open_visitors h.1,
-)
-room_merged (OfOwned o) f g m h =
-    (omega (arith, h.0, ap (λ x. x.sum) (same_owning o f g m)), m.fits o.open_visitors h.1)
+room_merged (OfSum s) f g m h = (omega (arith, h.0, same_bytes s.figure f g m), m.fits s.open_visitors h.1)
 
 -- ---- entering
 -- p allows a forest that the shape merges.

@@ -1,7 +1,7 @@
 -- Forests without shared entries.
 use Rattle.std.proofs.Common.{◌≡◌, ℕ, Bool, true, false, [], ◌++◌, refl}
 use Rattle.allocative.proofs.Common.{Key, Forest, Empty, First, Again, followed_by, entry_of, ShowsContents, Kind}
-use Rattle.allocative.proofs.Common.{OfGraph, OfHeld, OfOwned, Takes}
+use Rattle.allocative.proofs.Common.{OfGraph, OfSum, Takes}
 use Rattle.allocative_graph.specs.Identity.{Identities}
 use Rattle.allocative_graph.specs.Forest.{Inline, Unique, contents, Fits, met_after}
 use Rattle.allocative_tally.specs.Merged.{IsPlain}
@@ -59,5 +59,4 @@ plain_shows (Again k n j after) h = absurd h
 -- Each collector takes a forest without shared entries.
 pub plain_taken : (c : Kind) (f : Forest) → IsPlain f → Takes c f
 plain_taken (OfGraph c) f h = plain_fits c.met f h
-plain_taken (OfHeld d) f h = rw (plain_contents f h) tt
-plain_taken (OfOwned o) f h = rw (plain_contents f h) tt
+plain_taken (OfSum s) f h = rw (plain_contents f h) tt

@@ -5,7 +5,6 @@ ghost use Rattle.std.specs.Prelude.{◌<◌, ◌^◌, ◌≡◌, Ok, Err, IfOk, 
 ghost use Rattle.allocative_graph.specs.Graph.{text, graph, total};
 ghost use Rattle.allocative_graph.specs.Collector.{Going, OfGraph, no_entries};
 ghost use Rattle.allocative_graph.specs.Visits.{VisitsRoot, Settles, Ends, IsProfile};
-ghost use Rattle.allocative.specs.Built.{as_graph};
 ghost use Rattle.allocative.specs.Strict.{RootFailsOnlyIfFull};
 ghost use Rattle.allocative.specs.RefusedVisits.{RefusesVisit};
 ghost use Rattle.allocative.specs.Rooted.{LendsBuilt, LendsRoot};
@@ -29,20 +28,18 @@ use std::marker::Model;
 /// ```
 #[derive(Drop)]
 pub struct FlameGraphBuilder {
-    collector: Collector,
+    pub(crate) collector: Collector,
 }
 
-// A root visitor borrows the collector, and code that holds it could replace the collector by any other.
 impl Model for FlameGraphBuilder {
     ghost use Rattle.allocative_graph.specs.Collector.{State};
     ghost use Rattle.allocative_graph.specs.Representation.Codes.{state_code};
-    ghost use Rattle.allocative.specs.Built.{as_graph};
 
     ghost Value = { State };
 
     ghost coded = { state_code };
 
-    ghost view = { λ b. as_graph b.collector };
+    ghost view = { λ b. b.collector };
 }
 
 impl FlameGraphBuilder {
@@ -59,7 +56,7 @@ impl FlameGraphBuilder {
     // A mutable borrow of the collector.
     fn lend(&mut self) -> &mut Collector
         ensures* lent { sem 𝓛 (LendsBuilt self.entry result) }
-        ensures now { self.old ≡ as_graph result.now }
+        ensures now { self.old ≡ result.now }
     {
         &mut self.collector
     }
@@ -76,7 +73,7 @@ impl FlameGraphBuilder {
         ensures begun { IfOk result (OpensRootAt self.old) }
         ensures refused { IfErr result (λ e. Settles self.old (Err e)) }
     {
-        self.lend().graph_root_visitor()
+        self.lend().root_visitor()
     }
 
     /// Visits a root by a root visitor. It returns `Ok` exactly if the builder afterwards has not
@@ -94,7 +91,6 @@ impl FlameGraphBuilder {
             (may_show root.now) self.old result self.new }
         ensures answer { IfErr result (RefusesVisit (may_show root.now) (effect root.now) self.old) }
     {
-        self.check()?;
         self.collector.visit_object(root)
     }
 
@@ -107,27 +103,19 @@ impl FlameGraphBuilder {
         ensures answer { IfErr result
             (RefusesVisit (T.may_show root.now) (T.effect root.now) self.old) }
     {
-        self.check()?;
         self.collector.visit_value(root)
-    }
-
-    /// `Ok` if the builder has not failed and has no open visitor, otherwise its first cause, or `Open`.
-    pub(crate) fn check(&self) -> Result<(), Refusal>
-        ensures { Settles self.now result }
-    {
-        self.collector.graph()?;
-        Ok(())
     }
 
     /// The graph and the warnings of all that was entered. The total of the graph is at most `isize::MAX`.
     ///
-    /// A builder that has failed returns its first cause, and one with an open visitor returns `Open`.
-    /// Otherwise the only error is that memory runs out.
+    /// A builder that has failed returns its first cause, and one with an open visitor returns `Open`. So does one whose
+    /// collector was exchanged for that of a sum, which no call here does. Otherwise the only error is that memory runs
+    /// out.
     pub fn finish(self) -> Result<FlameGraphOutput, Refusal>
         ensures ends { Ends IsProfile self result }
         ensures total { IfOk result (λ o. total o.graph < 2 ^ 63) }
     {
-        self.collector.graph()?.finish()
+        self.collector.finish()
     }
 
     /// Finishes the builder and returns the text of the graph. The errors are those of `finish`.

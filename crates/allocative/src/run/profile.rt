@@ -23,7 +23,7 @@ impl FlameGraphBuilder {
             self.old result self.new }
         ensures answer { IfErr result (RefusesVisits T.may_show T.effect roots.now self.old) }
     {
-        self.check()?;
+        self.collector.check()?;
         for root in roots {
             self.visit_value(root)?;
         }

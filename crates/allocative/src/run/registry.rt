@@ -79,7 +79,7 @@ impl FlameGraphBuilder {
         ensures answer { IfErr result
             (RefusesVisits may_show effect (roots_of registry.now) self.old) }
     {
-        self.check()?;
+        self.collector.check()?;
         let roots = registry.roots();
         for root in roots {
             self.visit_root(root.as_ref())?;

@@ -6,6 +6,7 @@ ghost use Rattle.allocative.specs.SizeOf.{IsSizeOfHeld, IsSizeOfUnique, MayRefus
 
 use crate::visitor::collector::Collector;
 use crate::{Allocative, Described, Refusal, Visitor};
+use allocative_graph::restore::Restore;
 
 /// The bytes that the root holds on the heap: the sum of the inline entries whose direct parent is a unique entry, with
 /// nothing below a shared entry.
@@ -22,7 +23,7 @@ pub fn size_of_unique_allocated_data(root: &dyn Allocative) -> Result<usize, Ref
         (MayRefuseHeld (Allocative-dyn root.now).is_strict (may_show root.now)) }
     ensures answer { AnswersVisit (may_show root.now) (effect root.now) AnswersSum result }
 {
-    let mut collector = Collector::of_held();
+    let mut collector = Collector::of_sum(Restore::Held(false));
     collector.visit_object(root)?;
     Ok(collector.sum())
 }
@@ -45,7 +46,7 @@ pub fn size_of_unique<T: Allocative + Described>(root: &T) -> Result<usize, Refu
     ensures answer { AnswersVisit (T.may_show root.now) (T.effect root.now) (AnswersSize T.size)
         result }
 {
-    let mut collector = Collector::of_held();
+    let mut collector = Collector::of_sum(Restore::Held(false));
     collector.visit_value(root)?;
     let held = collector.sum();
     let Some(own) = T::size() else {
@@ -76,7 +77,7 @@ pub fn size_of_owned<T: Allocative>(root: &T) -> Result<usize, Refusal>
     ensures refused { IfErr result (MayRefuseOwned T.is_strict (T.may_show root.now)) }
     ensures answer { AnswersOwned (T.may_show root.now) (T.effect root.now) result }
 {
-    let mut collector = Collector::of_owned();
+    let mut collector = Collector::of_sum(Restore::Owned(0));
     collector.visit_value(root)?;
     Ok(collector.sum())
 }
@@ -100,7 +101,7 @@ pub fn size_of_entries<F: FnOnce(&mut Visitor<'_>) -> Result<(), Refusal>>(
     requires keeps { KeepsVisitor F.FnOnce enter }
     ensures { CalledAtRoot F.FnOnce enter result }
 {
-    let mut collector = Collector::of_held();
+    let mut collector = Collector::of_sum(Restore::Held(false));
     let mut visitor = collector.root_visitor()?;
     visitor.call(enter);
     visitor.exit();

@@ -1,17 +1,16 @@
-//! The collectors: that of a flame graph, that of held bytes and that of owned bytes.
+//! The collectors: that of a flame graph, and that of a sum of held or of owned bytes.
 #![tactic(auto, using(crate::proofs::Opening::opening))]
 
-ghost use Rattle.std.specs.Prelude.{◌≡◌, false, IfOk, IfErr};
-ghost use Rattle.allocative_graph.specs.Collector.{Going, OfGraph, OfHeld, OfOwned, no_entries, nothing_held, nothing_owned, failed_with, IsClosed};
-ghost use Rattle.allocative_graph.specs.Visits.{HasFailed, OpensEntry, ClosesEntry, OpensShared, OpensRoot, Settles};
-ghost use Rattle.allocative.specs.Kinds.{IsHeldSum};
-ghost use Rattle.allocative.specs.Built.{as_graph};
+ghost use Rattle.std.specs.Prelude.{◌≡◌, ◌<◌, ◌^◌, false, IfOk, IfErr};
+ghost use Rattle.allocative_graph.specs.Graph.{total};
+ghost use Rattle.allocative_graph.specs.Collector.{Going, OfGraph, OfSum, no_entries, nothing_summed, failed_with};
+ghost use Rattle.allocative_graph.specs.Visits.{HasFailed, OpensEntry, ClosesEntry, OpensShared, OpensRoot, Settles, Ends, IsProfile};
+ghost use Rattle.allocative.specs.Kinds.{IsSum};
 ghost use Rattle.allocative.specs.Making.{Makes, Done, one};
 
-use crate::{Allocative, Identity, Key, Refusal, Visitor};
+use crate::{Allocative, FlameGraphOutput, Identity, Key, Refusal, Visitor};
 use allocative_collectors::graph_collector::GraphCollector;
-use allocative_collectors::held_collector::HeldCollector;
-use allocative_collectors::owned_collector::OwnedCollector;
+use allocative_collectors::sum_collector::SumCollector;
 use allocative_graph::restore::Restore;
 use std::alloc::{AllocError, Global};
 use std::marker::Model;
@@ -19,12 +18,11 @@ use std::marker::Model;
 #[derive(Drop)]
 enum Kind {
     Graph(GraphCollector),
-    Held(HeldCollector),
-    Owned(OwnedCollector),
+    Sum(SumCollector),
     Failed(Refusal),
 }
 
-/// What visitors enter into: the collector of a flame graph, of held bytes or of owned bytes.
+/// What visitors enter into: the collector of a flame graph, or of a sum of held or of owned bytes.
 /// It has failed, with its first cause, or it is going. Visitors borrow it from each other.
 #[derive(Drop)]
 pub struct Collector {
@@ -54,21 +52,12 @@ impl Collector {
         })
     }
 
-    /// The collector of held bytes. It allocates nothing.
-    pub(crate) fn of_held() -> Collector
-        ensures { result ≡ Going (OfHeld nothing_held) }
+    /// The collector of a sum, with this figure of the root. It allocates nothing.
+    pub(crate) fn of_sum(root: Restore) -> Collector
+        ensures { result ≡ Going (OfSum (nothing_summed root)) }
     {
         Collector {
-            kind: Kind::Held(HeldCollector::new()),
-        }
-    }
-
-    /// The collector of owned bytes. It allocates nothing.
-    pub(crate) fn of_owned() -> Collector
-        ensures { result ≡ Going (OfOwned nothing_owned) }
-    {
-        Collector {
-            kind: Kind::Owned(OwnedCollector::new()),
+            kind: Kind::Sum(SumCollector::new(root)),
         }
     }
 
@@ -116,11 +105,7 @@ impl Collector {
                 Ok(()) => Ok(Restore::none()),
                 Err(refusal) => Err(self.refuse(refusal)),
             },
-            Kind::Held(held) => match held.enter(size, is_unique) {
-                Ok(outer) => Ok(outer),
-                Err(refusal) => Err(self.refuse(refusal)),
-            },
-            Kind::Owned(owned) => match owned.enter(size, is_unique) {
+            Kind::Sum(sum) => match sum.enter(size, is_unique) {
                 Ok(outer) => Ok(outer),
                 Err(refusal) => Err(self.refuse(refusal)),
             },
@@ -164,8 +149,7 @@ impl Collector {
                 Ok(is_first) => Ok(is_first),
                 Err(refusal) => Err(self.refuse(refusal)),
             },
-            Kind::Held(_) => Ok(false),
-            Kind::Owned(owned) => match owned.count(size) {
+            Kind::Sum(sum) => match sum.count(size, true) {
                 Ok(()) => Ok(false),
                 Err(refusal) => Err(self.refuse(refusal)),
             },
@@ -180,8 +164,7 @@ impl Collector {
     {
         match &mut self.kind {
             Kind::Graph(graph) => graph.leave(),
-            Kind::Held(held) => held.leave(outer),
-            Kind::Owned(owned) => owned.leave(outer),
+            Kind::Sum(sum) => sum.leave(outer),
             Kind::Failed(_) => {}
         }
     }
@@ -196,8 +179,7 @@ impl Collector {
                 graph.begin();
                 Ok(Restore::none())
             }
-            Kind::Held(held) if held.is_closed() => Ok(held.begin()),
-            Kind::Owned(owned) if owned.is_closed() => Ok(owned.begin()),
+            Kind::Sum(sum) if sum.is_closed() => Ok(sum.begin()),
             Kind::Failed(cause) => Err(*cause),
             _ => Err(Refusal::Open),
         }
@@ -209,8 +191,7 @@ impl Collector {
     {
         let is_closed = match &self.kind {
             Kind::Graph(graph) => graph.is_closed(),
-            Kind::Held(held) => held.is_closed(),
-            Kind::Owned(owned) => owned.is_closed(),
+            Kind::Sum(sum) => sum.is_closed(),
             Kind::Failed(cause) => return Err(*cause),
         };
         if is_closed {
@@ -220,15 +201,14 @@ impl Collector {
         }
     }
 
-    /// The collector of a flame graph if no visitor is open, otherwise the first cause, or `Open`. Another collector
-    /// counts as failed with `Open`.
-    pub(crate) fn graph(&self) -> Result<&GraphCollector, Refusal>
-        ensures closed { IfOk result
-            (λ graph. IsClosed (OfGraph graph.now) × (self.now ≡ Going (OfGraph graph.now))) }
-        ensures refused { IfErr result (λ e. Settles (as_graph self.now) (Err e)) }
+    /// The graph and the warnings of all that was entered. It returns the first cause if the collector has failed,
+    /// `Open` if a visitor is open or the collector is that of a sum, and otherwise fails only with `Memory`.
+    pub(crate) fn finish(&self) -> Result<FlameGraphOutput, Refusal>
+        ensures ends { Ends IsProfile self.now result }
+        ensures total { IfOk result (λ o. total o.graph < 2 ^ 63) }
     {
         match &self.kind {
-            Kind::Graph(graph) if graph.is_closed() => Ok(graph),
+            Kind::Graph(graph) if graph.is_closed() => graph.finish(),
             Kind::Failed(cause) => Err(*cause),
             _ => Err(Refusal::Open),
         }
@@ -236,11 +216,10 @@ impl Collector {
 
     /// The sum of held or owned bytes.
     pub(crate) fn sum(&self) -> usize
-        ensures { IsHeldSum self.now result }
+        ensures { IsSum self.now result }
     {
         match &self.kind {
-            Kind::Held(held) => held.sum(),
-            Kind::Owned(owned) => owned.sum(),
+            Kind::Sum(sum) => sum.sum(),
             _ => 0,
         }
     }
@@ -251,7 +230,7 @@ impl Collector {
     ghost use Rattle.std.specs.Prelude.{Err};
     ghost use Rattle.allocative_graph.specs.Collector.{no_outer};
     ghost use Rattle.allocative_graph.specs.Visits.{RefusesEntry, VisitsRoot};
-    ghost use Rattle.allocative.specs.Lending.{LendsEntered, OpensEntryAt, LendsBegun, LendsBegunGraph};
+    ghost use Rattle.allocative.specs.Lending.{LendsEntered, OpensEntryAt, LendsBegun};
     ghost use Rattle.allocative.specs.Strict.{RootFailsOnlyIfFull};
     ghost use Rattle.allocative.specs.Visited.{OpensRootAt, VisitsRootWithEffect};
 
@@ -302,18 +281,6 @@ impl Collector {
             collector: self,
             outer,
         })
-    }
-
-    /// A visitor at the root of a flame graph's collector. It returns the first cause if the collector has failed, and
-    /// `Open` if a visitor is open or the collector is not that of a flame graph.
-    pub(crate) fn graph_root_visitor(&mut self) -> Result<Visitor<'_>, Refusal>
-        ensures* lent { sem 𝓛 (LendsBegunGraph self.entry result) }
-        ensures same_reference { IfOk result (λ v. v.collector.ghost_name ≡ self.entry.ghost_name) }
-        ensures begun { IfOk result (OpensRootAt (as_graph self.old)) }
-        ensures refused { IfErr result (λ e. Settles (as_graph self.old) (Err e)) }
-    {
-        self.graph()?;
-        self.root_visitor()
     }
 
     /// Visits an object by a root visitor. What the visit returns is not looked at: the collector keeps the first

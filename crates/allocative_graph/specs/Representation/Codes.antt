@@ -6,11 +6,12 @@ use Rattle.std.specs.FinMap as finmap
 use Rattle.std.specs.FinSet as set
 use Rattle.allocative_graph.specs.declared.refusal.Refusal.{Refusal}
 use Rattle.allocative_graph.specs.contracts.refusal.Refusal as refusal
+use Rattle.allocative_graph.specs.contracts.restore.Restore as restore
 use Rattle.allocative_graph.specs.Path.{Path}
 use Rattle.allocative_graph.specs.Identity.{Identity, Identities}
 use Rattle.allocative_graph.specs.Sums.{Node, Sums}
 use Rattle.allocative_graph.specs.Graph.{Graph, Warned}
-use Rattle.allocative_graph.specs.Collector.{Live, Holding, Owning, OfGraph, OfHeld, OfOwned, State, Failed, Going}
+use Rattle.allocative_graph.specs.Collector.{Live, Summing, Restore, OfGraph, OfSum, State, Failed, Going}
 use Rattle.allocative_graph.specs.Visits.{Profile}
 
 -- The code of a path.
@@ -49,41 +50,32 @@ live_code =
     (λ l. (l.sums, (l.met, (l.here, (l.back, l.open_visitors)))))
     (λ p. record { sums = p.0; met = p.1.0; here = p.1.1.0; back = p.1.1.1.0; open_visitors = p.1.1.1.1 }) (λ _. refl)
 
--- The code of a collector of held bytes.
-abbrev pub holding_code : Coded Holding
-holding_code = code_by (ℕ × (ℕ × Bool)) (coded× coded_ℕ (coded× coded_ℕ coded_bool))
-    (λ h. (h.sum, (h.open_visitors, h.is_in_unique)))
-    (λ p. record { sum = p.0; open_visitors = p.1.0; is_in_unique = p.1.1 }) (λ _. refl)
-
--- The code of a collector of owned bytes.
-abbrev pub owning_code : Coded Owning
-owning_code = code_by (ℕ × (ℕ × ℕ)) (coded× coded_ℕ (coded× coded_ℕ coded_ℕ))
-    (λ o. (o.sum, (o.spare, o.open_visitors)))
-    (λ p. record { sum = p.0; spare = p.1.0; open_visitors = p.1.1 }) (λ _. refl)
+-- The code of a collector of a sum.
+abbrev pub summing_code : Coded Summing
+summing_code = code_by (ℕ × (Restore × ℕ)) (coded× coded_ℕ (coded× (restore.the_row).coded coded_ℕ))
+    (λ s. (s.sum, (s.figure, s.open_visitors)))
+    (λ p. record { sum = p.0; figure = p.1.0; open_visitors = p.1.1 }) (λ _. refl)
 
 -- A state as a sum type.
-abbrev pub of_state : State → Refusal ⊎ (Live ⊎ (Holding ⊎ Owning))
+abbrev pub of_state : State → Refusal ⊎ (Live ⊎ Summing)
 of_state (Failed r) = inl r
 of_state (Going (OfGraph c)) = inr (inl c)
-of_state (Going (OfHeld h)) = inr (inr (inl h))
-of_state (Going (OfOwned o)) = inr (inr (inr o))
+of_state (Going (OfSum s)) = inr (inr s)
 
 -- The state of a value of that sum type.
-abbrev pub to_state : Refusal ⊎ (Live ⊎ (Holding ⊎ Owning)) → State
+abbrev pub to_state : Refusal ⊎ (Live ⊎ Summing) → State
 to_state (inl r) = Failed r
 to_state (inr (inl c)) = Going (OfGraph c)
-to_state (inr (inr (inl h))) = Going (OfHeld h)
-to_state (inr (inr (inr o))) = Going (OfOwned o)
+to_state (inr (inr s)) = Going (OfSum s)
 
 -- Converting a state to the sum type and back returns it.
 pub state_back : (s : State) → to_state (of_state s) ≡ s
 state_back (Failed r) = refl
 state_back (Going (OfGraph c)) = refl
-state_back (Going (OfHeld h)) = refl
-state_back (Going (OfOwned o)) = refl
+state_back (Going (OfSum s)) = refl
 
 -- The code of a state.
 abbrev pub state_code : Coded State
 state_code =
-    code_by (Refusal ⊎ (Live ⊎ (Holding ⊎ Owning)))
-    (coded⊎ (refusal.the_row).coded (coded⊎ live_code (coded⊎ holding_code owning_code))) of_state to_state state_back
+    code_by (Refusal ⊎ (Live ⊎ Summing)) (coded⊎ (refusal.the_row).coded (coded⊎ live_code summing_code)) of_state
+    to_state state_back

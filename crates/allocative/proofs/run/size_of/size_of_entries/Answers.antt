@@ -7,7 +7,7 @@ pub returns-in_err-check : goal.returns-in_err-check
 returns-in_err-check g c = record {
   before = c.in_ok-visitor.visitor;
   after = c.call.new.self;
-  begun = rw c.of_held-collector.ensures at c.in_ok-visitor.ensures.begun;
+  begun = rw c.of_sum-collector.ensures at c.in_ok-visitor.ensures.begun;
   called = c.call.ensures;
   answers = refusal_answered c.call.new.self.outer c.call.new.self.collector.now
       (same_err {e = c.in_err-check.field-0.0} _ c.from_residual-in_err-check.ensures.0 (search rules)) (search rules)
@@ -18,7 +18,7 @@ pub returns : goal.returns
 returns g c = record {
   before = c.in_ok-visitor.visitor;
   after = c.call.new.self;
-  begun = rw c.of_held-collector.ensures at c.in_ok-visitor.ensures.begun;
+  begun = rw c.of_sum-collector.ensures at c.in_ok-visitor.ensures.begun;
   called = c.call.ensures;
   answers = sum_answered c.call.new.self.outer c.call.new.self.collector.now c.sum.result (search rules) c.check.ensures
       (search rules) c.sum.ensures;

@@ -8,7 +8,7 @@ use Rattle.allocative.proofs.Lent.{alloc_all, pass_all, free_all, look_at, get, 
 use Rattle.allocative.proofs.Lent.{RattleType, MutRef, mut_vals, mut_Tells, plain, named_lft, nothing, heard, peeks}
 use Rattle.allocative.proofs.Lent.{only, calls_at, Lasts, lasts, triple_of, framed, Stays, stay_dropped, Goes-spent_ref}
 use Rattle.allocative.proofs.Lent.{ends_at, Result, Ok, Err, IfOk, IfErr, OnOk, OnErr, name_if_ok, Refusal, State}
-use Rattle.allocative.proofs.Lent.{OpensRoot, Settles, Visitor, as_graph, LendsBegunGraph}
+use Rattle.allocative.proofs.Lent.{OpensRoot, Settles, Visitor, LendsBegun}
 use Rattle.allocative.specs.Rooted.{LendsBuilt, LendsRoot}
 use Rattle.allocative.specs.Visited.{OpensRootAt}
 use Rattle.allocative.specs.contracts.run.builder.FlameGraphBuilder as builder
@@ -17,21 +17,15 @@ use Rattle.allocative.proofs.run.builder.FlameGraphBuilder.root_visitor.Statemen
 use Rattle.allocative.proofs.run.builder.FlameGraphBuilder.root_visitor.Code as code
 use Rattle.allocative.specs.contracts.run.builder.FlameGraphBuilder.lend as g
 use Rattle.allocative.proofs.run.builder.FlameGraphBuilder.lend.Met as g-met
-use Rattle.allocative.specs.contracts.visitor.collector.Collector.graph_root_visitor as h
-use Rattle.allocative.proofs.visitor.collector.Collector.graph_root_visitor.Met as h-met
+use Rattle.allocative.specs.contracts.visitor.collector.Collector.root_visitor as h
+use Rattle.allocative.proofs.visitor.collector.Collector.root_visitor.Met as h-met
 
 abbrev Answer : Lfts 1 → RattleType
 Answer κs = result_row (visitor_row (named_lft 1 0 tt κs)) refusal_row
 
--- How the builder ends, with a loan and without.
-ends_begun : (r : Result Visitor Refusal) (w z : State) → OnOk r (z ≡ w) → OnOk r (as_graph z ≡ as_graph w)
-ends_begun (Ok v) w z h = ap as_graph h
-ends_begun (Err e) w z h = h
-
 -- If no root visitor is returned, the builder ends as a refused beginning says.
-ends_refused : (s c : State) → s ≡ as_graph c → (r : Result Visitor Refusal) (z : State) →
-    OnErr r (IfErr r (λ e. OpensRoot (as_graph c) (Err e) (as_graph z))) →
-    IfErr r (λ e. OpensRoot s (Err e) (as_graph z))
+ends_refused : (s c : State) → s ≡ c → (r : Result Visitor Refusal) (z : State) →
+    OnErr r (IfErr r (λ e. OpensRoot c (Err e) z)) → IfErr r (λ e. OpensRoot s (Err e) z)
 ends_refused s c i (Ok v) z h = h
 ends_refused s c i (Err e) z h = rw i h
 
@@ -63,7 +57,7 @@ root_visitor_spec 𝓤 𝓛 𝓜 𝓡 wired =
     let Part = MutRef (named 0) κ collector_row in
     use1 𝓛 (later (some (λ (r : MutBor State). (Token ⊛ ‵ (Part.own_val r (v ∷ []))) ⊛
     some (λ (ws : Lasts g.ended κs (s, tt)). ‵ (lasts g.ended κs (s, tt) ws) ⊛ ‵ (LendsBuilt s r) ⊛ raw
-    (fact 𝓤 (s.now ≡ as_graph r.now)))))) (id⊢ 𝓤 _) $
+    (fact 𝓤 (s.now ≡ r.now)))))) (id⊢ 𝓤 _) $
     await ! tt $ pick ! (λ r. split ! $ split ! $ move ! (2 ∷ []) $ pick ! (λ ws. split ! $ drop ! $ split ! $ move ! (1 ∷ []) $ heard ! _ (λ same.
     -- [what the builder ends as; the token; the part lent]
     move ! (2 ∷ []) $ fsplit ! $ feq_l ! (λ is. feq_i ! (List _) (mut_vals r) (mut_vals r) refl $ fjoin ! $
@@ -74,21 +68,21 @@ root_visitor_spec 𝓤 𝓛 𝓜 𝓡 wired =
     nothing ! $ move ! (1 ∷ 0 ∷ []) $ join ! $ move ! (2 ∷ 0 ∷ []) $ join ! $ nothing ! $ move ! (1 ∷ 0 ∷ []) $
     use2 𝓛 (raw (H.pre z)) (id⊢ 𝓤 _) $
     -- [what the call asks; what the builder ends as]
-    calls_at ! fm H (h-met.met 𝓤 𝓛 𝓜 𝓡 (code.calls-allocative::visitor::collector::Collector::graph_root_visitor 𝓡.env
+    calls_at ! fm H (h-met.met 𝓤 𝓛 𝓜 𝓡 (code.calls-allocative::visitor::collector::Collector::root_visitor 𝓡.env
     wired)) z
     (and_then ! (get ! refl) (no_more !)) (λ u.
     use1 𝓛 (later (some (λ (res : Result Visitor Refusal). (Token ⊛ ‵ ((Answer κs).own_val res (u ∷ []))) ⊛
-    some (λ (vs : Lasts h.ended κs z.0.3). ‵ (lasts h.ended κs z.0.3 vs) ⊛ ‵ (LendsBegunGraph r res) ⊛
+    some (λ (vs : Lasts h.ended κs z.0.3). ‵ (lasts h.ended κs z.0.3 vs) ⊛ ‵ (LendsBegun r res) ⊛
     raw (fact 𝓤 (IfOk res (λ w. w.collector.ghost_name ≡ r.ghost_name))) ⊛ raw
-    (fact 𝓤 (IfOk res (OpensRootAt (as_graph r.now)))) ⊛
-    raw (fact 𝓤 (IfErr res (λ w. Settles (as_graph r.now) (Err w)))))))) (id⊢ 𝓤 _) $
+    (fact 𝓤 (IfOk res (OpensRootAt r.now))) ⊛
+    raw (fact 𝓤 (IfErr res (λ w. Settles r.now (Err w)))))))) (id⊢ 𝓤 _) $
     await ! tt $ pick ! (λ res. split ! $ split ! $ move ! (2 ∷ []) $ pick ! (λ vs. split ! $ drop ! $ split ! $
     move ! (1 ∷ []) $ split ! $ heard ! _ (λ _. split ! $ heard ! _ (λ begun. heard ! _ (λ refused.
     -- [what the part ends as; the token; the result; what the builder ends as]
     move ! (3 ∷ 0 ∷ []) $ use2 𝓛 (‵ (LendsRoot s res))
-    (nest 𝓛 builder.the_row collector_row as_graph s.ghost_name r.ghost_name
-    (λ w x'. OnOk res (x' ≡ w)) (λ x'. OnErr res (IfErr res (λ w. OpensRoot (as_graph r.now) (Err w) (as_graph x'))))
-    (λ w b. OnOk res (b ≡ as_graph w)) (λ b. IfErr res (λ e. OpensRoot s.now (Err e) b)) (ends_begun res)
+    (nest 𝓛 builder.the_row collector_row (λ c. c) s.ghost_name r.ghost_name
+    (λ w x'. OnOk res (x' ≡ w)) (λ x'. OnErr res (IfErr res (λ w. OpensRoot r.now (Err w) x')))
+    (λ w b. OnOk res (b ≡ w)) (λ b. IfErr res (λ e. OpensRoot s.now (Err e) b)) (λ w z h. h)
     (ends_refused s.now r.now same res)
     (name_if_ok (λ w. w.collector.ghost_name) res)) $
     move ! (2 ∷ []) $ peeks ! (Answer κs) _ (shows 𝓛 (Answer κs)) res (u ∷ []) (λ told.

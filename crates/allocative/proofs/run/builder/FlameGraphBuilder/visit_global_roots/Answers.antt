@@ -1,5 +1,5 @@
 -- One more root is visited, or refused.
-use Rattle.std.proofs.Common.{rules, Ok, Err, Result, ◌≡◌, arith}
+use Rattle.std.proofs.Common.{rules, Ok, Err, Result, ◌≡◌, subst, arith}
 use Rattle.std.proofs.lemmas.Grind.{common_steps}
 use Rattle.allocative.proofs.Common.{State, Showing, Refusal, Settles, VisitsRoot}
 use Rattle.allocative.proofs.Roots.{visits_one_more}
@@ -42,4 +42,5 @@ pub returns-in_err-visit_root-clause-visits_root : goal.returns-in_err-visit_roo
 returns-in_err-visit_root-clause-visits_root g c = refused_after _ _ _ c.args.self.now
     c.loop-root.self c.visit_root.new.self
     (same_err {e = c.in_err-visit_root.field-0.0} _ c.from_residual-in_err-visit_root.ensures.0 (search rules))
-    c.in_ok-check.ensures c.loop-root.invariant c.in_err-visit_root.ensures.visits_root
+    (subst (λ (s : State). Settles s (Ok c.in_ok-check.field-0)) c.self.view_is c.in_ok-check.ensures)
+    c.loop-root.invariant c.in_err-visit_root.ensures.visits_root

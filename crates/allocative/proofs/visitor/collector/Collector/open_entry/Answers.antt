@@ -1,7 +1,6 @@
 -- The entry is opened in the collector that there is.
 use Rattle.std.proofs.Common.{sym, ap, refl}
-use Rattle.allocative.proofs.Common.{OfGraph, OfHeld}
-use Rattle.allocative_graph.specs.Collector.{OfOwned}
+use Rattle.allocative.proofs.Common.{OfGraph, OfSum}
 use Rattle.allocative.proofs.Opening.{opens_entered}
 use Rattle.allocative.proofs.visitor.collector.Collector.open_entry.Goals as goal
 
@@ -14,11 +13,5 @@ returns-in-Ok-clause-opens c =
 pub returns-in-Ok-enter-clause-opens : goal.returns-in-Ok-enter-clause-opens
 returns-in-Ok-enter-clause-opens c =
     let ok = c.in-Ok-enter.ensures.ok in
-    opens_entered c.in-Some.size (OfHeld c.in-Held.held) (OfHeld c.enter-in-Held.new.self) c.in-Some.is
-    (sym (rw c.in-Held.is at c.self.view_is)) ok.0 ok.1 (ap OfHeld ok.2) refl
-
-pub returns-in-Ok-enter-2-clause-opens : goal.returns-in-Ok-enter-2-clause-opens
-returns-in-Ok-enter-2-clause-opens c =
-    let ok = c.in-Ok-enter-2.ensures.ok in
-    opens_entered c.in-Some.size (OfOwned c.in-Owned.owned) (OfOwned c.enter-in-Owned.new.self) c.in-Some.is
-    (sym (rw c.in-Owned.is at c.self.view_is)) ok.0 ok.1 (ap OfOwned ok.2) refl
+    opens_entered c.in-Some.size (OfSum c.in-Sum.sum) (OfSum c.enter-in-Sum.new.self) c.in-Some.is
+    (sym (rw c.in-Sum.is at c.self.view_is)) ok.0 ok.1 (ap OfSum ok.2) refl
