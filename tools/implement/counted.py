@@ -4,19 +4,21 @@ from __future__ import annotations
 
 from typing import NamedTuple
 
-from .known import NUMBERS, Scope
-from .rust_sizes import POINTERS, is_unsized, layout_of
+from .known import NUMBERS, Scope, split_at_hasher
+from .rust_sizes import BEFORE, POINTERS, is_unsized, layout_of
 from .types import Member, Type
 
 # Bytes, alignment, and how many parameters of a type whose size does not depend on them.
 FIXED = {name: (size, size, 0) for name, size in NUMBERS.items()}
 FIXED |= {"String": (24, 8, 0), "Vec": (24, 8, 1), "VecDeque": (32, 8, 1), "OnceBox": (8, 8, 1), "Error": (8, 8, 0)}
 FIXED |= {"BTreeMap": (24, 8, 2), "BTreeSet": (24, 8, 1), "HashMap": (48, 8, 2), "HashSet": (48, 8, 1)}
-FIXED |= {"IndexMap": (72, 8, 2), "IndexSet": (72, 8, 1), "Slab": (40, 8, 1), "IdRc": (8, 8, 1), "IdArc": (8, 8, 1)}
+FIXED |= {"IndexMap": (72, 8, 2), "IndexSet": (72, 8, 1), "LruCache": (72, 8, 2), "Slab": (40, 8, 1), "IdRc": (8, 8, 1), "IdArc": (8, 8, 1)}
 FIXED |= {"IpAddr": (17, 1, 0), "Ipv4Addr": (4, 1, 0), "Ipv6Addr": (16, 1, 0), "Infallible": (0, 1, 0)}
 FIXED |= dict.fromkeys("Duration Instant SystemTime Number".split(), (16, 8, 0)) | {"Value": (32, 8, 0)}
-CELLS = ("Cell", "UnsafeCell")
-COMPOSED = ("Option", "Result", "Either", "ManuallyDrop", *CELLS)
+TAGGED = ("Option", "Result", "Either")
+COMPOSED = (*TAGGED, "ManuallyDrop", "UnsafeCell")
+# What stands before the value in a cell or a lock: its bytes, and the least alignment.
+HELD = {name: before for (home, name), before in BEFORE.items() if home == "std"} | {"OnceCell": (1, 1)}
 # A type of no bytes whose alignment and drop are those of what is not known.
 UNKNOWN = "[String; 0]"
 
@@ -53,10 +55,11 @@ class Counting:
             return Counted("u64", 8, 8) if kind.text.startswith("*") else None
         if path == name and name in parameters:
             return Counted(name, None, 1)
-        if name in FIXED and (name == "Infallible" or self.scope.is_of_library(kind)):
+        has_known_hasher = all(part.name == "RandomState" for part in split_at_hasher(kind)[1])
+        if name in FIXED and has_known_hasher and (name == "Infallible" or self.scope.is_of_library(kind)):
             size, align, count = FIXED[name]
             return Counted(path + (f"<{', '.join(['()'] * count)}>" if count else ""), size, align)
-        if kind.form in ("tuple", "array") or name in COMPOSED:
+        if kind.form in ("tuple", "array") or name in COMPOSED or (name in HELD and self.scope.is_of_library(kind)):
             return self.of_parts(kind, path, [self.of(part, parameters) for part in kind.parts])
         if self.scope.holds(kind, self.layouts):
             return None if kind.parts else Counted(self.layouts[name], None, 8)
@@ -74,8 +77,8 @@ class Counting:
             length = kind.text.rpartition("; ")[2][:-1]
             size = size * int(length) if size is not None and length.isdigit() else None
             return Counted(f"[{inside}; {length}]", size, align)
-        is_tagged = kind.name in ("Option", "Result", "Either")
-        return known[0] if kind.name in CELLS else Counted(f"{path}<{inside}>", *laid_out(known, int(is_tagged)))
+        before, least = HELD.get(kind.name, (int(kind.name in TAGGED), 1))
+        return known[0] if kind.name == "UnsafeCell" else Counted(f"{path}<{inside}>", *laid_out(known, before, least))
 
     def member(self, member: Member, parameters: tuple[str, ...]) -> list[Counted] | None:
         """What counts for a field: nothing for a `PhantomData`, and `None` if it is not known."""
@@ -91,8 +94,8 @@ class Counting:
         return [Counted(f"[u8; {size}]", size, 1), Counted(empty, 0, found.align if found else 8)]
 
 
-def laid_out(parts: list[Counted], tag: int | None = None) -> tuple[int | None, int]:
-    """The bytes and the alignment of parts: of all, or of the greatest behind a tag of some bytes."""
-    sizes, align = [part.size for part in parts if part.size is not None], max([1, *(part.align for part in parts)])
-    size = sum(sizes) if tag is None else tag + max(sizes, default=0)
+def laid_out(parts: list[Counted], before: int | None = None, least: int = 1) -> tuple[int | None, int]:
+    """The bytes and the alignment of parts: of all, or of the greatest behind some bytes."""
+    sizes, align = [part.size for part in parts if part.size is not None], max([least, *(part.align for part in parts)])
+    size = sum(sizes) if before is None else before + max(sizes, default=0)
     return (-(-size // align) * align if len(sizes) == len(parts) else None), align

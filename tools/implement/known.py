@@ -15,13 +15,18 @@ NUMBERS |= {f"{form}size": 8 for form in FORMS} | {"u128": 16, "i128": 16, "f32"
 NUMBERS |= {"bool": 1, "AtomicBool": 1}
 STD = """String Vec Option Result Box VecDeque BTreeMap BTreeSet HashMap HashSet ManuallyDrop PhantomData
     Duration Instant SystemTime IpAddr Ipv4Addr Ipv6Addr""".split()
+CELLS = "Cell RefCell OnceCell Mutex RwLock OnceLock".split()
 # The crate of each type that the library implements.
-HOMES = dict.fromkeys((*STD, *NUMBERS), "std") | {"Slab": "slab", "SmallVec": "smallvec", "Either": "either"}
-HOMES |= {"IndexMap": "indexmap", "IndexSet": "indexmap", "Value": "serde_json", "Number": "serde_json"}
+HOMES = dict.fromkeys((*STD, *CELLS, *NUMBERS), "std") | {"Slab": "slab", "SmallVec": "smallvec", "Either": "either"}
+HOMES |= {"IndexMap": "indexmap", "IndexSet": "indexmap", "LruCache": "lru", "Value": "serde_json", "Number": "serde_json"}
 HOMES |= {"OnceBox": "once_cell", "Error": "anyhow", "IdRc": "allocative", "IdArc": "allocative"}
 # What containers ask of their keys.
-KEYS = dict.fromkeys(("HashMap", "HashSet", "IndexMap", "IndexSet"), ("Eq", "Hash"))
+KEYS = dict.fromkeys(("HashMap", "HashSet", "IndexMap", "IndexSet", "LruCache"), ("Eq", "Hash"))
 KEYS |= dict.fromkeys(("BTreeMap", "BTreeSet"), ("Ord",))
+# What types ask of their first parameter.
+ASKED = KEYS | {"Cell": ("Copy",)}
+# How many parameters stand before the one that makes hashers, which is described and not shown.
+BEFORE_HASHER = {"HashMap": 2, "HashSet": 1, "IndexMap": 2, "IndexSet": 1, "LruCache": 2}
 # What keeps its items behind a pointer.
 POINTERS = {"Vec", "Box", "VecDeque", "Slab", "IdRc", "IdArc", "OnceBox", *KEYS}
 # Traits with their paths, of which `Ord` alone implies another that a key needs.
@@ -30,7 +35,8 @@ FUNCTIONS = ("fn(", "unsafe fn", "extern ", "unsafe extern")
 # A name that stands alone, and not in a path.
 NAME = re.compile(r"(?<![\w:'])[A-Za-z_]\w*(?!\w|::)")
 Path = tuple[str, ...]
-NOT_STRICT = {"OnceBox"}
+NOT_STRICT = {"OnceBox", *CELLS}
+NOT_COPY = {"String", "SmallVec", "Value", "Error", *POINTERS, *CELLS, *(name for name in NUMBERS if name.startswith("Atomic"))}
 # Types that need no `use`.
 PRELUDE = {"String", "Vec", "Option", "Result", "Box", *(name for name in NUMBERS if name[0].islower())}
 
@@ -94,7 +100,16 @@ class Scope:
             reason = self.path_reason(kind)
             if reason or kind.name == "PhantomData":
                 return reason
-        return next((reason for part in kind.parts if (reason := self.reason(part, parameters))), "")
+        shown, hashers = split_at_hasher(kind)
+        whys = [self.reason(part, parameters) for part in shown] + [self.hasher_reason(part) for part in hashers]
+        return next(filter(None, whys), "")
+
+    def hasher_reason(self, kind: Type) -> str:
+        """Why a type that makes hashers has no declared size, or nothing."""
+        definition, home = self.own(kind), self.path(kind)[0] if kind.path else ""
+        is_own = definition and "Described" in self.module.implemented.get(definition.name, ())
+        is_known = is_own or (home == "std" and kind.name == "RandomState")
+        return "" if is_known else f"`{kind.text}` makes hashers, and is no type that is described"
 
     def path_reason(self, kind: Type) -> str:
         """Why a type that is named by a path cannot be shown, whatever its arguments are."""
@@ -134,10 +149,10 @@ class Scope:
             return f"`{kind.text}` is a function pointer, and the checker proves no implementation for a type with one"
         if kind.name == "SmallVec" and any(part.name in definition.names("type") for part in kind.all()):
             return f"the checker does not bound the size of `{kind.text}` over a type parameter: write a `Vec`"
-        keys = kind.parts[0].all() if kind.name in KEYS and kind.parts else ()
-        for key in keys:
-            if not set(KEYS[kind.name]) <= self.traits(key, definition):
-                return f"`{kind.text}` asks `{key.text}: {' + '.join(KEYS[kind.name])}`: write that bound, or derive it"
+        asked = kind.parts[0].all() if kind.name in ASKED and kind.parts else ()
+        for part in asked:
+            if not set(ASKED[kind.name]) <= self.traits(part, definition):
+                return f"`{kind.text}` asks `{part.text}: {' + '.join(ASKED[kind.name])}`: write that bound, or derive it"
         return next((found for part in kind.parts if (found := self.refusal(part, definition))), "")
 
     def traits(self, kind: Type, definition: Definition) -> set[str]:
@@ -150,7 +165,9 @@ class Scope:
             bounds += re.findall(rf"\b{kind.name}\s*:([^,]*)", definition.where)
             found = set(re.findall(r"\w+", " ".join(bounds)))
             return found | ({"Eq"} if "Ord" in found else set()) if found <= TRAITS else TRAITS
-        return set() if kind.text in ("f32", "f64") else TRAITS
+        if kind.text in ("f32", "f64"):
+            return TRAITS - {"Eq", "Ord", "Hash"}
+        return TRAITS - {"Copy"} if kind.name in NOT_COPY else TRAITS
 
     def flags(self, kind: Type, parameters: Path) -> set[str]:
         """The flags on which it depends whether a type is strict; none if it is."""
@@ -165,7 +182,7 @@ class Scope:
             is_known = kind.name in HOMES and kind.name not in NOT_STRICT
             if not is_known and not (definition and definition.name in self.strict):
                 return {f"⟦<{kind.text} as Allocative>⟧.is_strict"}
-        return found.union(*(self.flags(part, parameters) for part in kind.parts))
+        return found.union(*(self.flags(part, parameters) for part in split_at_hasher(kind)[0]))
 
     def find_strict(self) -> None:
         """Finds which types without type parameters are strict, of those that get implementations now."""
@@ -179,6 +196,12 @@ class Scope:
             not_strict = {name for name, kinds in found.items() if any(flags(kind, ()) for kind in kinds)}
             found = {name: kinds for name, kinds in found.items() if name not in not_strict}
         self.flags = cache(self.flags)
+
+
+def split_at_hasher(kind: Type) -> tuple[tuple[Type, ...], tuple[Type, ...]]:
+    """The parts of a type that are shown, and what makes its hashers, if that is written."""
+    end = BEFORE_HASHER.get(kind.name, len(kind.parts))
+    return kind.parts[:end], kind.parts[end:]
 
 
 def is_lasting(kind: Type) -> bool:

@@ -2,7 +2,7 @@
 
 from __future__ import annotations
 
-from .known import NUMBERS, Scope
+from .known import NUMBERS, Scope, split_at_hasher
 from .types import Type
 
 Layout = tuple[int, int]
@@ -25,9 +25,7 @@ FIXED |= {"jiff": of((16, 8), "Timestamp SignedDuration"), "regex": of((32, 8), 
 FIXED |= {"url": of((88, 8), "Url"), "uuid": of((16, 1), "Uuid")}
 # What stands before the value in a type that holds one.
 BEFORE = {("std", "Mutex"): (5, 4), ("std", "RwLock"): (9, 4), ("std", "RefCell"): (8, 8), ("std", "Cell"): (0, 1)}
-BEFORE |= {("parking_lot", "Mutex"): (1, 1), ("parking_lot", "RwLock"): (8, 8)}
-# How many parameters stand before the one that makes hashes, whose size counts.
-BEFORE_HASHER = {"HashMap": 2, "HashSet": 1}
+BEFORE |= {("std", "OnceLock"): (4, 4), ("parking_lot", "Mutex"): (1, 1), ("parking_lot", "RwLock"): (8, 8)}
 POINTERS = ("Rc", "Arc", "Weak", "Box")
 # Types that are no larger in an `Option`.
 WITH_ROOM = {"Rc", "Arc", "Box", "NonNull", "String", "Vec", "VecDeque", "PathBuf", "HashMap", "HashSet", "bool", "char"}
@@ -40,7 +38,7 @@ def layout_of(scope: Scope, kind: Type) -> Layout | None:
     home, name = path[0] if len(path) > 1 else "std", kind.name
     if kind.form == "reference" or (name in POINTERS and kind.parts):
         return 16 if is_unsized(kind.parts[0]) else 8, 8
-    if scope.own(kind) or any(part.name != "RandomState" for part in kind.parts[BEFORE_HASHER.get(name, len(kind.parts)) :]):
+    if scope.own(kind) or any(part.name != "RandomState" for part in split_at_hasher(kind)[1]):
         return None
     if name in FIXED.get(home, ()):
         return FIXED[home][name]

@@ -6,7 +6,7 @@ import re
 from functools import reduce
 from typing import TYPE_CHECKING, Any, Callable, NamedTuple
 
-from .known import NUMBERS, Scope
+from .known import CELLS, NUMBERS, Scope, split_at_hasher
 from .text import INDENT, WIDTH, bound, called, entered, holds, in_angles, joined, laid, pattern_of
 from .types import Definition, Member, Type, Variant
 
@@ -15,7 +15,7 @@ if TYPE_CHECKING:
     from .text import Writer
 
 # Types of the library that have no tally.
-UNTALLIED = set("PhantomData ManuallyDrop Value Number OnceBox Error IdRc IdArc".split())
+UNTALLIED = set("PhantomData ManuallyDrop Value Number OnceBox LruCache Error IdRc IdArc".split()) | set(CELLS)
 UNTALLIED |= {name for name in NUMBERS if name.startswith("Atomic")}
 # The containers of any number of items.
 MANY = set("Vec VecDeque BTreeMap BTreeSet HashMap HashSet IndexMap IndexSet".split())
@@ -43,7 +43,7 @@ def reason(scope: Scope, kind: Type, parameters: tuple[str, ...]) -> str:
     if own:
         has_tally = own.name in scope.tallied or "Tallied" in scope.module.implemented.get(own.name, ())
     elif kind.form == "path" and kind.name not in parameters:
-        is_known = kind.name not in UNTALLIED and scope.is_of_library(kind)
+        is_known = kind.name not in UNTALLIED and scope.is_of_library(kind) and not split_at_hasher(kind)[1]
         has_tally = is_known or (len(scope.path(kind)) > 1 and not scope.outside(scope.path(kind), ("Tallied",)))
     whys = (reason(scope, part, parameters) for part in kind.parts)
     return next(filter(None, whys), "") if has_tally else f"`{kind.text}` has none"

@@ -1,5 +1,6 @@
 pub mod Common
 pub mod Making
+pub mod Cells
 pub mod Closures
 pub mod Runs
 pub mod Bodies

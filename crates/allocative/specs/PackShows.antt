@@ -53,3 +53,10 @@ index_map_inside s p t q pair es unused =
 abbrev pub index_set_inside : {T : Type 0} → Option ℕ → (T → Showing) → List T → ℕ → Showing
 index_set_inside s p xs unused =
     Both (index_data_shows s (each_shows (field_of (codes "value") s p) xs) unused) (table_shows (length xs))
+
+-- What is inside the own entry of an `LruCache` with keys and values of declared sizes: a pointer with the fields of
+-- each pair, in the order of the cache, and its table.
+abbrev pub lru_cache_inside : {K V : Type 0} → Option ℕ → (K → Showing) → Option ℕ → (V → Showing) → List (K × V)
+    → Showing
+lru_cache_inside s p t q es =
+    Both (Unique (codes "ptr") 8 (each_shows (pair_shows s p t q) es)) (table_shows (length es))

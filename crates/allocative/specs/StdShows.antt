@@ -2,6 +2,7 @@
 use Rattle.std.specs.Prelude.{ℕ, List, Option, None, Some, Result, Ok, Err, IsPermutation, codes}
 use Rattle.allocative_described.specs.Sizes.{shared_inner_size}
 use Rattle.allocative_graph.specs.Path.{Key}
+use Rattle.allocative_graph.specs.Forest.{Forest}
 use Rattle.allocative_graph.specs.Identity.{Identity}
 use Rattle.allocative_graph.specs.Shows.{Showing, Nothing, Field, Shared, each_shows}
 
@@ -28,3 +29,13 @@ in_any_order {T} p xs f = (ys : List T) × IsPermutation xs ys × each_shows p y
 abbrev pub shared_inside : Key → Identity → Option ℕ → ℕ → Showing → Showing
 shared_inside inner_name id size align p =
     Shared (codes "ptr") 8 id (Field inner_name (shared_inner_size size align) p)
+
+-- A field `data` of a declared size, with what p says of some value inside it.
+pub data some_value {T : Type 0} (size : Option ℕ) (p : T → Showing) : Forest → Type 0 where
+  is_value : (x : T) {f : Forest} → Field (codes "data") size (p x) f → some_value size p f
+
+-- What is inside the own entry of a cell or a lock: a field `data` with some value, or nothing if no value can be
+-- had.
+pub data cell_inside {T : Type 0} (size : Option ℕ) (p : T → Showing) : Forest → Type 0 where
+  not_had : {f : Forest} → Nothing f → cell_inside size p f
+  is_had : (x : T) {f : Forest} → Field (codes "data") size (p x) f → cell_inside size p f

@@ -14,7 +14,7 @@ pub mod visitor;
 pub use crate::allocative_trait::Allocative;
 pub use crate::impls::crate_impls::json::visit_json_map;
 pub use crate::part::containers::{Buffer, Each, FieldEach, Items, Pairs, Text, Unused};
-pub use crate::part::named::Named;
+pub use crate::part::named::{Named, NamedRef};
 pub use crate::part::{Declared, Field, Inside, IntoKey, Part, Shared, Unique, Whole};
 pub use crate::run::builder::FlameGraphBuilder;
 pub use crate::run::profile::{profile_value, profile_values};

@@ -25,7 +25,7 @@ use Rattle.allocative.specs.PackShows.{index_data_shows, is_index_data, small_ve
 use Rattle.allocative_tally.specs.Fields.{AddsSize, TalliesRun}
 use Rattle.allocative_tally.proofs.Fields.{Holds, holds_up, holds_second, holds_first_of, holds_second_of}
 use Rattle.allocative_tally.proofs.Fields.{holds_itself, holds_bytes, whole_counted, bare_counted}
-use Rattle.allocative_tally.proofs.Sequences.{inside_counted}
+use Rattle.allocative_tally.proofs.Sequences.{container_counted}
 
 -- ---- the bytes of pairs
 -- A field has its declared size.
@@ -233,7 +233,7 @@ pub index_counted : {S A T : Type 0} {steps : S → Option A → S → Type 0} {
     Tallies None (IsOfRun steps start v (each_shows p)) s s' → AddsSize (size_product found (Some left)) u u' →
     Tallies (Some 8) (table_shows n) t t' →
     Tallies (Some 72)
-    (Inside k 72 (Both (index_data_shows size (each_shows p xs) places) (table_shows (length xs))))
+    (Field k (Some 72) (Both (index_data_shows size (each_shows p xs) places) (table_shows (length xs))))
     (EntryAt Wide k a (Beside (EntryAt Unique (codes "data") b
     (Beside s (EntryAt Wide (codes "unused_capacity") u NoEntry))) t))
     (EntryAt Wide k a' (Beside (EntryAt Unique (codes "data") b'
@@ -242,7 +242,7 @@ index_counted {found = found} {size} xs {places = room} {u = u} {u'} given e i j
     let places : AddsSize (size_product size (Some room)) u u' =
     subst (λ (w : Option ℕ). AddsSize (size_product w (Some room)) u u') e
     (subst (λ (m : ℕ). AddsSize (size_product found (Some m)) u u') i unused) in
-    inside_counted (omega arith) own (tallies_both
+    container_counted (omega arith) own (tallies_both
     (tallies_as (λ h x. is_index_data x) (counted_unique pointer (tallies_both (tallies_as (of_run given) items)
     (bare_counted refl places))))
     (rw j at table))

@@ -4,6 +4,7 @@
 pub mod enums;
 pub mod gauges;
 pub mod groups;
+pub mod locked;
 pub mod nodes;
 pub mod pointers;
 pub mod services;

@@ -7,11 +7,14 @@ use crate::texts::{shows, shows_room};
 use allocative::{Allocative, Refusal, Visitor, visit_json_map};
 use either::Either;
 use indexmap::{IndexMap, IndexSet};
+use lru::LruCache;
 use once_cell::race::OnceBox;
 use serde_json::{Map, Value};
 use slab::Slab;
 use smallvec::SmallVec;
 use std::alloc::{AllocError, Global};
+use std::hash::RandomState;
+use std::num::NonZeroUsize;
 use std::test::Fail;
 
 /// A map that shows itself by the call for maps.
@@ -106,6 +109,51 @@ fn items_pairs_and_values(rt: HostRuntime) -> Result<(), Fail> {
     let text =
         "IndexSet 56\nIndexSet;data 8\nIndexSet;data;value;u16 10\nIndexSet;raw_table 8\nIndexSet;raw_table;alloc 72\n";
     shows(alloc, &five_values(alloc)?, text)
+}
+
+fn random_pair(
+    alloc: Global,
+    state: RandomState,
+) -> Result<IndexMap<u64, u64, RandomState>, AllocError> {
+    let mut pairs = IndexMap::with_hasher(alloc, state);
+    pairs.insert(1, 2)?;
+    Ok(pairs)
+}
+
+fn random_value(
+    alloc: Global,
+    state: RandomState,
+) -> Result<IndexSet<u16, RandomState>, AllocError> {
+    let mut values = IndexSet::with_hasher(alloc, state);
+    values.insert(1)?;
+    Ok(values)
+}
+
+#[test]
+fn pairs_and_values_of_a_random_hasher(rt: HostRuntime) -> Result<(), Fail> {
+    let (alloc, state) = (rt.alloc(), RandomState::new(&rt)?);
+    let text =
+        "IndexMap 56\nIndexMap;data 8\nIndexMap;data;key;u64 8\nIndexMap;data;value;u64 8\nIndexMap;raw_table 8\nIndexMap;raw_table;alloc 36\n";
+    shows(alloc, &random_pair(alloc, state)?, text)?;
+    let text =
+        "IndexSet 56\nIndexSet;data 8\nIndexSet;data;value;u16 2\nIndexSet;raw_table 8\nIndexSet;raw_table;alloc 36\n";
+    shows(alloc, &random_value(alloc, state)?, text)
+}
+
+/// Two pairs with room for 100.
+fn two_recent(alloc: Global) -> Result<LruCache<u8, u64>, AllocError> {
+    let bound = NonZeroUsize::new(100).unwrap_or(NonZeroUsize::MIN);
+    let mut recent = LruCache::new(alloc, bound)?;
+    recent.put(1, 2)?;
+    recent.put(3, 4)?;
+    Ok(recent)
+}
+
+#[test]
+fn pairs_of_a_cache(rt: HostRuntime) -> Result<(), Fail> {
+    let text =
+        "LruCache 56\nLruCache;ptr 8\nLruCache;ptr;key;u8 2\nLruCache;ptr;value;u64 16\nLruCache;raw_table 8\nLruCache;raw_table;alloc 36\n";
+    shows(rt.alloc(), &two_recent(rt.alloc())?, text)
 }
 
 /// Three bytes with room for 100 more.

@@ -12,12 +12,15 @@ use allocative_described::{
 };
 use either::Either;
 use indexmap::{IndexMap, IndexSet};
+use lru::LruCache;
 use once_cell::race::OnceBox;
 use serde_json::{Number, Value};
 use slab::Slab;
 use smallvec::SmallVec;
+use std::cell::{Cell, OnceCell, RefCell};
 use std::collections::{BTreeMap, BTreeSet, HashMap, HashSet, VecDeque};
 use std::convert::Infallible;
+use std::hash::RandomState;
 use std::marker::PhantomData;
 use std::mem::ManuallyDrop;
 use std::net::{IpAddr, Ipv4Addr, Ipv6Addr};
@@ -30,6 +33,7 @@ use std::sync::atomic::{
     AtomicBool, AtomicI8, AtomicI16, AtomicI32, AtomicI64, AtomicIsize, AtomicU8, AtomicU16,
     AtomicU32, AtomicU64, AtomicUsize,
 };
+use std::sync::{Mutex, OnceLock, RwLock};
 use std::test::Fail;
 use std::time::{Duration, Instant, SystemTime};
 
@@ -170,6 +174,9 @@ fn types_of_std(rt: HostRuntime) {
         is::<BTreeSet<u128>>("BTreeSet", 24, 8, true),
         is::<HashMap<u64, u8>>("HashMap", 48, 8, true),
         is::<HashSet<u64>>("HashSet", 48, 8, true),
+        is::<HashMap<u64, u8, RandomState>>("HashMap", 48, 8, true),
+        is::<HashSet<u64, RandomState>>("HashSet", 48, 8, true),
+        is::<RandomState>("RandomState", 16, 8, false),
         is::<IpAddr>("IpAddr", 17, 1, false),
         is::<Ipv4Addr>("Ipv4Addr", 4, 1, false),
         is::<Ipv6Addr>("Ipv6Addr", 16, 1, false),
@@ -203,6 +210,23 @@ fn composed_types(rt: HostRuntime) {
 }
 
 #[test]
+fn cells_and_locks(rt: HostRuntime) {
+    let are_right = [
+        is::<Cell<u32>>("Cell", 4, 4, false),
+        is::<RefCell<u8>>("RefCell", 16, 8, false),
+        is::<RefCell<String>>("RefCell", 32, 8, true),
+        is::<OnceCell<u32>>("OnceCell", 8, 4, false),
+        is::<Mutex<u8>>("Mutex", 8, 4, false),
+        is::<Mutex<u128>>("Mutex", 32, 16, false),
+        is::<RwLock<u8>>("RwLock", 12, 4, false),
+        is::<RwLock<String>>("RwLock", 40, 8, true),
+        is::<OnceLock<u32>>("OnceLock", 8, 4, true),
+        is::<OnceLock<u64>>("OnceLock", 16, 8, true),
+    ];
+    assert_all(&rt, &are_right);
+}
+
+#[test]
 fn types_of_other_crates(rt: HostRuntime) {
     let are_right = [
         is::<Either<u8, u64>>("Either", 16, 8, false),
@@ -212,6 +236,9 @@ fn types_of_other_crates(rt: HostRuntime) {
         is::<OnceBox<u128>>("OnceBox", 8, 8, true),
         is::<IndexMap<u64, u8>>("IndexMap", 72, 8, true),
         is::<IndexSet<u64>>("IndexSet", 72, 8, true),
+        is::<IndexMap<u64, u8, RandomState>>("IndexMap", 72, 8, true),
+        is::<IndexSet<u64, RandomState>>("IndexSet", 72, 8, true),
+        is::<LruCache<u64, u8>>("LruCache", 72, 8, true),
         is::<Slab<u128>>("Slab", 40, 8, true),
         is::<Value>("Value", 32, 8, true),
         is::<Number>("Number", 16, 8, false),
@@ -253,9 +280,15 @@ fn sizes_that_do_not_fit(rt: HostRuntime) {
         Result::<Huge, u8>::size(),
         SmallVec::<Huge, 2>::size(),
         ManuallyDrop::<[Huge; 2]>::size(),
+        Cell::<[Huge; 2]>::size(),
+        RefCell::<Huge>::size(),
+        OnceCell::<Huge>::size(),
+        Mutex::<Huge>::size(),
+        RwLock::<Huge>::size(),
+        OnceLock::<Huge>::size(),
         shared_inner_size::<Huge>(),
     ];
-    assert_sizes(&rt, &sizes, &[None; 10]);
+    assert_sizes(&rt, &sizes, &[None; 16]);
     assert_sizes(&rt, &[<[Huge; 1]>::size()], &[Some(usize::MAX)]);
 }
 

@@ -2,7 +2,9 @@
 use crate::texts::{is_graph, show, shows, shows_room};
 use allocative::{IdArc, IdRc, Identity, Refusal, profile_value, size_of_unique_allocated_data};
 use std::alloc::{AllocError, Global};
+use std::cell::{Cell, OnceCell, RefCell};
 use std::collections::{HashMap, HashSet, VecDeque};
+use std::hash::RandomState;
 use std::marker::PhantomData;
 use std::mem::ManuallyDrop;
 use std::net::{IpAddr, Ipv4Addr, Ipv6Addr};
@@ -14,6 +16,7 @@ use std::sync::atomic::{
     AtomicBool, AtomicI8, AtomicI16, AtomicI32, AtomicI64, AtomicIsize, AtomicU8, AtomicU16,
     AtomicU32, AtomicU64, AtomicUsize,
 };
+use std::sync::{Mutex, OnceLock, RwLock};
 use std::test::Fail;
 use std::time::{Duration, Instant, SystemTime};
 
@@ -113,6 +116,48 @@ fn parts_in_place(rt: HostRuntime) -> Result<(), Fail> {
     )
 }
 
+/// A cell that was set.
+fn set_cell() -> Result<OnceCell<u64>, Fail> {
+    let cell = OnceCell::new();
+    cell.set(5).or(Err("a new cell takes a value"))?;
+    Ok(cell)
+}
+
+#[test]
+fn cells_and_locks(rt: HostRuntime) -> Result<(), Fail> {
+    show(
+        rt.alloc(),
+        &[
+            (&Cell::new(1u32), "Cell;data;u32 4\n"),
+            (&RefCell::new(1u64), "RefCell 8\nRefCell;data;u64 8\n"),
+            (&OnceCell::<u64>::new(), "OnceCell 16\n"),
+            (&set_cell()?, "OnceCell 8\nOnceCell;data;u64 8\n"),
+            (&Mutex::new(1u8), "Mutex 7\nMutex;data;u8 1\n"),
+            (&RwLock::new(1u64), "RwLock 16\nRwLock;data;u64 8\n"),
+            (&OnceLock::<u64>::new(), "OnceLock 16\n"),
+            (&OnceLock::from(1u32), "OnceLock 4\nOnceLock;data;u32 4\n"),
+        ],
+    )
+}
+
+#[test]
+fn a_cell_that_is_written_shows_its_own_entry_alone(rt: HostRuntime) -> Result<(), Fail> {
+    let cell = RefCell::new(1u64);
+    let guard = cell.try_borrow_mut().or(Err("a new cell is free"))?;
+    shows(rt.alloc(), &cell, "RefCell 16\n")?;
+    drop(guard);
+    shows(rt.alloc(), &cell, "RefCell 8\nRefCell;data;u64 8\n")
+}
+
+#[test]
+fn a_held_lock_shows_its_own_entry_alone(rt: HostRuntime) -> Result<(), Fail> {
+    let lock = Mutex::new(1u64);
+    let guard = lock.try_lock().ok_or("a new lock is free")?;
+    shows(rt.alloc(), &lock, "Mutex 16\n")?;
+    drop(guard);
+    shows(rt.alloc(), &lock, "Mutex 8\nMutex;data;u64 8\n")
+}
+
 #[test]
 fn a_reference_shows_nothing(rt: HostRuntime) -> Result<(), Fail> {
     let number: &'static u8 = &7;
@@ -175,6 +220,32 @@ fn hashed_keys(alloc: Global) -> Result<HashSet<u32>, AllocError> {
 
 fn hashed_pairs(alloc: Global) -> Result<HashMap<u8, u8>, AllocError> {
     [(1, 1), (2, 2)].into_iter().collect(alloc)
+}
+
+/// A key with random keys of the hasher.
+fn random_key(alloc: Global, state: RandomState) -> Result<HashSet<u32, RandomState>, AllocError> {
+    let mut keys = HashSet::with_hasher(alloc, state);
+    keys.insert(1)?;
+    Ok(keys)
+}
+
+/// A pair with random keys of the hasher.
+fn random_pair(
+    alloc: Global,
+    state: RandomState,
+) -> Result<HashMap<u8, u8, RandomState>, AllocError> {
+    let mut pairs = HashMap::with_hasher(alloc, state);
+    pairs.insert(1, 1)?;
+    Ok(pairs)
+}
+
+#[test]
+fn keys_and_pairs_of_a_random_hasher(rt: HostRuntime) -> Result<(), Fail> {
+    let (alloc, state) = (rt.alloc(), RandomState::new(&rt)?);
+    let text = "HashSet 40\nHashSet;data 4\nHashSet;data;key;u32 4\n";
+    shows(alloc, &random_key(alloc, state)?, text)?;
+    let text = "HashMap 40\nHashMap;data 6\nHashMap;data;key;u8 1\nHashMap;data;value;u8 1\n";
+    shows(alloc, &random_pair(alloc, state)?, text)
 }
 
 #[test]

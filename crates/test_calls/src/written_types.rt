@@ -4,6 +4,7 @@ use allocative::{Key, Named as Root, Refusal, profile_values};
 use example_types::enums::Request;
 use example_types::gauges::Gauge;
 use example_types::groups::Sale;
+use example_types::locked::Store;
 use example_types::nodes::Node;
 use example_types::pointers::PageLink;
 use example_types::services::{Sensor, Sensors};
@@ -14,6 +15,7 @@ use std::alloc::{AllocError, Global};
 use std::collections::{BTreeMap, HashMap};
 use std::path::PathBuf;
 use std::rc::Rc;
+use std::sync::{Mutex, RwLock};
 use std::test::Fail;
 use test_generated_types::placed::OfOne;
 use test_generated_types::types::{Event, Found, Job, Json, Payload, Placed, Table, Trigger};
@@ -41,6 +43,22 @@ fn types_in_place(rt: HostRuntime) -> Result<(), Fail> {
             ),
         ],
     )
+}
+
+#[test]
+fn parts_behind_locks_are_one_graph(rt: HostRuntime) -> Result<(), Fail> {
+    let store = Store {
+        orders: Mutex::new(Vec::new(rt.alloc())),
+        limit: RwLock::new(5),
+    };
+    let all = store.profile(rt.alloc())?;
+    is_text(
+        all.flamegraph().write()?.as_str(),
+        "limit;u32 4\norders;Vec 24\n",
+    )?;
+    let _held = store.orders.try_lock().ok_or("a new lock is free")?;
+    let free = store.profile(rt.alloc())?;
+    is_text(free.flamegraph().write()?.as_str(), "limit;u32 4\n")
 }
 
 fn named(alloc: Global) -> Result<Named<Option<u16>>, AllocError> {

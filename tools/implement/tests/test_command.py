@@ -114,14 +114,14 @@ class CommandTest(unittest.TestCase):
         self.assertIn('Inside("lock", 40, ())', output)
 
     def test_what_is_passed_over_counts(self) -> None:
-        head = "use std::collections::HashMap;\nuse std::rc::Rc;\nuse std::sync::Mutex;\n#[derive(Drop)]\nstruct A<T> {\n"
-        kinds = "Vec<Mutex<u8>>, HashMap<u8,Mutex<u8>>, Option<Rc<str>>, *const u8, [B;3], (u8,f32), T, Vec<T>, &'static str".split(", ")
+        head = "use std::collections::HashMap;\nuse std::rc::Rc;\nuse std::sync::*;\n#[derive(Drop)]\nstruct A<T> {\n"
+        kinds = "Vec<Condvar>, HashMap<u8,Condvar>, Mutex<Rc<str>>, Option<Rc<str>>, *const u8, [B;3], (u8,f32), T, Vec<T>, &'static str".split(", ")
         fields = "".join(f"    // allocative: skip\n    f{number}: {kind},\n" for number, kind in enumerate(kinds))
         own = "#[derive(Drop)]\nenum B {\n    C,\n    D(u8, u32),\n}\n"
         status, output, told = self.run_it(f"{head}{fields}}}\n{own}")
-        self.assertEqual((status, told), (0, ["implement: 9 fields are passed over: 152 bytes, and 2 of a size that only the checker knows"]))
+        self.assertEqual((status, told), (0, ["implement: 10 fields are passed over: 176 bytes, and 2 of a size that only the checker knows"]))
         layout = output[output.index("type ALayout<T> =") : output.index("impl<")]
-        kinds = "Vec<()>", "HashMap<(), ()>", "Option<(Box<()>, u64)>", "u64", "[B; 3]", "(u8, f32)", "T", "Vec<()>", "(u64, u64)"
+        kinds = "Vec<()>", "HashMap<(), ()>", "Mutex<(Box<()>, u64)>", "Option<(Box<()>, u64)>", "u64", "[B; 3]", "(u8, f32)", "T", "Vec<()>", "(u64, u64)"
         self.assertEqual([kind for kind in kinds if kind not in layout], [])
         self.assertIn("impl<T: Described + Drop> Described for A<T>", output)
 
@@ -130,6 +130,18 @@ class CommandTest(unittest.TestCase):
         self.assertIn("ghost is_strict = { true };", output)
         _, output, _ = self.run_it("use once_cell::race::OnceBox;\n#[derive(Drop)]\nstruct A {\n    a: OnceBox<u8>,\n}\n")
         self.assertIn("ghost is_strict = { ⟦<OnceBox<u8> as Allocative>⟧.is_strict };", output)
+        _, output, _ = self.run_it("use std::sync::Mutex;\n#[derive(Drop)]\nstruct A {\n    a: Mutex<u8>,\n}\n")
+        self.assertIn("ghost is_strict = { ⟦<Mutex<u8> as Allocative>⟧.is_strict };", output)
+
+    def test_hashers(self) -> None:
+        head = "use lru::LruCache;\nuse std::collections::HashMap;\nuse std::hash::RandomState;\n#[derive(Drop)]\nstruct Own;\n#[derive(Drop)]\nstruct A {\n"
+        text = head + "    a: HashMap<u8, String, RandomState>,\n    b: LruCache<u8, String>,\n}\n"
+        status, output, _ = self.run_it(text, "--counted")
+        self.assertEqual(status, 0)
+        self.assertIn("type ALayout = Record<(HashMap<u8, String, RandomState>, (LruCache<u8, String>, ()))>;", output)
+        self.assertIn("    ghost is_strict = { true };\n\n    fn visit(&self, visitor: &mut Visitor<'_>) -> Result<(), Refusal> {\n        let a", output)
+        told = self.run_it(head + "    a: HashMap<u8, u8, Own>,\n}\n")[2]
+        self.assertIn("A.a: `Own` makes hashers, and is no type that is described", told[0])
 
     def test_flags_through_a_cycle(self) -> None:
         two = "#[cycle(x)]\n#[derive(Drop)]\nstruct A {\n    b: Vec<B>,\n    o: OnceBox<u8>,\n}\n"
@@ -147,14 +159,14 @@ class CommandTest(unittest.TestCase):
         self.assertIn("M::E() => Whole(self, ()).enter(visitor),", output)
 
     def test_all_faults_at_once(self) -> None:
-        text = "use std::sync::Mutex;\nuse std::rc::Rc;\nstruct A {\n    a: Rc<u8>,\n    b: Mutex<u8>,\n    c: u8,\n    d: Vec<Rc<u8>>,\n}\n#[derive(Drop)]\nenum B {\n    C(str),\n    D(\n    // allocative: skip\n    Option<Mutex<u8>>),\n}\n"
+        text = "use std::sync::Condvar;\nuse std::rc::Rc;\nstruct A {\n    a: Rc<u8>,\n    b: Condvar,\n    c: u8,\n    d: Vec<Rc<u8>>,\n}\n#[derive(Drop)]\nenum B {\n    C(str),\n    D(\n    // allocative: skip\n    Option<Condvar>),\n}\n"
         status, output, told = self.run_it(text)
         self.assertEqual((status, output), (4, ""))
         self.assertEqual([line.split(":")[0] for line in told], ["3", "4", "5", "7", "11", "14"])
         self.assertIn("A.a: `Rc` of `std` has no implementation: write above it `// allocative: size 8`", told[1])
-        self.assertIn("size 8`", told[2])
+        self.assertIn("size 4`", told[2])
         self.assertIn("B::C.0", told[4])
-        self.assertIn("B::D.0: its size is not known: write above it `// allocative: size N`, where N is what `size_of::<Option<Mutex<u8>>>()`", told[5])
+        self.assertIn("B::D.0: its size is not known: write above it `// allocative: size N`, where N is what `size_of::<Option<Condvar>>()`", told[5])
 
     def test_unknown_fields_are_passed_over_where_asked(self) -> None:
         status, output, _ = self.run_it("#[derive(Drop)]\nstruct A {\n    a: *const u8,\n    b: u8,\n}\n", "--skip-unknown")
@@ -171,25 +183,18 @@ class CommandTest(unittest.TestCase):
 
     def test_sizes_in_rust(self) -> None:
         """The sizes are those of rustc 1.95 on x86-64."""
-        head = "use std::sync::*;\nuse std::cell::*;\nuse std::rc::Rc;\nuse std::fs::File;\nuse std::net::SocketAddr;\nuse std::collections::HashMap;\n"
+        head = "use std::sync::*;\nuse std::cell::*;\nuse std::rc::Rc;\nuse std::fs::File;\nuse std::net::*;\nuse std::path::PathBuf;\nuse std::collections::HashMap;\n"
         for kind, size in (
-            ("std::sync::Mutex<()>", 8),
-            ("std::sync::Mutex<u8>", 8),
-            ("std::sync::Mutex<u32>", 12),
-            ("std::sync::Mutex<u128>", 32),
-            ("std::sync::RwLock<u8>", 12),
-            ("std::sync::RwLock<u64>", 24),
-            ("std::sync::RwLock<HashMap<String, u64>>", 64),
-            ("std::cell::RefCell<Option<String>>", 32),
-            ("std::cell::RefCell<Option<u64>>", 24),
-            ("std::cell::RefCell<(u8, u16, u8)>", 16),
-            ("std::cell::RefCell<[u16; 5]>", 24),
+            ("std::sync::Mutex<File>", 12),
+            ("std::sync::Mutex<[SocketAddrV4; 3]>", 24),
+            ("std::sync::Mutex<(u8, Rc<u8>, u16)>", 24),
+            ("std::sync::RwLock<SocketAddrV4>", 16),
+            ("std::sync::RwLock<HashMap<Rc<str>, u64>>", 64),
+            ("std::sync::OnceLock<File>", 8),
+            ("std::cell::RefCell<Option<PathBuf>>", 32),
+            ("std::cell::RefCell<(u8, File, u8)>", 16),
             ("std::cell::RefCell<Rc<str>>", 24),
-            ("std::cell::RefCell<Option<NonZeroU16>>", 16),
-            ("std::cell::Cell<Option<f64>>", 16),
-            ("std::sync::Mutex<(u8, u64, u16)>", 24),
-            ("std::sync::Mutex<[Option<u8>; 3]>", 12),
-            ("std::sync::RwLock<()>", 12),
+            ("std::cell::Cell<SocketAddr>", 32),
             ("File", 4),
             ("SocketAddr", 32),
             ("&'static str", 16),
@@ -198,18 +203,20 @@ class CommandTest(unittest.TestCase):
             with self.subTest(kind):
                 told = self.run_it(f"{head}#[derive(Drop)]\nstruct A {{\n    a: {kind},\n}}\n")[2]
                 self.assertIn(f"write above it `// allocative: size {size}`,", told[0])
-        for kind in ("Mutex<Own>", "Mutex<Option<(u8, bool)>>", "Mutex<[u8; N]>", "Mutex<HashMap<u8, u8, Own>>"):
+        for kind in ("Mutex<(Own, File)>", "Mutex<Option<(u8, File)>>", "Mutex<[File; N]>", "parking_lot::Mutex<HashMap<u8, u8, Own>>"):
             told = self.run_it(f"{head}#[derive(Drop)]\nstruct A {{\n    a: {kind},\n}}\n#[derive(Drop)]\nstruct Own;\n")[2]
             self.assertIn("// allocative: size N`, where N is what `size_of::<", told[0])
 
     def test_what_the_checker_refuses_is_refused_first(self) -> None:
-        head = "use std::collections::*;\ntype Call = fn(u8) -> u8;\n#[derive(Drop)]\nstruct K(u8);\n#[derive(Drop)]\nstruct A<T, U: Ord + Clone> "
+        head = "use std::cell::*;\nuse std::collections::*;\ntype Call = fn(u8) -> u8;\n#[derive(Drop)]\nstruct K(u8);\n#[derive(Drop)]\nstruct A<T, U: Ord + Clone> "
         for kind, what in (
             ("Option<Call>", "A.a: `fn(u8) -> u8` is a function pointer"),
             ("HashMap<T, u8>", "A.a: `HashMap<T, u8>` asks `T: Eq + Hash`"),
             ("Vec<BTreeMap<(T, u8), u8>>", "asks `T: Ord`"),
             ("HashSet<f64>", "asks `f64: Eq + Hash`"),
             ("BTreeSet<Vec<K>>", "asks `K: Ord`"),
+            ("Cell<(u8, String)>", "asks `String: Copy`"),
+            ("Cell<K>", "asks `K: Copy`"),
             ("Option<SmallVec<T, 2>>", "does not bound the size of `SmallVec<T, 2>`"),
         ):
             for above in ("", "    // allocative: size 8\n"):

@@ -4,6 +4,7 @@ mod error;
 mod index_map;
 mod index_set;
 pub mod json;
+mod lru_cache;
 mod once_box;
 mod slab_type;
 mod small_vec;

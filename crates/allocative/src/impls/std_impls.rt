@@ -1,4 +1,5 @@
 //! What the types of the language and of `std` show.
+mod cells;
 mod choice;
 mod collections;
 mod mem;

@@ -13,8 +13,9 @@ use crate::{
     raw_table_alloc_size_for_len,
 };
 use indexmap::{IndexMap, IndexSet};
+use lru::LruCache;
 use std::collections::{BTreeMap, BTreeSet, HashMap, HashSet};
-use std::hash::Hash;
+use std::hash::{BuildHasher, Hash};
 
 /// The items of a slice, as `Items(slice)`: one entry with the item's name and all bytes if the items need
 /// no drop or have size 0, otherwise what each item shows. The errors are those of `Visitor::visit_slice`.
@@ -99,7 +100,8 @@ impl<'a, K: IntoKey, T: Allocative + Described + Ord> Part for FieldEach<K, &'a 
     }
 }
 
-impl<'a, K: IntoKey, T: Allocative + Described + Eq + Hash> Part for FieldEach<K, &'a HashSet<T>> {
+impl<'a, K: IntoKey, T: Allocative + Described + Eq + Hash, S: BuildHasher> Part
+    for FieldEach<K, &'a HashSet<T, S>> {
     ghost may_show = { λ s. in_any_order (field_of (K.key s.0) T.size T.may_show) s.1.now.keys };
 
     ghost is_strict = { T.is_strict };
@@ -110,7 +112,8 @@ impl<'a, K: IntoKey, T: Allocative + Described + Eq + Hash> Part for FieldEach<K
     }
 }
 
-impl<'a, K: IntoKey, T: Allocative + Described + Eq + Hash> Part for FieldEach<K, &'a IndexSet<T>> {
+impl<'a, K: IntoKey, T: Allocative + Described + Eq + Hash, S: BuildHasher> Part
+    for FieldEach<K, &'a IndexSet<T, S>> {
     ghost may_show = { λ s. shows.each_shows (field_of (K.key s.0) T.size T.may_show) s.1.now.keys };
 
     ghost is_strict = { T.is_strict };
@@ -143,8 +146,8 @@ impl<'a, K: Allocative + Described + Ord, V: Allocative + Described> Part
     }
 }
 
-impl<'a, K: Allocative + Described + Eq + Hash, V: Allocative + Described> Part
-    for Pairs<&'a HashMap<K, V>> {
+impl<'a, K: Allocative + Described + Eq + Hash, V: Allocative + Described, S: BuildHasher> Part
+    for Pairs<&'a HashMap<K, V, S>> {
     ghost may_show = { λ m. in_any_order (pair_shows K.size K.may_show V.size V.may_show) m.0.now.entries };
 
     ghost is_strict = { K.is_strict && V.is_strict };
@@ -155,8 +158,8 @@ impl<'a, K: Allocative + Described + Eq + Hash, V: Allocative + Described> Part
     }
 }
 
-impl<'a, K: Allocative + Described + Eq + Hash, V: Allocative + Described> Part
-    for Pairs<&'a IndexMap<K, V>> {
+impl<'a, K: Allocative + Described + Eq + Hash, V: Allocative + Described, S: BuildHasher> Part
+    for Pairs<&'a IndexMap<K, V, S>> {
     ghost may_show = { λ m. shows.each_shows (pair_shows K.size K.may_show V.size V.may_show) m.0.now.entries };
 
     ghost is_strict = { K.is_strict && V.is_strict };
@@ -164,6 +167,18 @@ impl<'a, K: Allocative + Described + Eq + Hash, V: Allocative + Described> Part
     fn enter(self, visitor: &mut Visitor<'_>) -> Result<(), Refusal> {
         let Pairs(indexed) = self;
         visitor.visit_run(KeyAndValue, indexed.iter())
+    }
+}
+
+impl<'a, K: Allocative + Described + Eq + Hash, V: Allocative + Described, S: BuildHasher> Part
+    for Pairs<&'a LruCache<K, V, S>> {
+    ghost may_show = { λ m. shows.each_shows (pair_shows K.size K.may_show V.size V.may_show) m.0.now.entries };
+
+    ghost is_strict = { K.is_strict && V.is_strict };
+
+    fn enter(self, visitor: &mut Visitor<'_>) -> Result<(), Refusal> {
+        let Pairs(cache) = self;
+        visitor.visit_run(KeyAndValue, cache.iter())
     }
 }
 

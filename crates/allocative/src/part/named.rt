@@ -26,3 +26,23 @@ impl<T: Allocative + Described> Allocative for Named<T> {
         Field(self.0.copy(), &self.1).enter(visitor)
     }
 }
+
+/// A lent value under a name: the same entry as `Named`, for a value that is not given away, as what a guard of a lock
+/// lends.
+///
+/// ```
+/// let mut builder = FlameGraphBuilder::new(alloc)?;
+/// builder.visit_value(&NamedRef(Key::new("open"), &*guard))?;
+/// ```
+#[derive(Drop)]
+pub struct NamedRef<'a, T>(pub Key, pub &'a T);
+
+impl<'a, T: Allocative + Described> Allocative for NamedRef<'a, T> {
+    ghost may_show = { λ named. shows.Field named.0 T.size (T.may_show named.1.now) };
+
+    ghost is_strict = { T.is_strict };
+
+    fn visit(&self, visitor: &mut Visitor<'_>) -> Result<(), Refusal> {
+        Field(self.0.copy(), self.1).enter(visitor)
+    }
+}

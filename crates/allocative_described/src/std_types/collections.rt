@@ -1,10 +1,11 @@
 //! Collections: each is as large as its control, whatever it holds.
 
-ghost use Rattle.std.specs.Prelude.{Some, true, codes};
+ghost use Rattle.std.specs.Prelude.{Some, true, codes, max};
+ghost use Rattle.allocative_described.specs.Sizes.{size_sum, size_up};
 
-use crate::described::Described;
+use crate::described::{Described, size_sum, size_up};
 use std::collections::{BTreeMap, BTreeSet, HashMap, HashSet, VecDeque};
-use std::hash::Hash;
+use std::hash::{BuildHasher, Hash};
 
 impl<T> Described for Vec<T> {
     ghost name = { codes "Vec" };
@@ -110,21 +111,22 @@ impl<K: Ord> Described for BTreeSet<K> {
     }
 }
 
-impl<K: Eq + Hash, V> Described for HashMap<K, V> {
+// A table of 32 bytes, then what makes its hashers.
+impl<K: Eq + Hash, V, S: BuildHasher + Described> Described for HashMap<K, V, S> {
     ghost name = { codes "HashMap" };
 
-    ghost align = { 8 };
+    ghost align = { max 8 S.align };
 
     ghost needs_drop = { true };
 
-    ghost size = { Some 48 };
+    ghost size = { size_up (size_sum (Some 32) S.size) (max 8 S.align) };
 
     fn name() -> &'static str {
         "HashMap"
     }
 
     fn align() -> usize {
-        8
+        S::align().max(8)
     }
 
     fn needs_drop() -> bool {
@@ -132,25 +134,26 @@ impl<K: Eq + Hash, V> Described for HashMap<K, V> {
     }
 
     fn size() -> Option<usize> {
-        Some(48)
+        size_up(size_sum(Some(32), S::size()), Self::align())
     }
 }
 
-impl<K: Eq + Hash> Described for HashSet<K> {
+// A map without values.
+impl<K: Eq + Hash, S: BuildHasher + Described> Described for HashSet<K, S> {
     ghost name = { codes "HashSet" };
 
-    ghost align = { 8 };
+    ghost align = { max 8 S.align };
 
     ghost needs_drop = { true };
 
-    ghost size = { Some 48 };
+    ghost size = { size_up (size_sum (Some 32) S.size) (max 8 S.align) };
 
     fn name() -> &'static str {
         "HashSet"
     }
 
     fn align() -> usize {
-        8
+        S::align().max(8)
     }
 
     fn needs_drop() -> bool {
@@ -158,6 +161,6 @@ impl<K: Eq + Hash> Described for HashSet<K> {
     }
 
     fn size() -> Option<usize> {
-        Some(48)
+        size_up(size_sum(Some(32), S::size()), Self::align())
     }
 }

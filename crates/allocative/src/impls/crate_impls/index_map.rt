@@ -6,13 +6,16 @@ ghost use Rattle.allocative_graph.specs.Shows as shows;
 ghost use Rattle.allocative.specs.PackShows.{index_map_inside};
 
 use crate::part::containers::{IndexData, Table};
-use crate::{Allocative, Described, Inside, Pairs, Part, Refusal, Unused, Visitor};
+use crate::{Allocative, Described, Pairs, Part, Refusal, Unused, Visitor, Whole};
 use indexmap::IndexMap;
-use std::hash::Hash;
+use std::hash::{BuildHasher, Hash};
 
-impl<K: Allocative + Described + Eq + Hash, V: Allocative + Described> Allocative
-    for IndexMap<K, V> {
-    ghost may_show = { λ m. shows.Inside (codes "IndexMap") 72
+impl<
+    K: Allocative + Described + Eq + Hash,
+    V: Allocative + Described,
+    S: BuildHasher + Described + Drop,
+> Allocative for IndexMap<K, V, S> {
+    ghost may_show = { λ m. shows.Field (codes "IndexMap") ⟦<IndexMap<K, V, S> as Described>⟧.size
         (index_map_inside K.size K.may_show V.size V.may_show ⟦<(K, V) as Described>⟧.size m.entries (spare m)) };
 
     ghost is_strict = { K.is_strict && V.is_strict };
@@ -23,6 +26,6 @@ impl<K: Allocative + Described + Eq + Hash, V: Allocative + Described> Allocativ
             count: self.capacity() - self.len(),
         };
         let data = IndexData(Pairs(self), unused);
-        Inside("IndexMap", 72, (data, Table(self.len()))).enter(visitor)
+        Whole(self, (data, Table(self.len()))).enter(visitor)
     }
 }

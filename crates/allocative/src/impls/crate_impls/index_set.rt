@@ -6,12 +6,14 @@ ghost use Rattle.allocative_graph.specs.Shows as shows;
 ghost use Rattle.allocative.specs.PackShows.{index_set_inside};
 
 use crate::part::containers::{IndexData, Table};
-use crate::{Allocative, Described, FieldEach, Inside, Part, Refusal, Unused, Visitor};
+use crate::{Allocative, Described, FieldEach, Part, Refusal, Unused, Visitor, Whole};
 use indexmap::IndexSet;
-use std::hash::Hash;
+use std::hash::{BuildHasher, Hash};
 
-impl<T: Allocative + Described + Eq + Hash> Allocative for IndexSet<T> {
-    ghost may_show = { λ s. shows.Inside (codes "IndexSet") 72 (index_set_inside T.size T.may_show s.keys (spare s)) };
+impl<T: Allocative + Described + Eq + Hash, S: BuildHasher + Described + Drop> Allocative
+    for IndexSet<T, S> {
+    ghost may_show = { λ s. shows.Field (codes "IndexSet") ⟦<IndexSet<T, S> as Described>⟧.size
+        (index_set_inside T.size T.may_show s.keys (spare s)) };
 
     ghost is_strict = { T.is_strict };
 
@@ -21,6 +23,6 @@ impl<T: Allocative + Described + Eq + Hash> Allocative for IndexSet<T> {
             count: self.capacity() - self.len(),
         };
         let data = IndexData(FieldEach("value", self), unused);
-        Inside("IndexSet", 72, (data, Table(self.len()))).enter(visitor)
+        Whole(self, (data, Table(self.len()))).enter(visitor)
     }
 }

@@ -12,7 +12,7 @@ use crate::{
     Allocative, Buffer, Described, FieldEach, Inside, Items, Pairs, Part, Refusal, Visitor, Whole,
 };
 use std::collections::{BTreeMap, BTreeSet, HashMap, HashSet, VecDeque};
-use std::hash::Hash;
+use std::hash::{BuildHasher, Hash};
 
 impl<T: Allocative + Described> Allocative for Vec<T> {
     ghost may_show = { λ v. shows.Field (codes "Vec") (Some 24)
@@ -73,9 +73,12 @@ impl<K: Allocative + Described + Ord> Allocative for BTreeSet<K> {
     }
 }
 
-impl<K: Allocative + Described + Eq + Hash, V: Allocative + Described> Allocative
-    for HashMap<K, V> {
-    ghost may_show = { λ m. shows.Field (codes "HashMap") (Some 48)
+impl<
+    K: Allocative + Described + Eq + Hash,
+    V: Allocative + Described,
+    S: BuildHasher + Described + Drop,
+> Allocative for HashMap<K, V, S> {
+    ghost may_show = { λ m. shows.Field (codes "HashMap") ⟦<HashMap<K, V, S> as Described>⟧.size
         (shows.Inside (codes "data") 8 (in_any_order (pair_shows K.size K.may_show V.size V.may_show) m.entries)) };
 
     ghost is_strict = { K.is_strict && V.is_strict };
@@ -86,8 +89,9 @@ impl<K: Allocative + Described + Eq + Hash, V: Allocative + Described> Allocativ
     }
 }
 
-impl<K: Allocative + Described + Eq + Hash> Allocative for HashSet<K> {
-    ghost may_show = { λ s. shows.Field (codes "HashSet") (Some 48)
+impl<K: Allocative + Described + Eq + Hash, S: BuildHasher + Described + Drop> Allocative
+    for HashSet<K, S> {
+    ghost may_show = { λ s. shows.Field (codes "HashSet") ⟦<HashSet<K, S> as Described>⟧.size
         (shows.Inside (codes "data") 8 (in_any_order (field_of (codes "key") K.size K.may_show) s.keys)) };
 
     ghost is_strict = { K.is_strict };
