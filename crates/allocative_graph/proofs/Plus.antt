@@ -76,7 +76,7 @@ plus-following (OfGraph c) f g = λ i. OfGraph
 plus-following (OfSum s) f g =
     let r = s.figure in
     let sum : s.sum + forest_bytes r (followed_by f g)
-        ≡ (s.sum + forest_bytes r f) + forest_bytes (figure_after r (direct f)) g =
+    ≡ (s.sum + forest_bytes r f) + forest_bytes (figure_after r (direct f)) g =
     omega (arith, forest_bytes-following r f g) in
     let after = ap (figure_after r) (direct-following f g) ∙ figure_after-add r (direct f) (direct g) in
     λ i. OfSum (record s { sum = sum i; figure = after i })
@@ -108,7 +108,7 @@ inside_entry true k n (OfGraph c) f = rw (append-nil (own_behind (c.here ++ k �
 inside_entry false k n (OfGraph c) f = rw (append-nil (own_behind (c.here ++ k ∷ []) f), append-nil (contents f))
 inside_entry u k n (OfSum s) f =
     let sum : (s.sum + entry_bytes s.figure u n) + forest_bytes (figure_inside s.figure u n) f
-        ≡ s.sum + forest_bytes s.figure (entry_of u k n f) = omega (arith, forest_bytes-entry s.figure u k n f) in
+    ≡ s.sum + forest_bytes s.figure (entry_of u k n f) = omega (arith, forest_bytes-entry s.figure u k n f) in
     λ i. OfSum (record s { sum = sum i; figure = figure_after s.figure (direct-entry u k n f i) })
 
 -- A collector takes an entry with a forest inside it if, once the entry is entered, it takes that forest.
