@@ -4,6 +4,7 @@ from __future__ import annotations
 
 from typing import NamedTuple
 
+from . import foreign
 from .known import NUMBERS, Scope, split_at_hasher
 from .rust_sizes import BEFORE, POINTERS, is_unsized, layout_of
 from .types import Member, Type
@@ -47,7 +48,9 @@ class Counting:
         return found._replace(text=kind.text) if found and is_described else found
 
     def composed(self, kind: Type, parameters: tuple[str, ...]) -> Counted | None:
-        name, path = kind.name, "::".join(kind.path)
+        name, path, known = kind.name, "::".join(kind.path), foreign.of(self.scope, kind)
+        if known:
+            return Counted(known.counts, known.size, known.align)
         if kind.form == "reference" or (name in POINTERS and kind.parts):
             word = "u64" if kind.form == "reference" else "Box<()>"
             return Counted(f"({word}, u64)", 16, 8) if is_unsized(kind.parts[0]) else Counted(word, 8, 8)

@@ -188,7 +188,7 @@ class Scope:
         """Finds which types without type parameters are strict, of those that get implementations now."""
         types = [self.module.types[name] for name in self.wanted]
         types = [each for each in types if not each.names("type")]
-        found = {each.name: [member.type for member in each.shown if member.size is None] for each in types}
+        found = {each.name: [member.type for member in each.shown if member.is_whole] for each in types}
         self.strict = set()
         while len(found) != len(self.strict):
             self.strict = set(found)

@@ -2,6 +2,7 @@
 
 from __future__ import annotations
 
+from . import foreign
 from .known import NUMBERS, Scope, split_at_hasher
 from .types import Type
 
@@ -14,15 +15,14 @@ def of(layout: Layout, names: str) -> dict[str, Layout]:
 
 
 # Types whose size does not depend on parameters, by their crates.
-FIXED = {"std": of((24, 8), "PathBuf OsString LinkedList BinaryHeap JoinHandle String Vec BTreeMap BTreeSet")}
+FIXED = {"std": of((24, 8), "OsString LinkedList BinaryHeap JoinHandle String Vec BTreeMap BTreeSet")}
 FIXED["std"] |= of((16, 8), "CString Sender SyncSender Receiver RandomState Layout TypeId Duration Instant SystemTime")
 FIXED["std"] |= of((8, 8), "Thread ThreadId AtomicPtr NonNull Stdin Stdout") | of((48, 8), "HashMap HashSet")
 FIXED["std"] |= of((4, 4), "File TcpListener TcpStream UdpSocket UnixStream Condvar Once") | of((40, 8), "Barrier")
-FIXED["std"] |= of((32, 4), "SocketAddr") | of((6, 2), "SocketAddrV4") | of((28, 4), "SocketAddrV6") | of((32, 8), "VecDeque")
-FIXED |= {"bytes": of((32, 8), "Bytes BytesMut"), "crossbeam_channel": of((16, 8), "Sender Receiver")}
+FIXED["std"] |= of((32, 8), "VecDeque")
+FIXED |= {"crossbeam_channel": of((16, 8), "Sender Receiver")}
 FIXED |= {"chrono": of((4, 4), "NaiveDate") | of((8, 4), "NaiveTime") | of((12, 4), "NaiveDateTime")}
-FIXED |= {"jiff": of((16, 8), "Timestamp SignedDuration"), "regex": of((32, 8), "Regex"), "semver": of((40, 8), "Version")}
-FIXED |= {"url": of((88, 8), "Url"), "uuid": of((16, 1), "Uuid")}
+FIXED |= {"regex": of((32, 8), "Regex"), "semver": of((40, 8), "Version")}
 # What stands before the value in a type that holds one.
 BEFORE = {("std", "Mutex"): (5, 4), ("std", "RwLock"): (9, 4), ("std", "RefCell"): (8, 8), ("std", "Cell"): (0, 1)}
 BEFORE |= {("std", "OnceLock"): (4, 4), ("parking_lot", "Mutex"): (1, 1), ("parking_lot", "RwLock"): (8, 8)}
@@ -34,6 +34,9 @@ WITH_ROOM = {"Rc", "Arc", "Box", "NonNull", "String", "Vec", "VecDeque", "PathBu
 def layout_of(scope: Scope, kind: Type) -> Layout | None:
     """The bytes and the alignment of a type in Rust, or nothing if that is not known here."""
     kind = scope.real(kind)
+    known = foreign.of(scope, kind)
+    if known:
+        return known.size, known.align
     path = scope.path(kind) if kind.path else ()
     home, name = path[0] if len(path) > 1 else "std", kind.name
     if kind.form == "reference" or (name in POINTERS and kind.parts):

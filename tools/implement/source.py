@@ -2,21 +2,24 @@
 
 from __future__ import annotations
 
+import contextlib
 import os
 import re
 import textwrap
 from argparse import Namespace
 from functools import cached_property
 
+from . import foreign
 from .counted import Counted, Counting
 from .known import Scope
+from .rust_sizes import is_unsized
 from .tally import HOMES, MANY, SHAPES, Tally, find_tallied, reason
 from .text import LEVELS, WIDTH, Writer
 from .tokens import Fault, Tokens
-from .types import Definition, Member, Module, Type, module_of, type_of
+from .types import Definition, Foreign, Member, Module, Type, module_of, type_of
 
 BEGIN, END = "// allocative: begin", "// allocative: end"
-CODE = set("Allocative And Declared Described Field Inside Or Part Record Refusal Visitor Whole".split())
+CODE = set("Allocative And Declared Described Field Inside Or Part Record Refusal Unique Visitor Whole".split())
 RESERVED = CODE | {"Option", "Result", "Box", "String"}
 BY_HAND = 'write it by hand: "A type that holds itself" in docs/IMPLEMENTING.md'
 TACTIC = "[tactic(auto, using(allocative::proofs::Parts::parts))]\n"
@@ -24,7 +27,7 @@ IMPLEMENTED = re.compile(r"\bimpl\b[^{;]*?\b(Allocative|Described|Tallied)\s+for
 OUTWARD = re.compile(r"(?<![\w:])(self|super)::(\w+)")
 LETTER = re.compile(r"[^\n]")
 LINE = re.compile(r"[^\n]*")
-PRELUDE = {"codes", "true", "◌&&◌"}
+PRELUDE = {"codes", "length", "true", "◌&&◌"}
 DECLARED = re.compile(r"\b(?:struct|enum)\s+(\w+)")
 
 
@@ -51,15 +54,37 @@ class Crate:
         """The traits that are implemented, each with the type."""
         return {found for text in self.files.values() for found in IMPLEMENTED.findall(text)}
 
+    @cached_property
+    def types(self) -> dict[str, Definition]:
+        """The types that the files declare. A file that cannot be read is left out."""
+        found: dict[str, Definition] = {}
+        for text in self.files.values():
+            with contextlib.suppress(Fault):
+                found |= module_of(Tokens(text)).types
+        return found
+
+    def reached(self, name: str) -> set[str]:
+        """The types of the crate that a type of it names, at any depth."""
+        found: set[str] = set()
+        waiting = [name]
+        while waiting:
+            definition = self.types.get(waiting.pop())
+            kinds = {kind.name for member in definition.members for kind in member.type.all()} if definition else set()
+            waiting += (kinds & self.types.keys()) - found
+            found |= kinds & self.types.keys()
+        return found
+
+    def implements(self, name: str, traits: tuple[str, ...]) -> bool:
+        """Whether some traits are implemented for a type."""
+        return {(trait, name) for trait in traits} <= self.implemented
+
     def reason(self, path: tuple[str, ...], traits: tuple[str, ...] = ("Allocative", "Described")) -> str:
         """Why a type of another file cannot be shown, or nothing: it lacks some traits."""
         root, name = path[0], path[-1]
         if root not in ("crate", "super", "self"):
-            folder = os.path.join(os.path.dirname(self.folder), root)
-            if not os.path.isdir(os.path.join(folder, "src")):
-                return f"`{name}` of `{root}` has no implementation"
-            return self.others.setdefault(root, Crate(folder)).reason(("crate", name), traits)
-        if {(trait, name) for trait in traits} <= self.implemented:
+            other = self.others.setdefault(root, Crate(os.path.join(os.path.dirname(self.folder), root)))
+            return "" if other.implements(name, traits) else f"`{name}` of `{root}` has no implementation"
+        if self.implements(name, traits):
             return ""
         where = next((path for path, text in self.files.items() if name in DECLARED.findall(text)), "")
         what = f"of {where} has no implementation yet: write that one first" if where else "is not found"
@@ -95,6 +120,8 @@ class Source:
         self.counting = Counting(self.scope, {})
         self.passed_over: list[int | None] = []
         self.uncounted: list[str] = []
+        # The names of the parts of foreign types.
+        self.parts: dict[Foreign, str] = {}
         self.wanted = {each.name: self.judged(each) for each in wanted}
         self.module.types.update(self.wanted)
         self.layouts = {name: self.free(name, "Layout") for name in self.wanted}
@@ -158,10 +185,12 @@ class Source:
         if refusal:
             self.fault(member.at, f"{where}: {refusal}")
             return member
+        if member.is_whole:
+            member = member._replace(foreign=foreign.of(self.scope, member.type))
         reason = self.scope.reason(member.type, types) if member.is_whole else ""
         counted = self.counting.member(member._replace(size=None), types)
         is_passed = member.is_skipped or bool(reason and self.chosen.skip_unknown)
-        advice = size_advice(member, counted)
+        advice = self.advice(member, counted)
         if is_passed and (counted is not None or self.chosen.skip_unknown):
             self.passed_over += [each.size for each in counted or ()]
             if counted is None:
@@ -170,8 +199,28 @@ class Source:
             self.notes[definition.name] = self.notes.get(definition.name, "") + note
             return member._replace(is_skipped=True)
         if reason or is_passed:
-            self.fault(member.at, f"{where}: {reason or 'its size is not known'}: {advice}")
+            what = f"{reason or 'its size is not known'}: {advice}"
+            self.fault(member.at, f"{where}: {self.ring(definition.name, member.type) or what}")
         return member
+
+    def ring(self, name: str, kind: Type) -> str:
+        """Why a type cannot be shown that holds one of another file which holds the first in turn, or nothing."""
+        for part in self.scope.real(kind).all():
+            path = self.scope.path(part)[:1] if part.path and not self.scope.own(part) else ()
+            if path in (("crate",), ("super",)) and name in self.crate.reached(part.name):
+                return f"`{part.name}` of another file holds `{name}` in turn: put types that hold each other into one file"
+        return ""
+
+    def advice(self, member: Member, counted: list[Counted] | None) -> str:
+        """What to do about a field that cannot be shown."""
+        size = size_advice(member, counted)
+        for kind in self.scope.real(member.type).all():
+            path, known = self.scope.path(kind) if kind.path else (), foreign.of(self.scope, kind)
+            if known:
+                return f"put the `{known.name}` into a struct of your own, or {size}"
+            if path[:1] == ("std",) and path[-1] in ("Rc", "Arc") and kind.parts and not is_unsized(kind.parts[0]):
+                return f"write `Id{path[-1]}<{kind.parts[0].text}>` of `allocative`, or {size}"
+        return size
 
     def passed_line(self) -> str:
         """How many fields are passed over, and their bytes."""
@@ -196,6 +245,8 @@ class Source:
         elif len(cycle) > 1 and (not definition.cycle or len({each.cycle for each in cycle}) > 1):
             names = ", ".join(each.name for each in cycle)
             what = f"{names} hold each other: write `#[cycle(NAME)]` above each of them, with one name"
+        elif len(cycle) > 1 and definition.is_enum and len(definition.variants) == 1:
+            what = "the checker proves no enum of one variant among types that hold each other: make it a struct"
         if what:
             raise Fault(definition.at, what)
 
@@ -260,7 +311,7 @@ class Source:
         used = {"shows"}.union(*(each.used for each in found)) - mine.ghost_uses
         used -= {name for name, path in mine.uses.items() if path[0] in ("allocative", "allocative_tally")}
         words = {"std.specs.Prelude": PRELUDE, "allocative.specs.Shows": {"shows"}, "allocative.specs.Levels": LEVELS}
-        words["allocative_tally.specs.Shapes"] = SHAPES
+        words |= foreign.MODULES | {"allocative_tally.specs.Shapes": SHAPES}
         lists = [(f"Rattle.{path}", used & names) for path, names in words.items()]
         opened = sorted({word.removeprefix("out-").removesuffix("-F") for word in used if "-" in word})
         lists += [(f"{self.declared_at}.{name}", used & {f"out-{name}", f"{name}-F"}) for name in opened]

@@ -8,7 +8,7 @@ from typing import TYPE_CHECKING, Any, Callable, Iterator
 
 from .counted import Counting
 from .tokens import Fault
-from .types import Definition, Member, Type, Variant, split, type_of
+from .types import Definition, Foreign, Member, Type, Variant, split, type_of
 
 if TYPE_CHECKING:
     from .source import Source
@@ -135,8 +135,11 @@ class Writer:
             self.refuse_large()
         self.variant_records = dict(source.variant_layouts.get(self.name, {}))
         self.counted: set[str] = set()
+        # The parts that stand before the implementations.
+        self.before = ""
         alias, described = self.aliases(), "" if self.is_borrowed else self.described()
-        self.text = alias + described + (self.enumeration() if definition.is_enum else self.struct())
+        text = self.enumeration() if definition.is_enum else self.struct()
+        self.text = self.before + alias + described + text
 
     def add(self, tally: Tally) -> None:
         """Writes the tally of the type behind its implementations."""
@@ -280,11 +283,13 @@ class Writer:
     def word(self, member: Member, key: str, value: str) -> str:
         """What a field shows: in a type that shows levels, as a level."""
         kind = member.type.text
-        if member.size is None and self.holds_cycle(member.type):
+        if member.is_whole and self.holds_cycle(member.type):
             return f'field (codes "{key}") {self.size_in(member.type)} ({self.level(member, member.type, value)})'
         text = f'shows.Field (codes "{key}") {size_of(kind)} (⟦<{kind} as Allocative>⟧.may_show {value})'
         if member.size is not None:
             text = f'shows.Inside (codes "{key}") {member.size} shows.Nothing'
+        elif member.foreign:
+            text = f'shows.Inside (codes "{key}") {member.foreign.size} ({member.foreign.word(value)})'
         return f"plain ({text})" if self.cycle else text
 
     def words(self, members: list[Member], value: str) -> list[str]:
@@ -293,7 +298,7 @@ class Writer:
 
     def flags_of(self, member: Member) -> set[str]:
         """The flags on which it depends whether the entry of a field is strict."""
-        found = self.scope.flags(member.type, self.types) if member.size is None else set()
+        found = self.scope.flags(member.type, self.types) if member.is_whole else set()
         return {each for each in found if not set(self.cycle) & set(NAME.findall(each))}
 
     def is_strict(self) -> str:
@@ -302,7 +307,7 @@ class Writer:
         if flags and self.cycle:
             return ""
         if flags and not self.definition.is_enum:
-            kinds = [member.type.text if member.size is None else "" for member in self.members]
+            kinds = [member.type.text if member.is_whole else "" for member in self.members]
             flags = [f"⟦<{kind} as Allocative>⟧.is_strict" if kind else "true" for kind in kinds]
         text = joined([*flags], lambda parts: f"({' && ('.join(parts)}{')' * len(parts)}")[1:-1] if flags else "true"
         self.used |= {word for word in ("true", "◌&&◌") if word.strip("◌") in text}
@@ -352,10 +357,22 @@ class Writer:
         word, arguments = "Field", [f'"{key}"', value]
         if member.size is not None:
             word, arguments = "Inside", [f'"{key}"', str(member.size), "()"]
+        elif member.foreign:
+            word, arguments = "Inside", [f'"{key}"', str(member.foreign.size), self.foreign(member.foreign, value)]
         elif self.source.counts(kind) and not any(holds(kind, each) for each in self.types):
             word = "CountedField"
         self.used.add(word)
         return called(f"let {name} = ", word, arguments, ";", indent)
+
+    def foreign(self, known: Foreign, value: str) -> str:
+        """The part of a foreign value. Its type gets one in the text if it has a buffer."""
+        if not known.length:
+            return f'Inside("{known.name}", {known.size}, ())'
+        if known not in self.source.parts:
+            self.source.parts[known] = self.source.free("Shown", known.name)
+            self.before += known.part(self.source.parts[known], self.source.tactic)
+            self.used |= {"Inside", "Unique", "true", *NAME.findall(known.length)}
+        return f"{self.source.parts[known]}({value})"
 
     def enter(self, parts: list[str], names: list[str], indent: str) -> str:
         """The lines that make the parts and enter them under the type's own entry."""
@@ -548,9 +565,9 @@ def pattern_of(variant: Variant, names: list[str]) -> str:
     """What stands behind a variant's name in a pattern."""
     pairs = list(zip(variant.members, names))
     if variant.bracket != "{":
-        inside = ", ".join(name if each.is_whole else "_" for each, name in pairs)
+        inside = ", ".join(name if each.is_read else "_" for each, name in pairs)
         return f"({inside})" if variant.bracket else ""
-    fields = [name if each.name == name else f"{each.name}: {name}" for each, name in pairs if each.is_whole]
+    fields = [name if each.name == name else f"{each.name}: {name}" for each, name in pairs if each.is_read]
     fields += [".."] if len(fields) < len(pairs) else []
     line = ", ".join(fields)
     if len(line) <= 18:

@@ -82,19 +82,69 @@ def type_of(text: str) -> Type:
     return Type("path", found[1] + arguments, tuple(found[1].strip(":").split("::")), parts)
 
 
+class Foreign(NamedTuple):
+    """How a type is shown: its name, and its declared bytes and alignment.
+
+    `counts` is a described type of that size, alignment and drop. A type with a buffer also has its path, the length of a
+    value in clauses, the module of a word in that, and the call that gives it in code.
+    """
+
+    name: str
+    counts: str
+    size: int
+    align: int
+    path: str = ""
+    length: str = ""
+    module: str = ""
+    call: str = ""
+
+    def word(self, value: str) -> str:
+        """What a value shows: an entry of the type's name."""
+        inside = "shows.Nothing"
+        if self.length:
+            inside = f'(shows.Inside (codes "u8") ({self.length.format(value)}) shows.Nothing)'
+            inside = f'(shows.Unique (codes "ptr") 8 {inside})'
+        return f'shows.Inside (codes "{self.name}") {self.size} {inside}'
+
+    def part(self, name: str, tactic: str) -> str:
+        """The part of a name that shows a value with a buffer."""
+        return f"""/// A `{self.name}` as it is shown: its size, and the bytes of its buffer.
+#[derive(Drop)]
+struct {name}<'a>(&'a {self.path});
+
+{tactic}impl<'a> Part for {name}<'a> {{
+    ghost may_show = {{ λ x. {self.word("x.0.now")} }};
+
+    ghost is_strict = {{ true }};
+
+    fn enter(self, visitor: &mut Visitor<'_>) -> Result<(), Refusal> {{
+        let bytes = Inside("u8", self.0.{self.call}, ());
+        Inside("{self.name}", {self.size}, Unique("ptr", 8, bytes)).enter(visitor)
+    }}
+}}
+
+"""
+
+
 class Member(NamedTuple):
-    """A field: its name or number, type and offset; whether it is passed over or shown by its size alone."""
+    """A field: its name or number, type and offset; whether it is passed over, shown by its size alone, or foreign."""
 
     name: str
     type: Type
     at: int
     is_skipped: bool = False
     size: int | None = None
+    foreign: Foreign | None = None
 
     @property
     def is_whole(self) -> bool:
-        """Whether the value itself is shown."""
-        return not self.is_skipped and self.size is None
+        """Whether the value is shown as its type says."""
+        return not self.is_skipped and self.size is None and self.foreign is None
+
+    @property
+    def is_read(self) -> bool:
+        """Whether what is shown depends on the value."""
+        return self.is_whole or bool(self.foreign and self.foreign.length)
 
 
 class Parameter(NamedTuple):

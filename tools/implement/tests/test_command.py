@@ -163,7 +163,7 @@ class CommandTest(unittest.TestCase):
         status, output, told = self.run_it(text)
         self.assertEqual((status, output), (4, ""))
         self.assertEqual([line.split(":")[0] for line in told], ["3", "4", "5", "7", "11", "14"])
-        self.assertIn("A.a: `Rc` of `std` has no implementation: write above it `// allocative: size 8`", told[1])
+        self.assertIn("A.a: `Rc` of `std` has no implementation: write `IdRc<u8>` of `allocative`, or write above it `// allocative: size 8`", told[1])
         self.assertIn("size 4`", told[2])
         self.assertIn("B::C.0", told[4])
         self.assertIn("B::D.0: its size is not known: write above it `// allocative: size N`, where N is what `size_of::<Option<Condvar>>()`", told[5])
@@ -191,12 +191,12 @@ class CommandTest(unittest.TestCase):
             ("std::sync::RwLock<SocketAddrV4>", 16),
             ("std::sync::RwLock<HashMap<Rc<str>, u64>>", 64),
             ("std::sync::OnceLock<File>", 8),
-            ("std::cell::RefCell<Option<PathBuf>>", 32),
+            ("std::cell::RefCell<PathBuf>", 32),
             ("std::cell::RefCell<(u8, File, u8)>", 16),
             ("std::cell::RefCell<Rc<str>>", 24),
             ("std::cell::Cell<SocketAddr>", 32),
             ("File", 4),
-            ("SocketAddr", 32),
+            ("std::sync::Mutex<SocketAddr>", 40),
             ("&'static str", 16),
             ("parking_lot::Mutex<u16>", 4),
         ):
@@ -236,6 +236,52 @@ class CommandTest(unittest.TestCase):
         self.assertIn("`Point` of src/b.rt has no implementation yet", self.run_it(text)[2][0])
         self.put("src/b/shown.rt", "impl Described for Point {}\nimpl Allocative for Point {}\n")
         self.assertEqual(self.run_it(text)[0], 0)
+        self.put("src/c.rt", "use crate::a::A;\nstruct C(Option<Box<A>>);\nstruct D(Vec<C>);\n")
+        told = self.run_it("use crate::c::{C, D};\n#[derive(Drop)]\nstruct A(C, Vec<D>);\n")[2]
+        self.assertIn("A.0: `C` of another file holds `A` in turn: put types that hold each other into one file", told[0])
+        self.assertIn("A.1: `D` of another file holds `A` in turn", told[1])
+        self.put("../other/src/lib.rt", POINT)
+        text = text.replace("crate::b", "other")
+        self.assertIn("A.a: `Point` of `other` has no implementation: write above it", self.run_it(text)[2][0])
+        self.put("../other/src/shown.rt", "impl Described for Point {}\nimpl Allocative for Point {}\n")
+        self.assertEqual(self.run_it(text)[0], 0)
+
+    def test_types_of_other_crates(self) -> None:
+        """A size, or a size and a length, without a comment above the field."""
+        head = "use bytes::{Bytes, BytesMut};\nuse jiff::{Timestamp, civil::Date as Day};\nuse std::ops::{Range, RangeInclusive};\nuse std::path::PathBuf;\nuse url::Url;\nuse uuid::Uuid;\n"
+        for kind, size, counted, shown in (
+            ("Uuid", 16, "[u8; 16]", 'shows.Inside (codes "Uuid") 16 shows.Nothing'),
+            ("jiff::Zoned<'static>", 40, "[Box<()>; 5]", 'shows.Inside (codes "Zoned") 40 shows.Nothing'),
+            ("Option<Timestamp>", 24, "Option<[u64; 2]>", 'shows.Inside (codes "Option") 24 shows.Nothing'),
+            ("Option<Uuid>", 17, "Option<[u8; 16]>", 'shows.Inside (codes "Option") 17 shows.Nothing'),
+            ("Day", 4, "[u16; 2]", 'shows.Inside (codes "Date") 4 shows.Nothing'),
+            ("std::net::SocketAddrV4", 6, "[u16; 3]", 'shows.Inside (codes "SocketAddrV4") 6 shows.Nothing'),
+            ("Range<u32>", 8, "[u32; 2]", 'shows.Inside (codes "Range") 8 shows.Nothing'),
+            ("RangeInclusive<u64>", 24, "(u64, u64, bool)", 'shows.Inside (codes "RangeInclusive") 24 shows.Nothing'),
+            ("Url", 88, "[Box<()>; 11]", '(shows.Inside (codes "u8") (length (serialize x.a)) shows.Nothing)'),
+            ("PathBuf", 24, "[Box<()>; 3]", '(shows.Inside (codes "u8") (length (path_buf_bytes x.a)) shows.Nothing)'),
+            ("Bytes", 32, "[Box<()>; 4]", '(shows.Inside (codes "u8") (length x.a) shows.Nothing)'),
+            ("BytesMut", 32, "[Box<()>; 4]", '(shows.Inside (codes "u8") (length x.a.items) shows.Nothing)'),
+        ):
+            with self.subTest(kind):
+                status, output, told = self.run_it(f"{head}#[derive(Drop)]\nstruct A {{\n    a: {kind},\n}}\n")
+                self.assertEqual((status, told), (0, []))
+                self.assertIn(f"type ALayout = Record<({counted}, ())>;", output)
+                self.assertIn(shown, output)
+                self.assertIn(f'let a = Inside("a", {size}, ', output)
+        steps = "#[derive(Drop)]\nenum Step {\n    Fetch(Url, Uuid),\n    Again { url: Url, id: Uuid },\n}\n#[derive(Drop)]\nstruct ShownUrl(Url);\n"
+        _, output, _ = self.run_it(head + steps)
+        self.assertEqual(output.count("struct ShownUrlOf<'a>(&'a url::Url);"), 1)
+        for line in ("Step::Fetch(a, _) => {", 'let a = Inside("0", 88, ShownUrlOf(a));', "Step::Again { url, .. } => {", 'ShownUrlOf(&self.0)'):
+            self.assertIn(line, output)
+        for kind, what in (
+            ("Vec<Uuid>", "`Uuid` of `uuid` has no implementation: put the `Uuid` into a struct of your own, or write above it"),
+            ("Option<Url>", "put the `Url` into a struct of your own, or write above it `// allocative: size 96`"),
+            ("std::sync::Arc<u8>", "write `IdArc<u8>` of `allocative`, or write above it `// allocative: size 8`"),
+            ("std::sync::Arc<str>", "`Arc` of `std` has no implementation: write above it `// allocative: size 16`"),
+        ):
+            told = self.run_it(f"{head}#[derive(Drop)]\nstruct A {{\n    a: {kind},\n}}\n")[2]
+            self.assertIn(what, told[0])
 
     def test_layouts_of_enums(self) -> None:
         for variants, fields in (
@@ -260,6 +306,8 @@ class CommandTest(unittest.TestCase):
         both = "#[cycle(m)]\n" + two.replace("a: Vec<A>,", "a: Vec<A>,\n    b: Vec<B>,\n    c: Box<C>,").replace("}\n#", "}\n#[cycle(m)]\n#")
         self.assertIn("A, B, C hold each other: write `#[cycle(NAME)]`", self.run_it(both + three)[2][0])
         self.assertEqual(self.run_it(f"{both}#[cycle(n)]\n{three}")[0], 4)
+        alone = three.replace("    D,\n", "")
+        self.assertIn("C: the checker proves no enum of one variant among", self.run_it(f"{both}#[cycle(m)]\n{alone}")[2][0])
         self.run_it(f"{both}#[cycle(m)]\n{three}", "--output", self.crate)
         output = self.get("src/a/shown.rt")
         self.assertEqual(output.count("vec_in ⟦<BLayout as Described>⟧.size (λ y. child (second (first y))) (out-B x).b"), 3)

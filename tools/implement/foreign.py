@@ -1,0 +1,61 @@
+"""Types without implementations that services hold: a field of one is shown by its size, or by that and its length."""
+
+from __future__ import annotations
+
+from .known import NUMBERS, Scope
+from .types import Foreign, Type
+
+
+def plain(name: str, counts: str, size: int, align: int) -> Foreign:
+    return Foreign(name, counts, size, align)
+
+
+def buffer(path: str, size: int, length: str, call: str, module: str = "") -> Foreign:
+    """A type with a buffer, which counts as boxes of its size."""
+    return Foreign(path.rpartition("::")[2], f"[Box<()>; {size // 8}]", size, 8, path, length, module, call)
+
+
+# The types by their crates. The sizes are those of Rust on x86-64.
+KNOWN = {
+    ("uuid", "Uuid"): plain("Uuid", "[u8; 16]", 16, 1),
+    ("jiff", "Timestamp"): plain("Timestamp", "[u64; 2]", 16, 8),
+    ("jiff", "SignedDuration"): plain("SignedDuration", "[u64; 2]", 16, 8),
+    ("jiff", "Zoned"): plain("Zoned", "[Box<()>; 5]", 40, 8),
+    ("jiff", "Span"): plain("Span", "[u64; 8]", 64, 8),
+    ("jiff", "Date"): plain("Date", "[u16; 2]", 4, 2),
+    ("jiff", "Time"): plain("Time", "[u32; 2]", 8, 4),
+    ("jiff", "DateTime"): plain("DateTime", "[u32; 3]", 12, 4),
+    ("std", "SocketAddr"): plain("SocketAddr", "[u32; 8]", 32, 4),
+    ("std", "SocketAddrV4"): plain("SocketAddrV4", "[u16; 3]", 6, 2),
+    ("std", "SocketAddrV6"): plain("SocketAddrV6", "[u32; 7]", 28, 4),
+    ("url", "Url"): buffer("url::Url", 88, "length (serialize {})", "as_str().len()", "url.specs.Parts"),
+    ("bytes", "Bytes"): buffer("bytes::Bytes", 32, "length {}", "len()"),
+    ("bytes", "BytesMut"): buffer("bytes::BytesMut", 32, "length {}.items", "len()"),
+    ("std", "PathBuf"): buffer(
+        "std::path::PathBuf", 24, "length (path_buf_bytes {})", "as_str().len()", "std.specs.Path"
+    ),
+}
+# The modules of words of clauses.
+MODULES = {known.module: {known.length.split("(")[1].split()[0]} for known in KNOWN.values() if known.module}
+
+
+def of(scope: Scope, kind: Type) -> Foreign | None:
+    """How a field of a type is shown, if the type is one of those here, a range of numbers, or an option of one without a buffer."""
+    kind = scope.real(kind)
+    path = scope.path(kind) if kind.path else ()
+    if not path or scope.own(kind):
+        return None
+    homes = path[:1] if len(path) > 1 else [each[0] for each in scope.module.globs]
+    known = [KNOWN[home, path[-1]] for home in homes if (home, path[-1]) in KNOWN]
+    if known or len(kind.parts) != 1:
+        return known[0] if known else None
+    part = kind.parts[0]
+    size = NUMBERS.get(part.name, 0) if part.text == part.name else 0
+    if path == ("std", "ops", "Range") and size:
+        return plain("Range", f"[{part.name}; 2]", 2 * size, size)
+    if path == ("std", "ops", "RangeInclusive") and size:
+        return plain("RangeInclusive", f"({part.name}, {part.name}, bool)", 3 * size, size)
+    held = of(scope, part) if path == ("Option",) else None
+    if held is None or held.length:
+        return None
+    return plain("Option", f"Option<{held.counts}>", (held.size // held.align + 1) * held.align, held.align)
