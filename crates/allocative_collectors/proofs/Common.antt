@@ -15,7 +15,7 @@ pub use Rattle.allocative_collectors.specs.Finishing.{size_at_place}
 pub use Rattle.allocative_collectors.specs.Listed.{IsEntered, Listed, Sum, put, map_of, path_at, root_sum, row, sum_at}
 pub use Rattle.allocative_collectors.specs.Nodes.{IsTree, shape, sums_of}
 pub use Rattle.allocative_collectors.specs.Places.{IsPlaced, live}
-pub use Rattle.allocative_collectors.specs.Shapes.{HasKey, IsArena, IsBetween, IsChild, IsKeyGap, KeysRise, Shape, StandsIn, at}
+pub use Rattle.allocative_collectors.specs.Shapes.{HasKey, IsArena, IsChild, IsKeyGap, KeysRise, Shape, StandsIn, at}
 pub use Rattle.allocative_collectors.specs.Shapes.{bytes_at, children_at, key_at, key_in, keys_at, keys_of, leaf}
 pub use Rattle.allocative_collectors.specs.Shapes.{no_shape, parent_at, sums}
 pub use Rattle.allocative_collectors.specs.Warned.{is_std_data, is_std_entry, warning_of, warning_lines}

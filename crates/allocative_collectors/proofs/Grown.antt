@@ -9,7 +9,7 @@ use Rattle.std.proofs.lemmas.List.Elements.{All-append, All-cons, All-drop, All-
 use Rattle.std.proofs.lemmas.List.{length-map, get_or_append_left, get_or_push, length_push}
 use Rattle.std.proofs.lemmas.List.Edits.{length-insert, get_or-insert_below, get_or-insert_at}
 use Rattle.std.proofs.lemmas.Bool.{cases_order, cases_eq}
-use Rattle.allocative_collectors.proofs.Keys.{map_same, map_insert, insert_above, stands_insert, pushed}
+use Rattle.allocative_collectors.proofs.Keys.{map_same, keys_of-insert, insert_above, stands_insert, pushed}
 use Rattle.allocative_collectors.proofs.Keys.{key_total}
 
 -- the nodes with a new one under p, whose key is k
@@ -73,7 +73,7 @@ module _ (ns : List Shape) {cs : List (List ℕ)} (ok : IsArena ns cs) (p : ℕ)
       (λ j h. ap (λ (n : Shape). n.key) (before (get_or (children_at cs q) j 0) (ok.children q j 0 h).in_range))
 
   keys_parent : keys_of new (insert (children_at cs p) g (length ns)) ≡ insert (keys_at ns cs p) g k
-  keys_parent = map_insert (key_at new) (children_at cs p) g (length ns)
+  keys_parent = keys_of-insert new (children_at cs p) g (length ns)
       ∙ (λ i. insert (keys_stood p i) g (ap (λ (n : Shape). n.key) at_leaf i))
 
   -- what holds of the new children of p and of the others as they were

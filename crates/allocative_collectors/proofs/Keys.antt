@@ -1,15 +1,15 @@
 -- Keys are in a total order, in which only equal ones tie; tests and equations of paths; the keys of numbered nodes.
 use Rattle.std.proofs.Common.{◌≡◌, true, false, ◌&&◌, refl, sym, subst, ℕ, zero, suc, set, inl, inr, ◌+◌, ◌-◌, ◌<◌, ◌≤◌}
-use Rattle.std.proofs.Common.{List, [], ◌∷◌, ◌++◌, length, map, get_or, drop, take, ◌∙◌, arith, ap}
+use Rattle.std.proofs.Common.{List, [], ◌∷◌, ◌++◌, length, map, get_or, drop, take, ◌∙◌, arith}
 use Rattle.allocative_collectors.proofs.Common.{Ordering, Less, Equal, Greater, is_eq, ordering_then, Key, Path}
-use Rattle.allocative_collectors.proofs.Common.{key_cmp, is_same_path, Shape, at, children_at, StandsIn}
+use Rattle.allocative_collectors.proofs.Common.{key_cmp, is_same_path, Shape, at, children_at, key_at, keys_of, StandsIn}
 use Rattle.std.specs.Cmp.{IsTotalOrder}
 use Rattle.std.specs.FinMap.{nat_cmp-IsAntisymmetric, slice_cmp-IsAntisymmetric}
 use Rattle.std.proofs.lemmas.Cmp.{nat_cmp_total, lists_total, tied_itself}
 use Rattle.std.proofs.lemmas.Bool.{false_from_ne_true, cases_lt}
 use Rattle.allocative_graph.proofs.Basics.{same_path, same_path_itself}
 use Rattle.std.specs.List.{insert}
-use Rattle.std.proofs.lemmas.List.{map-append, take-map, drop-map, map-set, get_or-map, set-get_or}
+use Rattle.std.proofs.lemmas.List.{map-append, take-map, drop-map}
 use Rattle.std.proofs.lemmas.List.Edits.{length-insert, get_or-insert_below, get_or-insert_above}
 
 -- The order of keys is total.
@@ -47,17 +47,11 @@ pub map_same : {X : Type 0} (f g : ℕ → X) (xs : List ℕ) →
 map_same f g [] same = refl
 map_same f g (x ∷ xs) same = λ i. same 0 (omega arith) i ∷ map_same f g xs (λ j h. same (suc j) (omega arith)) i
 
--- If an item is put at place g, its image is put at place g of the images.
-pub map_insert : {X Y : Type 0} (f : X → Y) (xs : List X) (g : ℕ) (x : X) →
-    map f (insert xs g x) ≡ insert (map f xs) g (f x)
-map_insert f xs g x = map-append f (take g xs) (x ∷ drop g xs)
-    ∙ (λ j. sym (take-map f g xs) j ++ f x ∷ sym (drop-map f g xs) j)
-
--- If an item is replaced by one with the same image, the images are unchanged.
-pub same_images : {X Y : Type 0} (f : X → Y) (e : Y) (xs : List X) (i : ℕ) (x y : X) → i < length xs →
-    x ≡ get_or xs i x → f y ≡ f x → map f (set xs i y) ≡ map f xs
-same_images f e xs i x y h read same = map-set f xs i y
-    ∙ (ap (set (map f xs) i) (same ∙ (ap f read ∙ sym (get_or-map f xs i x e h))) ∙ set-get_or (map f xs) i e)
+-- If the number of a node is put at place g, the node's key is put at place g of the keys.
+pub keys_of-insert : (ns : List Shape) (xs : List ℕ) (g i : ℕ) →
+    keys_of ns (insert xs g i) ≡ insert (keys_of ns xs) g (key_at ns i)
+keys_of-insert ns xs g i = map-append (key_at ns) (take g xs) (i ∷ drop g xs)
+    ∙ (λ j. sym (take-map (key_at ns) g xs) j ++ key_at ns i ∷ sym (drop-map (key_at ns) g xs) j)
 
 -- an item after place g, where x was put
 pub insert_above : {X : Type 0} (xs : List X) (g : ℕ) (x d : X) → g ≤ length xs → (j : ℕ) → g < j →

@@ -4,8 +4,8 @@ pub mod Labels
 pub mod Grown
 pub mod Raised
 pub mod Child
-pub mod Parts
 pub mod Searched
+pub mod Chunks
 pub mod NodeReads
 pub mod Made
 pub mod Collect

@@ -32,7 +32,7 @@ use Rattle.allocative_graph.proofs.Graphs.{total-under, total-add_at}
 use Rattle.std.specs.Option.{is_some}
 use Rattle.allocative_collectors.specs.Chunked.{numbers}
 use Rattle.allocative_collectors.specs.declared.children.Children.{Children}
-use Rattle.allocative_collectors.specs.declared.node.Node as nodes
+use Rattle.allocative_collectors.specs.declared.tree.Node as nodes
 use Rattle.allocative_collectors.proofs.Entries.{IsListing, graph_hit, graph_none, get_at, get_none, nothing_left}
 use Rattle.allocative_collectors.proofs.Labels.{length_sums, step}
 use Rattle.allocative_collectors.proofs.Child.{on_way}

@@ -14,12 +14,12 @@ use Rattle.std.proofs.lemmas.Bool.{cases_eq, cond-true, cond-false}
 use Rattle.allocative_collectors.proofs.Entries.{IsListing, below_listed, not_below_root}
 use Rattle.allocative_collectors.proofs.Labels.{length_sums, figures-grow, root_at, step, distinct, raise_shape}
 use Rattle.std.specs.List.{insert}
-use Rattle.std.proofs.lemmas.List.{get_or-map, length-map, map-set, map_push}
+use Rattle.std.proofs.lemmas.List.{get_or-map, length-map, map-set, map_push, set-get_or}
 use Rattle.allocative_collectors.specs.declared.children.Children.{Children}
-use Rattle.allocative_collectors.specs.declared.node.Node.{Node}
+use Rattle.allocative_collectors.specs.declared.tree.Node.{Node}
 use Rattle.allocative_collectors.specs.Chunked.{numbers}
 use Rattle.allocative_collectors.specs.Listed.{total}
-use Rattle.allocative_collectors.proofs.Keys.{key_not_before, key_total, same_images, same_path-same, same_path-apart, tied}
+use Rattle.allocative_collectors.proofs.Keys.{key_not_before, key_total, same_path-same, same_path-apart, tied}
 use Rattle.allocative_collectors.proofs.Raised.{raised, bytes_le_total}
 use Rattle.allocative_collectors.proofs.Grown.{grown, with_child}
 
@@ -147,6 +147,12 @@ pub has_key : (ns : List Shape) {cs : List (List ℕ)} → IsArena ns cs → (i 
 has_key ns ok zero h = ap (λ (p : Path). not (is_root p)) (root_at ns)
 has_key ns ok (suc j) h = ap (λ (p : Path). not (is_root p)) (step ns ok (suc j) (omega arith) h)
     ∙ (ap not (is_root-push _ (key_at ns (suc j))) ∙ sym (lt-ltb 0 (suc j) (omega arith)))
+
+-- If an item is replaced by one with the same image, the images are unchanged.
+same_images : {X Y : Type 0} (f : X → Y) (e : Y) (xs : List X) (i : ℕ) (x y : X) → i < length xs → x ≡ get_or xs i x →
+    f y ≡ f x → map f (set xs i y) ≡ map f xs
+same_images f e xs i x y h read same = map-set f xs i y
+    ∙ (ap (set (map f xs) i) (same ∙ (ap f read ∙ sym (get_or-map f xs i x e h))) ∙ set-get_or (map f xs) i e)
 
 module _ (items : List Node) where
   pub length_nodes : length (sums_of items) ≡ length items

@@ -1,7 +1,7 @@
 -- The nodes of a tree, as shapes, and the numbers of their children.
 use Rattle.std.specs.Prelude.{◌≡◌, List, length, map}
 use Rattle.allocative_collectors.specs.declared.children.Children.{Children}
-use Rattle.allocative_collectors.specs.declared.node.Node.{Node}
+use Rattle.allocative_collectors.specs.declared.tree.Node.{Node}
 use Rattle.allocative_collectors.specs.Chunked.{numbers}
 use Rattle.allocative_collectors.specs.Listed.{Listed}
 use Rattle.allocative_collectors.specs.Shapes.{Shape, sums, IsArena}

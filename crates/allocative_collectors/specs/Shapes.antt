@@ -1,5 +1,5 @@
 -- An arena of nodes, as plain values.
-use Rattle.std.specs.Prelude.{◌≡◌, ℕ, ◌+◌, ◌-◌, ◌^◌, ◌<◌, ◌≤◌, List, [], ◌∷◌, ◌++◌, Bool, false, slice_index, slice_index_or}
+use Rattle.std.specs.Prelude.{◌≡◌, ℕ, ◌-◌, ◌^◌, ◌<◌, ◌≤◌, List, [], ◌∷◌, ◌++◌, Bool, false, slice_index, slice_index_or}
 use Rattle.std.specs.Prelude.{length, map}
 use Rattle.std.specs.List.{All}
 use Rattle.std.specs.declared.cmp.Ordering.TheVariants.{Less, Greater}
@@ -113,9 +113,3 @@ pub record IsKeyGap (ks : List Key) (k : Key) (i : ℕ) : Type 0 where
   pub in_range : i ≤ length ks
   pub smaller_before : (j : ℕ) → j < i → key_cmp (key_in ks j) k ≡ Less
   pub greater_after : (j : ℕ) → i ≤ j → j < length ks → key_cmp (key_in ks j) k ≡ Greater
-
--- Where the numbers xs have a place i, the key k belongs between those of the nodes before and at it.
-pub record IsBetween (ns : List Shape) (xs : List ℕ) (k : Key) (i : ℕ) : Type 0 where
-  pub in_range : i ≤ length xs
-  pub behind : (j : ℕ) → i ≡ j + 1 → key_cmp (key_at ns (slice_index_or xs j 0)) k ≡ Less
-  pub ahead : i < length xs → key_cmp (key_at ns (slice_index_or xs i 0)) k ≡ Greater

@@ -1,23 +1,47 @@
 //! The numbers of a node's children, in an order that the caller keeps.
-ghost use Rattle.std.specs.Prelude.{◌≡◌, ◌≤◌, [], length, IfOk, OnOk, OnErr, IsTrue};
+ghost use Rattle.std.specs.Prelude.{◌≡◌, ◌-◌, ◌<◌, ◌≤◌, [], ◌∷◌, ◌++◌, length, IfOk, IfSome, OnOk, OnErr, IsTrue, slice_index_or, slice_get, Some};
 ghost use Rattle.std.specs.List.{insert};
-ghost use Rattle.allocative_collectors.specs.Chunked.{numbers, IsOneList, IsPlace, flat_place};
+ghost use Rattle.allocative_collectors.specs.Chunked.{numbers, numbers_in, flat, IsOneList, IsPlace, IsPlaceIn, place_in, flat_place};
 
-use crate::chunks::{Chunks, Place};
-use crate::node::Node;
 use std::alloc::{AllocError, Global};
+
+/// How many numbers are one list at most.
+pub(crate) const LONGEST_LIST: usize = 512;
+
+/// How many numbers are one chunk at most. The chunk that a list becomes has more until a number is put in it.
+const LONGEST_CHUNK: usize = 256;
 
 /// Numbers in an order that the caller keeps.
 ///
-/// Most nodes have few children, and up to three numbers need no memory of their own. More are in chunks. These are in a
-/// box, so that the numbers of each node take 16 bytes here.
+/// Most nodes have few children, and up to three numbers need no memory of their own. Up to `LONGEST_LIST` are one list.
+/// More are in chunks, so that a number that is put in the middle moves few others. If memory ran out, a longer list may
+/// have stayed one. Lists and chunks are in boxes, so that the numbers of each node take 16 bytes here.
 #[derive(Drop)]
 pub(crate) enum Children {
     Empty,
     One([u32; 1]),
     Two([u32; 2]),
     Three([u32; 3]),
-    Many(Box<Chunks>),
+    Few(Box<Vec<u32>>),
+    Many(Box<Vec<Chunk>>),
+}
+
+/// Numbers that follow one another. There is at least one.
+#[derive(Drop)]
+pub(crate) struct Chunk {
+    pub(crate) first: u32,
+    pub(crate) rest: Vec<u32>,
+    /// The start of the first number's key. It is a guess, as those of the others are.
+    pub(crate) start: u64,
+    /// The starts of the others' keys, from the first one on, as far as they are known.
+    pub(crate) starts: Vec<u64>,
+}
+
+/// A place among numbers: a chunk, and a place in it. One list counts as one chunk.
+#[derive(Clone, Copy)]
+pub(crate) struct Place {
+    pub(crate) chunk: usize,
+    pub(crate) index: usize,
 }
 
 impl Children {
@@ -37,6 +61,7 @@ impl Children {
             Children::One(list) => list,
             Children::Two(list) => list,
             Children::Three(list) => list,
+            Children::Few(list) => list.as_slice(),
         }
     }
 
@@ -48,18 +73,18 @@ impl Children {
         let Children::Many(chunks) = self else {
             return Ok(self.as_list());
         };
-        for chunk in chunks.list.as_slice() {
-            room.extend_from_slice(chunk.numbers.as_slice())?;
+        for chunk in chunks.as_slice() {
+            room.push(chunk.first)?;
+            room.extend_from_slice(chunk.rest.as_slice())?;
         }
         Ok(room.as_slice())
     }
 
-    /// Puts a number at a place, with its key. The keys of the others are those of their nodes. The only error is that
-    /// memory runs out, and then the numbers are as they were.
+    /// Puts a number at a place, with its key. The only error is that memory runs out, and then the numbers are as they
+    /// were.
     pub(crate) fn insert(
         &mut self,
         alloc: Global,
-        nodes: &[Node],
         place: Place,
         number: u32,
         key: &str,
@@ -73,12 +98,15 @@ impl Children {
             Children::Empty => *self = Children::One([number]),
             Children::One(list) => *self = Children::Two(two(*list, place.index, number)),
             Children::Two(list) => *self = Children::Three(three(*list, place.index, number)),
-            Children::Three(list) => {
-                let mut chunks = Chunks::new(alloc, nodes, list)?;
-                chunks.insert(nodes, place, number, key)?;
-                *self = Children::Many(Box::new(alloc, chunks)?);
-            }
-            Children::Many(chunks) => chunks.insert(nodes, place, number, key)?,
+            Children::Three(list) => *self = Children::Few(four(
+                alloc,
+                *list,
+                place.index,
+                number,
+            )?),
+            Children::Few(list) if place.index == list.len() => list.push(number)?,
+            Children::Few(list) => list.insert(place.index, number)?,
+            Children::Many(chunks) => insert_in(chunks, place, number, start_of(key))?,
         }
         Ok(())
     }
@@ -108,4 +136,195 @@ fn three(list: [u32; 2], index: usize, number: u32) -> [u32; 3]
         1 => [first, number, second],
         _ => [first, second, number],
     }
+}
+
+// Three numbers, and another at an index of at most 3.
+fn four(
+    alloc: Global,
+    list: [u32; 3],
+    index: usize,
+    number: u32,
+) -> Result<Box<Vec<u32>>, AllocError>
+    requires { index ≤ length list }
+    ensures { IfOk result (λ longer. longer.value.items ≡ insert list index number) }
+{
+    let mut longer = Vec::with_capacity(alloc, 8)?;
+    longer.extend_from_slice(&list)?;
+    longer.insert(index, number)?;
+    Ok(Box::new(alloc, longer)?)
+}
+
+impl Chunk {
+    /// The number at an index.
+    pub(crate) fn get(&self, index: usize) -> Option<u32>
+        ensures { IfSome result (λ number. slice_get (numbers_in self.now) index ≡ Some number) }
+    {
+        match index.checked_sub(1) {
+            Some(behind) => self.rest.get(behind).copied(),
+            None => Some(self.first),
+        }
+    }
+
+    /// The last number.
+    fn last(&self) -> u32
+        ensures { result ≡ slice_index_or (numbers_in self.now) (length self.now.rest.items) 0 }
+    {
+        match self.rest.last() {
+            Some(number) => *number,
+            None => self.first,
+        }
+    }
+
+    // Puts a number at a place of the chunk, with the start of its key.
+    fn insert(&mut self, index: usize, number: u32, start: u64) -> Result<(), AllocError>
+        requires { index ≤ length (numbers_in self.old) }
+        ensures ok { OnOk result (numbers_in self.new ≡ insert (numbers_in self.old) index number) }
+        ensures err { OnErr result (numbers_in self.new ≡ numbers_in self.old) }
+    {
+        if index == 0 {
+            self.rest.insert(0, self.first)?;
+            put_start(&mut self.starts, 0, self.start);
+            self.first = number;
+            self.start = start;
+        } else {
+            self.rest.insert(index - 1, number)?;
+            put_start(&mut self.starts, index - 1, start);
+        }
+        Ok(())
+    }
+
+    // Takes the upper half of the numbers away. The only error is that memory runs out, and then the numbers are as they
+    // were; some starts may be forgotten.
+    fn cut(&mut self) -> Result<Chunk, AllocError>
+        requires { 0 < length self.old.rest.items }
+        ensures ok { IfOk result
+            (λ upper. numbers_in self.old ≡ numbers_in self.new ++ numbers_in upper) }
+        ensures err { OnErr result (numbers_in self.new ≡ numbers_in self.old) }
+    {
+        let half = self.rest.len() / 2;
+        let known = self.starts.len().min(half + 1);
+        let starts = self.starts.split_off(known)?;
+        // The last start that is left is that of the upper half's first number.
+        let start = self.starts.pop().unwrap_or(self.start);
+        let mut rest = self.rest.split_off(half)?;
+        let first = rest.remove(0);
+        Ok(Chunk {
+            first,
+            rest,
+            start,
+            starts,
+        })
+    }
+}
+
+/// The last number of the chunks, and the place behind it: in a new chunk, if the last one is full.
+pub(crate) fn last_in(chunks: &[Chunk]) -> Option<(u32, Place)>
+    ensures place { IfSome result (λ end. IsPlaceIn chunks.now end.1) }
+    ensures last { IfSome result
+        (λ end. slice_get (flat chunks.now) (length (flat chunks.now) - 1) ≡ Some end.0) }
+    ensures behind { IfSome result (λ end. place_in chunks.now end.1 ≡ length (flat chunks.now)) }
+{
+    let chunk = chunks.len().checked_sub(1)?;
+    let end = &chunks[chunk];
+    let number = end.last();
+    let index = end.rest.len() + 1;
+    if index < LONGEST_CHUNK {
+        return Some((number, Place { chunk, index }));
+    }
+    let behind = Place {
+        chunk: chunk + 1,
+        index: 0,
+    };
+    Some((number, behind))
+}
+
+/// The first eight bytes of a key as a number, with zeros after a shorter key. Keys whose starts differ have the order
+/// of their starts.
+pub(crate) fn start_of(key: &str) -> u64 {
+    let bytes = key.as_bytes();
+    let mut start: u64 = 0;
+    for index in 0..8 {
+        start = start << 8 | u64::from(bytes.get(index).copied().unwrap_or(0));
+    }
+    start
+}
+
+// Puts the start of a key at an index. If memory runs out, the later ones are forgotten.
+fn put_start(starts: &mut Vec<u64>, index: usize, start: u64) {
+    if index <= starts.len() && starts.insert(index, start).is_err() {
+        starts.truncate(index);
+    }
+}
+
+/// A list as one chunk, with the starts of the keys. The only error is that memory runs out.
+pub(crate) fn one_chunk(
+    alloc: Global,
+    list: &[u32],
+    mut starts: Vec<u64>,
+) -> Result<Vec<Chunk>, AllocError>
+    ensures { IfOk result (λ chunks. flat chunks.items ≡ list.now) }
+{
+    let mut chunks = Vec::with_capacity(alloc, 2)?;
+    if let Some((first, rest)) = list.split_first() {
+        let rest = Vec::from_slice(alloc, rest)?;
+        let start = if starts.is_empty() {
+            0
+        } else {
+            starts.remove(0)
+        };
+        chunks.push(Chunk {
+            first: *first,
+            rest,
+            start,
+            starts,
+        })?;
+    }
+    Ok(chunks)
+}
+
+// Puts a number at a place of the chunks, with the start of its key.
+#[inline(never)]
+fn insert_in(
+    chunks: &mut Vec<Chunk>,
+    place: Place,
+    number: u32,
+    start: u64,
+) -> Result<(), AllocError>
+    requires { IsPlaceIn chunks.old.items place }
+    ensures ok { OnOk result
+        (flat chunks.new.items ≡ insert (flat chunks.old.items) (place_in chunks.old.items place) number) }
+    ensures err { OnErr result (flat chunks.new.items ≡ flat chunks.old.items) }
+{
+    if place.chunk < chunks.len() {
+        let Ok(()) = chunks[place.chunk].insert(place.index, number, start) else {
+            return Err(AllocError);
+        };
+        cut_at(chunks, place.chunk);
+    } else {
+        let rest = Vec::new(*chunks.allocator());
+        let starts = Vec::new(*chunks.allocator());
+        chunks.push(Chunk {
+            first: number,
+            rest,
+            start,
+            starts,
+        })?;
+    }
+    Ok(())
+}
+
+// Cuts a chunk in two if it has more than `LONGEST_CHUNK` numbers. If memory runs out it stays whole.
+fn cut_at(chunks: &mut Vec<Chunk>, at: usize)
+    requires { at < length chunks.old.items }
+    ensures { flat chunks.new.items ≡ flat chunks.old.items }
+{
+    if chunks[at].rest.len() < LONGEST_CHUNK || chunks.reserve(1).is_err() {
+        return;
+    }
+    let Ok(upper) = chunks[at].cut() else {
+        return;
+    };
+    let Ok(()) = chunks.insert(at + 1, upper) else {
+        unreachable!()
+    };
 }

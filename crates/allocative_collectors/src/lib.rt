@@ -6,10 +6,7 @@
 #![tactic(auto)]
 
 mod children;
-mod chunks;
 pub mod graph_collector;
-mod node;
 pub mod output;
-mod search;
 pub mod sum_collector;
 mod tree;

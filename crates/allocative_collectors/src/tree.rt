@@ -1,26 +1,59 @@
 //! The paths that were entered, as an arena of nodes that refer to one another by number.
-ghost use Rattle.std.specs.Prelude.{◌≡◌, ◌+◌, ◌^◌, ◌<◌, ◌≤◌, [], ◌∷◌, ◌++◌, length, map, IfOk, IfErr, IfSome, IfNone, OnOk, OnErr, IsTrue, ◌↔◌, false, sum_by};
+ghost use Rattle.std.specs.Prelude.{◌≡◌, ◌+◌, ◌^◌, ◌<◌, ◌≤◌, [], ◌∷◌, ◌++◌, length, map, IfOk, IfErr, IfSome, IfNone, OnOk, OnErr, IsTrue, ◌↔◌, false, sum_by, ℕ, slice_index_or};
 ghost use Rattle.std.specs.List.{All};
 ghost use Rattle.allocative_graph.specs.Graph.{total as graph_total};
 ghost use Rattle.allocative_graph.specs.Sums.{bytes_entered, below as bytes_below};
-ghost use Rattle.allocative_graph.specs.Path.{texts};
+ghost use Rattle.allocative_graph.specs.Path.{key_cmp, texts};
 ghost use Rattle.allocative_graph.specs.Visits.{IsProfile};
 ghost use Rattle.allocative_collectors.specs.Listed.{root_sum, put, total, path_at, map_of, IsEntered, IsAbove};
 ghost use Rattle.allocative_collectors.specs.Places.{AddedAt, TellsWhy};
 ghost use Rattle.allocative_collectors.specs.Finishing.{size_at_place, is_short, MakesGraph, MakesGraphAlone};
-ghost use Rattle.allocative_collectors.specs.Shapes.{bytes_at};
+ghost use Rattle.allocative_collectors.specs.Shapes.{leaf, bytes_at, keys_of, key_at, KeysRise, HasKey, IsKeyGap};
+ghost use Rattle.allocative_collectors.specs.Chunked.{numbers, numbers_in, flat, IsPlace, IsPlaceIn, place_in, flat_place};
 ghost use Rattle.allocative_collectors.specs.Nodes.{shape, IsTree};
 ghost use Rattle.allocative_collectors.specs.Warned.{warning_of};
 
-use crate::children::Children;
-use crate::node::Node;
+use crate::children::{Children, Chunk, LONGEST_LIST, Place, last_in, one_chunk, start_of};
 use crate::output::{FlameGraphOutput, WarnedPath};
-use crate::search::find;
 use allocative_graph::flamegraph::{FlameGraph, push_child};
 use allocative_graph::key::Key;
 use allocative_graph::refusal::Refusal;
 use std::alloc::{AllocError, Global};
+use std::cmp::Ordering;
 use std::marker::Model;
+
+/// What was entered at one path.
+#[derive(Drop)]
+struct Node {
+    key: Key,
+    /// The number of the node one key above. That of the root is no number of a node, so it is nobody's child.
+    parent: usize,
+    bytes: usize,
+    /// The child that was entered last.
+    last: u32,
+    /// The child that is expected next. It is a guess, and is tested before it is used.
+    next: u32,
+    /// The child of the same parent that was entered after this one.
+    follower: u32,
+    is_unique: bool,
+}
+
+impl Node {
+    /// A node with no bytes.
+    fn new(key: Key, parent: usize) -> Node
+        ensures { shape result ≡ leaf parent key }
+    {
+        Node {
+            key,
+            parent,
+            bytes: 0,
+            last: 0,
+            next: 0,
+            follower: 0,
+            is_unique: false,
+        }
+    }
+}
 
 /// The paths that were entered, each with its bytes and whether it was ever entered as unique.
 ///
@@ -282,6 +315,7 @@ impl Tree {
     {
         let node = self.search_child(at, &Key::new(key))?;
         self.follow_last(at, node);
+        self.cut_long_list(at);
         self.add_bytes(room, node, size, is_unique);
         Ok(node)
     }
@@ -301,17 +335,24 @@ impl Tree {
                 }
                 self.nodes.reserve(1)?;
                 self.children.reserve(1)?;
-                self.children[at].insert(
-                    self.alloc,
-                    &self.nodes,
-                    place,
-                    node as u32,
-                    key.as_str(),
-                )?;
+                self.children[at].insert(self.alloc, place, node as u32, key.as_str())?;
                 self.children.push_reserved(Children::Empty);
                 self.nodes.push_reserved(Node::new(key.copy(), at));
                 Ok(node)
             }
+        }
+    }
+
+    /// Cuts the list of a node's children into chunks if it is long. If memory runs out it stays one list.
+    fn cut_long_list(&mut self, at: usize)
+        requires { at < length self.old }
+        ensures { self.new ≡ self.old }
+    {
+        if let Children::Few(list) = &self.children[at]
+            && list.len() > LONGEST_LIST
+            && let Ok(chunks) = chunks_of(self.alloc, &self.nodes, list.as_slice())
+        {
+            self.children[at] = Children::Many(chunks);
         }
     }
 }
@@ -323,6 +364,206 @@ fn guess(number: usize) -> u32
     ensures none { 2 ^ 32 ≤ number → result ≡ 0 }
 {
     u32::try_from(number).unwrap_or(0)
+}
+
+/// How the key of a node compares with a key. A node that is missing has the empty key.
+fn compare(nodes: &[Node], number: u32, key: &Key) -> Ordering
+    ensures { result ≡ key_cmp (key_at (map shape nodes.now) number) key.now }
+{
+    match nodes.get(number as usize) {
+        Some(node) => node.key.cmp(key),
+        None => "".cmp(key.as_str()),
+    }
+}
+
+/// The one of the children that has the key, or the place where the key belongs among them.
+fn find(nodes: &[Node], children: &Children, key: &Key) -> Result<u32, Place>
+    requires rise { KeysRise (keys_of (map shape nodes.now) (numbers children.now)) }
+    ensures found { IfOk result (HasKey (map shape nodes.now) (numbers children.now) key.now) }
+    ensures place { IfErr result (IsPlace children.now) }
+    ensures absent { IfErr result (λ place.
+        IsKeyGap (keys_of (map shape nodes.now) (numbers children.now)) key.now (flat_place children.now place)) }
+{
+    if let Children::Many(chunks) = children {
+        return find_in_chunks(nodes, chunks.as_slice(), key);
+    }
+    match find_in_list(nodes, children.as_list(), key) {
+        Ok(number) => Ok(number),
+        Err(index) => Err(Place { chunk: 0, index }),
+    }
+}
+
+/// The one of some numbers whose node has the key, or the place where the key belongs among them.
+fn find_in_list(nodes: &[Node], list: &[u32], key: &Key) -> Result<u32, usize>
+    requires rise { KeysRise (keys_of (map shape nodes.now) list.now) }
+    ensures found { IfOk result (HasKey (map shape nodes.now) list.now key.now) }
+    ensures absent { IfErr result (IsKeyGap (keys_of (map shape nodes.now) list.now) key.now) }
+{
+    // A key that comes in order needs one comparison.
+    if let Some(last) = list.last()
+        && compare(nodes, *last, key).is_lt()
+    {
+        return Err(list.len());
+    }
+    search_list(nodes, list, key)
+}
+
+/// What `find_in_list` finds, by a binary search.
+#[inline(never)]
+fn search_list(nodes: &[Node], list: &[u32], key: &Key) -> Result<u32, usize>
+    requires rise { KeysRise (keys_of (map shape nodes.now) list.now) }
+    ensures found { IfOk result (HasKey (map shape nodes.now) list.now key.now) }
+    ensures absent { IfErr result (IsKeyGap (keys_of (map shape nodes.now) list.now) key.now) }
+{
+    match list.binary_search_by(
+        |number: &u32| -> Ordering
+            ensures { result
+                ≡ key_cmp (key_at (map shape nodes.entry.now) number.entry.now) key.entry.now }
+        { compare(nodes, *number, key) },
+    ) {
+        Ok(place) => Ok(list[place]),
+        Err(place) => Err(place),
+    }
+}
+
+/// The same for numbers in chunks. The starts of the keys give a place, which is tested. If it is not the one, the keys
+/// alone are searched.
+#[inline(never)]
+fn find_in_chunks(nodes: &[Node], chunks: &[Chunk], key: &Key) -> Result<u32, Place>
+    requires rise { KeysRise (keys_of (map shape nodes.now) (flat chunks.now)) }
+    ensures found { IfOk result (HasKey (map shape nodes.now) (flat chunks.now) key.now) }
+    ensures place { IfErr result (IsPlaceIn chunks.now) }
+    ensures absent { IfErr result (λ place.
+        IsKeyGap (keys_of (map shape nodes.now) (flat chunks.now)) key.now (place_in chunks.now place)) }
+{
+    // A key that comes in order needs one comparison.
+    if let Some((last, end)) = last_in(chunks)
+        && compare(nodes, last, key).is_lt()
+    {
+        return Err(end);
+    }
+    let place = guess_place(nodes, chunks, key);
+    match find_at(nodes, chunks, key, place) {
+        Some(found) => found,
+        None => search_chunks(nodes, chunks, key),
+    }
+}
+
+/// The place where the starts of the keys say that a key is or belongs. Nothing rests on it.
+fn guess_place(nodes: &[Node], chunks: &[Chunk], key: &Key) -> Place {
+    let start = start_of(key.as_str());
+    let after = chunks.partition_point(|chunk: &Chunk| -> bool {
+        if chunk.start == start {
+            compare(nodes, chunk.first, key).is_lt()
+        } else {
+            chunk.start < start
+        }
+    });
+    match after.checked_sub(1) {
+        Some(chunk) => Place {
+            chunk,
+            index: guess_index(nodes, &chunks[chunk], key, start),
+        },
+        None => Place { chunk: 0, index: 0 },
+    }
+}
+
+/// The index of that place in its chunk, whose first key comes before. Nothing rests on it.
+fn guess_index(nodes: &[Node], chunk: &Chunk, key: &Key, start: u64) -> usize {
+    let mut low = 0;
+    let mut high = chunk.rest.len();
+    while low < high {
+        let middle = low + (high - low) / 2;
+        let is_less = match chunk.starts.get(middle) {
+            Some(known) if *known != start => *known < start,
+            _ => compare(nodes, chunk.rest[middle], key).is_lt(),
+        };
+        if is_less {
+            low = middle + 1;
+        } else {
+            high = middle;
+        }
+    }
+    low + 1
+}
+
+/// What a search finds if it ends at this place. None says nothing.
+fn find_at(nodes: &[Node], chunks: &[Chunk], key: &Key, place: Place) -> Option<Result<u32, Place>>
+    requires rise { KeysRise (keys_of (map shape nodes.now) (flat chunks.now)) }
+    ensures found { IfSome result (λ end. IfOk end
+        (HasKey (map shape nodes.now) (flat chunks.now) key.now)) }
+    ensures place { IfSome result (λ end. IfErr end (IsPlaceIn chunks.now)) }
+    ensures absent { IfSome result (λ end. IfErr end (λ place.
+        IsKeyGap (keys_of (map shape nodes.now) (flat chunks.now)) key.now (place_in chunks.now place))) }
+{
+    let chunk = chunks.get(place.chunk)?;
+    let number = chunk.get(place.index)?;
+    match compare(nodes, number, key) {
+        Ordering::Equal => Some(Ok(number)),
+        Ordering::Greater if is_behind(nodes, chunk, place, key) => Some(Err(place)),
+        _ => None,
+    }
+}
+
+/// Whether the number before a place of the chunk has a smaller key, or there is none.
+fn is_behind(nodes: &[Node], chunk: &Chunk, place: Place, key: &Key) -> bool
+    ensures start { IsTrue result → place.index ≡ 0 → place.chunk ≡ 0 }
+    ensures smaller { IsTrue result → (j : ℕ) → place.index ≡ j + 1 → key_cmp
+        (key_at (map shape nodes.now) (slice_index_or (numbers_in chunk.now) j 0)) key.now ≡ Ordering.Less }
+{
+    match place.index.checked_sub(1) {
+        Some(before) => match chunk.get(before) {
+            Some(number) => compare(nodes, number, key).is_lt(),
+            None => false,
+        },
+        None => place.chunk == 0,
+    }
+}
+
+/// What `find_in_chunks` finds, by the keys alone. First the chunk is found, by the key of its first number.
+fn search_chunks(nodes: &[Node], chunks: &[Chunk], key: &Key) -> Result<u32, Place>
+    requires rise { KeysRise (keys_of (map shape nodes.now) (flat chunks.now)) }
+    ensures found { IfOk result (HasKey (map shape nodes.now) (flat chunks.now) key.now) }
+    ensures place { IfErr result (IsPlaceIn chunks.now) }
+    ensures absent { IfErr result (λ place.
+        IsKeyGap (keys_of (map shape nodes.now) (flat chunks.now)) key.now (place_in chunks.now place)) }
+{
+    let after = match chunks.binary_search_by(
+        |chunk: &Chunk| -> Ordering
+            ensures { result
+                ≡ key_cmp (key_at (map shape nodes.entry.now) chunk.entry.now.first) key.entry.now }
+        { compare(nodes, chunk.first, key) },
+    ) {
+        Ok(chunk) => return Ok(chunks[chunk].first),
+        Err(after) => after,
+    };
+    if after == 0 {
+        return Err(Place { chunk: 0, index: 0 });
+    }
+    let chunk = after - 1;
+    match find_in_list(nodes, chunks[chunk].rest.as_slice(), key) {
+        Ok(number) => Ok(number),
+        Err(index) => Err(Place {
+            chunk,
+            index: index + 1,
+        }),
+    }
+}
+
+/// A list of children as chunks. The only error is that memory runs out.
+fn chunks_of(alloc: Global, nodes: &[Node], list: &[u32]) -> Result<Box<Vec<Chunk>>, AllocError>
+    ensures { IfOk result (λ chunks. flat chunks.value.items ≡ list.now) }
+{
+    let mut starts = Vec::with_capacity(alloc, list.len())?;
+    for &number in list {
+        let start = match nodes.get(number as usize) {
+            Some(node) => start_of(node.key.as_str()),
+            None => 0,
+        };
+        starts.push(start)?;
+    }
+    let chunks = one_chunk(alloc, list, starts)?;
+    Ok(Box::new(alloc, chunks)?)
 }
 
 /// The bytes of some nodes together.

@@ -11,7 +11,7 @@ use Rattle.allocative_graph.specs.Graph.{Graph, Warned, total}
 use Rattle.allocative_graph.specs.Many.{ComesLast}
 use Rattle.allocative_collectors.specs.Chunked.{numbers}
 use Rattle.allocative_collectors.specs.Finishing.{MakesGraph, MakesPart}
-use Rattle.allocative_collectors.specs.declared.node.Node.{Node}
+use Rattle.allocative_collectors.specs.declared.tree.Node.{Node}
 use Rattle.allocative_collectors.proofs.NodeReads.{in_nodes, in_lists, children_read, below_read, figures_read}
 use Rattle.allocative_collectors.proofs.NodeReads.{listing_of}
 use Rattle.allocative_collectors.proofs.Made.{part_start, part_more, part_fits, made_all, child_read, none_warned}

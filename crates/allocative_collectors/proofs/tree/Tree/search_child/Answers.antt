@@ -1,19 +1,18 @@
 -- The child that was found, and the new one.
 use Rattle.std.proofs.Common.{◌≡◌, ℕ, false, List, length, map, set, get_or, [], ◌∷◌, ◌++◌, sym, refl}
 use Rattle.std.proofs.Common.{ap, subst, subst₂, ◌∙◌}
-use Rattle.allocative_collectors.proofs.Common.{HasKey, shape, leaf, Listed, IsEntered, IsTree, IsChild}
-use Rattle.allocative_collectors.proofs.Common.{keys_at, children_at, IsBetween, IsKeyGap, sums}
+use Rattle.allocative_collectors.proofs.Common.{HasKey, shape, leaf, Listed, IsEntered, IsTree, IsChild, KeysRise}
+use Rattle.allocative_collectors.proofs.Common.{keys_of, keys_at, children_at, IsKeyGap, sums}
 use Rattle.std.proofs.lemmas.List.{length-map, get_or_default}
 use Rattle.std.specs.List.{insert}
 use Rattle.allocative_collectors.specs.declared.children.Children.{Children}
 use Rattle.allocative_collectors.specs.declared.children.Children.TheVariants.{Empty}
-use Rattle.allocative_collectors.specs.declared.node.Node.{Node}
+use Rattle.allocative_collectors.specs.declared.tree.Node.{Node}
 use Rattle.allocative_collectors.specs.Chunked.{numbers, IsPlace, flat_place}
 use Rattle.allocative_collectors.proofs.NodeReads.{in_shapes, in_lists, children_read, grown_nodes, grown_lists, tree_of}
 use Rattle.allocative_collectors.proofs.NodeReads.{same_lists}
 use Rattle.allocative_collectors.proofs.Grown.{grown, with_child, arena_grown}
 use Rattle.allocative_collectors.proofs.Child.{was_entered, now_entered}
-use Rattle.allocative_collectors.proofs.Searched.{gap_between}
 use Rattle.allocative_collectors.proofs.tree.Tree.search_child.Goals as goal
 use Rattle.allocative_collectors.proofs.tree.Tree.search_child.Goals.{After-index, After-index_mut, After-push_reserved-in-Err}
 
@@ -22,6 +21,15 @@ searched : (c : After-index) →
     children_at (map numbers c.self.inside.children.items) c.args.at ≡ numbers c.index.result.now
 searched c = children_read c.self.inside.children.items c.args.at c.index.result.now
     (in_lists c.self.inside.nodes.items c.self.invariant c.args.at c.self.view_is c.requires) c.index.ensures
+
+pub find-requires : goal.find-requires
+find-requires c =
+    let items = c.self.inside.nodes.items in
+    record {
+      rise = subst (λ (l : List Node). KeysRise (keys_of (map shape l) (numbers c.index.result.now)))
+          (sym c.deref.ensures.value) (subst (λ (xs : List ℕ). KeysRise (keys_of (map shape items) xs))
+          (searched (goal.at.find-requires c).After-index) (c.self.invariant.arena.rise c.args.at));
+    }
 
 pub returns-in-Ok-clause-entered : goal.returns-in-Ok-clause-entered
 returns-in-Ok-clause-entered c =
@@ -98,14 +106,14 @@ gap : (c : After-push_reserved-in-Err) → c.index.result.now ≡ c.index_mut.re
     (keys_at (map shape c.self.inside.nodes.items) (map numbers c.self.inside.children.items) c.args.at) c.args.key.now
     (place c)
 gap c is listed =
-    let ns = map shape c.self.inside.nodes.items in
-    let cs = map numbers c.self.inside.children.items in
-    let found = subst (λ (l : List Node). IsBetween (map shape l) (numbers c.index.result.now) c.args.key.now
-    (flat_place c.index.result.now c.in-Err.place)) c.deref.ensures.value c.in-Err.ensures.absent in
-    gap_between ns (children_at cs c.args.at) (c.self.invariant.arena.rise c.args.at) c.args.key.now (place c)
-    (subst (λ (l : Children). IsBetween ns (children_at cs c.args.at) c.args.key.now (flat_place l c.in-Err.place)) is
-    (subst (λ (xs : List ℕ). IsBetween ns xs c.args.key.now (flat_place c.index.result.now c.in-Err.place))
-    (sym listed) found))
+    let items = c.self.inside.nodes.items in
+    let found = subst (λ (l : List Node). IsKeyGap (keys_of (map shape l) (numbers c.index.result.now))
+    c.args.key.now (flat_place c.index.result.now c.in-Err.place)) c.deref.ensures.value
+    c.in-Err.ensures.absent in
+    subst (λ (l : Children). IsKeyGap (keys_at (map shape items) (map numbers c.self.inside.children.items) c.args.at)
+    c.args.key.now (flat_place l c.in-Err.place)) is
+    (subst (λ (xs : List ℕ). IsKeyGap (keys_of (map shape items) xs) c.args.key.now
+    (flat_place c.index.result.now c.in-Err.place)) (sym listed) found)
 
 pub invariant_of-self-in-Err : goal.invariant_of-self-in-Err
 invariant_of-self-in-Err c =
