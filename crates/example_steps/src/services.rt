@@ -35,12 +35,7 @@ pub(crate) fn print_ledger(rt: &impl Print, alloc: Global) -> Result<()> {
 }
 
 /// Puts a note on a shelf, and prints the bytes of all notes, or why it is not kept.
-fn put_note(
-    rt: &impl Print,
-    notes: &mut Shelf<u64, String>,
-    key: u64,
-    note: String,
-) -> Result<()> {
+fn put_note(rt: &impl Print, notes: &mut Shelf<u64, String>, key: u64, note: String) -> Result<()> {
     match notes.put(key, note) {
         Ok(_had) => println!(rt; "{} bytes", notes.bytes())?,
         Err(refused) => println!(rt; "{}", refused.error)?,
