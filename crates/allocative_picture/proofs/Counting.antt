@@ -13,17 +13,17 @@ use Rattle.allocative_picture.specs.Laws.{boxes}
 use Rattle.allocative_picture.proofs.Placing.{less_than, in_order}
 
 -- A frame has its element if it is drawn.
-one : (b : Bool) (x rest : List ℕ) (all : ℕ) (r : FrameData) (rs : List FrameData) → x ≡ element all r →
-    rest ≡ flat_map (element all) rs → cond b x [] ++ rest ≡ flat_map (element all) (cond b (r ∷ rs) rs)
-one true x rest all r rs e f = λ i. e i ++ f i
-one false x rest all r rs e f = f
+one : (b : Bool) (x rest unit : List ℕ) (all : ℕ) (r : FrameData) (rs : List FrameData) → x ≡ element unit all r →
+    rest ≡ flat_map (element unit all) rs → cond b x [] ++ rest ≡ flat_map (element unit all) (cond b (r ∷ rs) rs)
+one true x rest unit all r rs e f = λ i. e i ++ f i
+one false x rest unit all r rs e f = f
 
 -- The boxes of some frames are the elements of those that are wide enough.
-pub boxes_are : (least all : ℕ) (rs : List FrameData) →
-    boxes least all rs ≡ flat_map (element all) (filter (is_drawn least all) rs)
-boxes_are least all [] = refl
-boxes_are least all (r ∷ rs) = one (is_drawn least all r) (element all r) (boxes least all rs) all r
-    (filter (is_drawn least all) rs) refl (boxes_are least all rs)
+pub boxes_are : (least : ℕ) (unit : List ℕ) (all : ℕ) (rs : List FrameData) →
+    boxes least unit all rs ≡ flat_map (element unit all) (filter (is_drawn least all) rs)
+boxes_are least unit all [] = refl
+boxes_are least unit all (r ∷ rs) = one (is_drawn least all r) (element unit all r) (boxes least unit all rs) unit all r
+    (filter (is_drawn least all) rs) refl (boxes_are least unit all rs)
 
 -- How often a path occurs in a list of entries.
 abbrev times : Path → List (Path × ℕ) → ℕ

@@ -6,3 +6,4 @@ pub mod Geometry
 pub mod Counting
 pub mod Warnings
 pub mod Marking
+pub mod Viewing

@@ -6,7 +6,7 @@ use Rattle.std.specs.Str.{bytes_eq}
 use Rattle.allocative_graph.specs.Path.{Key}
 use Rattle.allocative_graph.specs.Fnv.{fnv}
 use Rattle.allocative_picture.specs.Escape.{escaped}
-use Rattle.allocative_picture.specs.Figures.{size_text, bytes_text, percent_text, place_text}
+use Rattle.allocative_picture.specs.Figures.{is_bytes, amount_text, full_text, percent_text, place_text}
 use Rattle.allocative_picture.specs.Frames.{FrameData}
 use Rattle.allocative_picture.specs.declared.frame.Mark.{Mark}
 use Rattle.allocative_picture.specs.declared.frame.Mark.TheVariants.{Plain, Warned, Changed}
@@ -88,36 +88,39 @@ paint_text Warned r = []
 paint_text (Changed before) r = change_paint before (r.whole - before)
 
 -- ---- figures
--- The difference between two numbers of bytes, with a sign.
-unfoldable pub change_text : ℕ → ℕ → List ℕ
-change_text before after =
+-- The difference between two amounts in a unit, with a sign.
+unfoldable pub change_text : List ℕ → ℕ → ℕ → List ℕ
+change_text unit before after =
     cond (before == after) (codes "unchanged")
-    (cond (nat_lt before after) (codes "+" ++ size_text (after - before)) (codes "-" ++ size_text (before - after)))
+    (cond (nat_lt before after) (codes "+" ++ amount_text unit (after - before))
+    (codes "-" ++ amount_text unit (before - after)))
 
 -- The figure after the key in a frame's box, by its mark.
-unfoldable pub figure_text : Mark → FrameData → List ℕ
-figure_text Plain r = size_text r.whole
-figure_text Warned r = size_text r.whole
-figure_text (Changed before) r = change_text before (r.whole - before)
+unfoldable pub figure_text : List ℕ → Mark → FrameData → List ℕ
+figure_text unit Plain r = amount_text unit r.whole
+figure_text unit Warned r = amount_text unit r.whole
+figure_text unit (Changed before) r = change_text unit before (r.whole - before)
 
 -- The bytes of a path and all below it, their share of all in millionths, and the path's own bytes if they differ
 -- from these.
-unfoldable pub declared_text : ℕ → FrameData → List ℕ
-declared_text u r =
-    concat (bytes_text r.whole ∷ codes ", " ∷ percent_text u
-    ∷ cond (r.own == r.whole) (codes "% of all") (codes "% of all\n" ++ bytes_text r.own ++ codes " of its own") ∷ [])
+unfoldable pub declared_text : List ℕ → ℕ → FrameData → List ℕ
+declared_text unit u r =
+    concat (full_text unit r.whole ∷ codes ", " ∷ percent_text u
+    ∷ cond (r.own == r.whole) (codes "% of all") (codes "% of all\n" ++ full_text unit r.own ++ codes " of its own") ∷ [])
 
--- The bytes of a path in the earlier profile and in the later one, and their difference.
-unfoldable pub both_text : ℕ → ℕ → List ℕ
-both_text before after =
-    (size_text before ++ codes " before, " ++ size_text after ++ codes " after")
-    ++ (codes " (" ++ decimal before ++ codes " and " ++ decimal after ++ codes " bytes)\n" ++ change_text before after)
+-- The bytes of a path in the earlier profile and in the later one, and their difference. Those of another unit are not
+-- said twice.
+unfoldable pub both_text : List ℕ → ℕ → ℕ → List ℕ
+both_text unit before after =
+    (amount_text unit before ++ codes " before, " ++ amount_text unit after ++ codes " after")
+    ++ (cond (is_bytes unit) (codes " (" ++ decimal before ++ codes " and " ++ decimal after ++ codes " bytes)") []
+    ++ codes "\n" ++ change_text unit before after)
 
 -- The title of a frame's box after the key, by its mark, from the share of its bytes in millionths.
-unfoldable pub title_text : ℕ → Mark → FrameData → List ℕ
-title_text u Plain r = declared_text u r
-title_text u Warned r = declared_text u r ++ codes "\ndeclared smaller than its parts: see the warnings"
-title_text u (Changed before) r = both_text before (r.whole - before)
+unfoldable pub title_text : List ℕ → ℕ → Mark → FrameData → List ℕ
+title_text unit u Plain r = declared_text unit u r
+title_text unit u Warned r = declared_text unit u r ++ codes "\ndeclared smaller than its parts: see the warnings"
+title_text unit u (Changed before) r = both_text unit before (r.whole - before)
 
 -- ---- the element
 -- The beginning of a frame's box, a viewport that clips its texts.
@@ -128,11 +131,11 @@ viewport all r =
     ∷ codes "\" width=\"" ∷ place_text (width all r) ∷ codes "\" height=\"18\">" ∷ [])
 
 -- The element of a frame's box: its beginning, the title with the key, the rectangle with its paint, and the label with
--- the key and the figure. The key stands there as markup.
-unfoldable pub element : ℕ → FrameData → List ℕ
-element all r =
+-- the key and the figure. The key stands there as markup, and so is the unit given.
+unfoldable pub element : List ℕ → ℕ → FrameData → List ℕ
+element unit all r =
     viewport all r
-    ++ concat (codes "<title>" ∷ escaped r.key ∷ codes "\n" ∷ title_text (edge all r.whole) r.mark r
+    ++ concat (codes "<title>" ∷ escaped r.key ∷ codes "\n" ∷ title_text unit (edge all r.whole) r.mark r
     ∷ codes "</title><rect width=\"100%\" height=\"100%\" rx=\"2\"" ∷ paint_text r.mark r
-    ∷ codes "/><text x=\"4\" y=\"13\">" ∷ escaped r.key ∷ codes "<tspan class=\"n\" dx=\"8\">" ∷ figure_text r.mark r
+    ∷ codes "/><text x=\"4\" y=\"13\">" ∷ escaped r.key ∷ codes "<tspan class=\"n\" dx=\"8\">" ∷ figure_text unit r.mark r
     ∷ codes "</tspan></text></svg>\n" ∷ [])

@@ -1,5 +1,6 @@
--- Figures as texts: bytes in binary units, shares and places in percent.
-use Rattle.std.specs.Prelude.{ℕ, ◌*◌, ◌/◌, ◌%◌, cond, nat_lt, List, ◌++◌, codes, decimal}
+-- Figures as texts: amounts with their unit, shares and places in percent.
+use Rattle.std.specs.Prelude.{ℕ, ◌*◌, ◌/◌, ◌%◌, Bool, cond, nat_lt, List, ◌++◌, codes, decimal}
+use Rattle.std.specs.Str.{bytes_eq}
 
 -- The greatest binary unit, in bytes, that n bytes reach.
 abbrev pub unit_bytes : ℕ → ℕ
@@ -29,9 +30,19 @@ size_text n =
     (decimal (n / unit_bytes n) ++ codes "." ++ decimal (n % unit_bytes n * 10 / unit_bytes n))
     ++ codes " " ++ unit_name n
 
--- Bytes in their greatest binary unit and in full, for example `1.5 KiB (1536 bytes)`.
-unfoldable pub bytes_text : ℕ → List ℕ
-bytes_text n = size_text n ++ codes " (" ++ decimal n ++ codes " bytes)"
+-- Whether a unit is that of bytes.
+abbrev pub is_bytes : List ℕ → Bool
+is_bytes unit = bytes_eq unit (codes "bytes")
+
+-- An amount in a unit: bytes in their greatest binary unit, and any other as a plain number with the unit, as
+-- `1536 samples`.
+unfoldable pub amount_text : List ℕ → ℕ → List ℕ
+amount_text unit n = cond (is_bytes unit) (size_text n) (decimal n ++ codes " " ++ unit)
+
+-- An amount in full: bytes also in their greatest binary unit, for example `1.5 KiB (1536 bytes)`.
+unfoldable pub full_text : List ℕ → ℕ → List ℕ
+full_text unit n =
+    cond (is_bytes unit) (size_text n ++ codes " (" ++ decimal n ++ codes " bytes)") (decimal n ++ codes " " ++ unit)
 
 -- Millionths of all as a number of percent with two decimals, rounded down, for example `12.34`.
 unfoldable pub percent_text : ℕ → List ℕ

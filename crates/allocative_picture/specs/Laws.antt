@@ -41,13 +41,14 @@ abbrev pub WithinLaw : Type 0
 WithinLaw = (M : Path → Mark) (g : Graph) (p : Path) → 0 < total g → right_edge (total g) (frame_at M g p) ≤ 1000000
 
 -- The boxes of some frames, one after another: the element of a frame, or no text if it has none.
-abbrev pub boxes : ℕ → ℕ → List FrameData → List ℕ
-boxes least all rs = flat_map (λ r. cond (is_drawn least all r) (element all r) []) rs
+abbrev pub boxes : ℕ → List ℕ → ℕ → List FrameData → List ℕ
+boxes least unit all rs = flat_map (λ r. cond (is_drawn least all r) (element unit all r) []) rs
 
 -- The boxes are the elements of the frames that are wide enough, each once and in the order of the frames.
 abbrev pub BoxesLaw : Type 0
 BoxesLaw =
-    (least all : ℕ) (rs : List FrameData) → boxes least all rs ≡ flat_map (element all) (filter (is_drawn least all) rs)
+    (least : ℕ) (unit : List ℕ) (all : ℕ) (rs : List FrameData)
+    → boxes least unit all rs ≡ flat_map (element unit all) (filter (is_drawn least all) rs)
 
 -- Each path of a graph occurs once among the graph's entries, from which the frames are made.
 abbrev pub OnceLaw : Type 0

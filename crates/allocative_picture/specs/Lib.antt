@@ -5,4 +5,6 @@ pub mod Marks
 pub mod Boxes
 pub mod Page
 pub mod Picture
+pub mod Views
+pub mod Table
 pub mod Laws

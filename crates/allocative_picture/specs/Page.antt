@@ -1,9 +1,9 @@
 -- The parts of a picture around its boxes.
-use Rattle.std.specs.Prelude.{ℕ, ◌+◌, ◌-◌, max, List, [], ◌∷◌, ◌++◌, fold, codes, decimal}
+use Rattle.std.specs.Prelude.{ℕ, ◌+◌, ◌-◌, max, cond, List, [], ◌∷◌, ◌++◌, fold, codes, decimal}
 use Rattle.std.specs.List.{concat}
 use Rattle.allocative_graph.specs.Graph.{Warned, warning_text}
 use Rattle.allocative_picture.specs.Escape.{escaped}
-use Rattle.allocative_picture.specs.Figures.{bytes_text}
+use Rattle.allocative_picture.specs.Figures.{full_text, is_bytes}
 use Rattle.allocative_picture.specs.Frames.{FrameData}
 use Rattle.allocative_picture.specs.Boxes.{both_text}
 use Rattle.allocative_picture.specs.declared.fixed.TheConstants.{STYLE, TOOLS, LEGEND}
@@ -20,10 +20,10 @@ abbrev pub legend_of : Subject → List ℕ
 legend_of (Profile bytes) = []
 legend_of (Change before after) = LEGEND.now
 
--- The totals of the subject of a picture.
-unfoldable pub subject_text : Subject → List ℕ
-subject_text (Profile bytes) = bytes_text bytes ++ codes " declared"
-subject_text (Change before after) = both_text before after
+-- The totals of the subject of a picture, in a unit.
+unfoldable pub subject_text : List ℕ → Subject → List ℕ
+subject_text unit (Profile bytes) = full_text unit bytes ++ cond (is_bytes unit) (codes " declared") (codes " in all")
+subject_text unit (Change before after) = both_text unit before after
 
 -- The number of levels of boxes that some frames need.
 unfoldable pub levels : List FrameData → ℕ
@@ -37,10 +37,10 @@ opening height =
 
 -- The title above a picture, the totals, the number of paths with a box, the number of the others, which are too
 -- narrow for one, and the labels that the script makes clickable.
-unfoldable pub heading : List ℕ → Subject → ℕ → ℕ → List ℕ
-heading title s drawn paths =
+unfoldable pub heading : List ℕ → List ℕ → Subject → ℕ → ℕ → List ℕ
+heading title unit s drawn paths =
     concat (codes "<text class=\"title\" x=\"8\" y=\"22\">" ∷ escaped title
-    ∷ codes "</text>\n<text class=\"sum say\" x=\"8\" y=\"42\">" ∷ subject_text s ∷ codes "; " ∷ decimal drawn
+    ∷ codes "</text>\n<text class=\"sum say\" x=\"8\" y=\"42\">" ∷ subject_text unit s ∷ codes "; " ∷ decimal drawn
     ∷ codes " paths drawn, " ∷ decimal (paths - drawn) ∷ codes " too narrow even for zoom</text>\n" ∷ TOOLS.now ∷ [])
 
 -- The line of a path's warning at a height.

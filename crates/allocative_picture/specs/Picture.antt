@@ -2,6 +2,7 @@
 use Rattle.std.specs.Prelude.{ℕ, ◌+◌, ◌*◌, List, ◌++◌, length, map, filter, flat_map}
 use Rattle.allocative_graph.specs.Graph.{Graph, total, sum_of}
 use Rattle.allocative_collectors.specs.Warned.{warning_of}
+use Rattle.allocative_picture.specs.Escape.{escaped}
 use Rattle.allocative_picture.specs.Frames.{FrameData, frames_of, warned_mark, changed_mark}
 use Rattle.allocative_picture.specs.Boxes.{is_drawn, element}
 use Rattle.allocative_picture.specs.Page.{all_of, legend_of, levels, opening, heading, warning_lines}
@@ -19,8 +20,8 @@ bottom ws = 64 + 18 * levels ws
 -- the legend, the boxes, the warnings and the end.
 unfoldable pub drawing_of : Subject → Options → List FrameData → ℕ → List ℕ
 drawing_of s o ws n =
-    opening (bottom ws + 8 + 16 * length o.warned.now) ++ heading o.title.now s (length ws) n ++ legend_of s
-    ++ flat_map (element (all_of s)) ws ++ warning_lines (bottom ws + 14) (map warning_of o.warned.now)
+    opening (bottom ws + 8 + 16 * length o.warned.now) ++ heading o.title.now (escaped o.unit.now) s (length ws) n ++ legend_of s
+    ++ flat_map (element (escaped o.unit.now) (all_of s)) ws ++ warning_lines (bottom ws + 14) (map warning_of o.warned.now)
     ++ CLOSING.now
 
 -- The picture of some frames, one for each path.

@@ -7,13 +7,13 @@ ghost use Rattle.allocative_picture.specs.Boxes.{edge, left_edge, width, is_draw
 use crate::change::{Comparison, Difference, Paint};
 use crate::class::{Class, fit};
 use crate::escape::escaped;
-use crate::figures::{Bytes, Percent, Place, Size};
+use crate::figures::{Amount, Full, Percent, Place};
 use crate::frame::{Frame, Mark};
 use std::alloc::{AllocError, Global};
 use std::fmt;
 
 /// The place of a number of bytes on a line of a million units that stands for all bytes, rounded down.
-fn edge(all: u128, bytes: u128) -> u128
+pub(crate) fn edge(all: u128, bytes: u128) -> u128
     requires { bytes < 2 ^ 65 }
     ensures { result ≡ edge all bytes }
 {
@@ -46,27 +46,29 @@ pub(crate) fn is_drawn(least: u32, all: u128, frame: &Frame<'_>) -> bool
     width != 0 && width >= least as u128
 }
 
-/// A frame and the share of its bytes, printed as the frame's bytes and their share of all.
+/// A frame and the share of its bytes, printed as the frame's bytes in their unit, and their share of all.
 #[derive(Clone, Copy)]
 struct Declared<'a> {
     share: Percent,
+    unit: &'a str,
     frame: Frame<'a>,
 }
 
 #[tactic(auto, unfolding(crate::specs::Boxes::declared_text))]
 impl fmt::Display for Declared<'_> {
-    ghost output = { λ d. Some (declared_text d.share.0 (frame_data d.frame)) };
+    ghost output = { λ d. Some (declared_text d.unit.now d.share.0 (frame_data d.frame)) };
 
     fn fmt<W: fmt::Write>(&self, f: &mut fmt::Formatter<W>) -> fmt::Result {
         let Frame { own, whole, .. } = self.frame;
-        let (share, whole_bytes) = (self.share, Bytes(whole));
+        let (share, unit) = (self.share, self.unit);
+        let whole_bytes = Full(whole, unit);
         if own == whole {
             return write!(f, "{whole_bytes}, {share}% of all");
         }
         write!(
             f,
             "{whole_bytes}, {share}% of all\n{} of its own",
-            Bytes(own)
+            Full(own, unit)
         )
     }
 }
@@ -77,7 +79,7 @@ struct Title<'a>(Declared<'a>);
 
 #[tactic(auto, unfolding(crate::specs::Boxes::title_text))]
 impl fmt::Display for Title<'_> {
-    ghost output = { λ t. Some (title_text t.0.share.0 t.0.frame.mark (frame_data t.0.frame)) };
+    ghost output = { λ t. Some (title_text t.0.unit.now t.0.share.0 t.0.frame.mark (frame_data t.0.frame)) };
 
     fn fmt<W: fmt::Write>(&self, f: &mut fmt::Formatter<W>) -> fmt::Result {
         let declared = self.0;
@@ -89,27 +91,37 @@ impl fmt::Display for Title<'_> {
             ),
             Mark::Changed { was } => {
                 let after = declared.frame.whole.saturating_sub(was);
-                write!(f, "{}", Comparison(Difference { before: was, after }))
+                let change = Difference {
+                    before: was,
+                    after,
+                    unit: declared.unit,
+                };
+                write!(f, "{}", Comparison(change))
             }
         }
     }
 }
 
-/// A frame, printed as the figure after its key.
+/// A frame and the unit of its bytes, printed as the figure after its key.
 #[derive(Clone, Copy)]
-struct Figure<'a>(Frame<'a>);
+struct Figure<'a>(Frame<'a>, &'a str);
 
 #[tactic(auto, unfolding(crate::specs::Boxes::figure_text))]
 impl fmt::Display for Figure<'_> {
-    ghost output = { λ g. Some (figure_text g.0.mark (frame_data g.0)) };
+    ghost output = { λ g. Some (figure_text g.1.now g.0.mark (frame_data g.0)) };
 
     fn fmt<W: fmt::Write>(&self, f: &mut fmt::Formatter<W>) -> fmt::Result {
-        let whole = self.0.whole;
+        let (whole, unit) = (self.0.whole, self.1);
         match self.0.mark {
-            Mark::Plain | Mark::Warned => write!(f, "{}", Size(whole)),
+            Mark::Plain | Mark::Warned => write!(f, "{}", Amount(whole, unit)),
             Mark::Changed { was } => {
                 let after = whole.saturating_sub(was);
-                write!(f, "{}", Difference { before: was, after })
+                let change = Difference {
+                    before: was,
+                    after,
+                    unit,
+                };
+                write!(f, "{change}")
             }
         }
     }
@@ -133,23 +145,25 @@ fn push_viewport(all: u128, frame: &Frame<'_>, text: &mut String) -> Result<(), 
     Ok(())
 }
 
-/// Appends the box of a frame. The only error is that memory runs out.
+/// Appends the box of a frame. The unit is markup. The only error is that memory runs out.
 pub(crate) fn push_element(
     alloc: Global,
+    unit: &str,
     all: u128,
     frame: &Frame<'_>,
     text: &mut String,
 ) -> Result<(), AllocError>
-    ensures { OnOk result (AppendsText text.old text.new (element all (frame_data frame.now))) }
+    ensures { OnOk result (AppendsText text.old text.new (element unit.now all (frame_data frame.now))) }
 {
     push_viewport(all, frame, text)?;
     let key = escaped(alloc, frame.key)?;
     let share = Percent(edge(all, frame.whole as u128));
     let title = Title(Declared {
         share,
+        unit,
         frame: *frame,
     });
-    let (paint, figure) = (Paint(*frame), Figure(*frame));
+    let (paint, figure) = (Paint(*frame), Figure(*frame, unit));
     write!(
         text,
         "<title>{key}\n{title}</title><rect width=\"100%\" height=\"100%\" rx=\"2\"{paint}/>\

@@ -3,21 +3,22 @@ ghost use Rattle.std.specs.Prelude.{◌≡◌, ◌+◌, ◌-◌, ◌*◌, ◌<�
 ghost use Rattle.allocative_picture.specs.Frames.{frame_data};
 ghost use Rattle.allocative_picture.specs.Boxes.{shade, paint_text, change_text, both_text};
 
-use crate::figures::Size;
+use crate::figures::Amount;
 use crate::frame::{Frame, Mark};
 use std::fmt;
 
-/// The bytes of a path in an earlier profile and in a later one. They are printed as their difference with a sign, for
-/// example `+1.5 KiB`, or as `unchanged`.
+/// The bytes of a path in an earlier profile and in a later one, and their unit. They are printed as their difference
+/// with a sign, for example `+1.5 KiB`, or as `unchanged`.
 #[derive(Clone, Copy)]
-pub(crate) struct Difference {
+pub(crate) struct Difference<'a> {
     pub before: usize,
     pub after: usize,
+    pub unit: &'a str,
 }
 
 /// A change, printed as the title of its box says it.
 #[derive(Clone, Copy)]
-pub(crate) struct Comparison(pub Difference);
+pub(crate) struct Comparison<'a>(pub Difference<'a>);
 
 /// A frame, printed as the paint of its box: red if bytes grew, blue if they shrank, and none if they are equal
 /// or the class gives the colour.
@@ -34,31 +35,42 @@ fn shade(full: u128, change: usize, all: u128) -> u128
 }
 
 #[tactic(auto, unfolding(crate::specs::Boxes::change_text))]
-impl fmt::Display for Difference {
-    ghost output = { λ c. Some (change_text c.before c.after) };
+impl fmt::Display for Difference<'_> {
+    ghost output = { λ c. Some (change_text c.unit.now c.before c.after) };
 
     fn fmt<W: fmt::Write>(&self, f: &mut fmt::Formatter<W>) -> fmt::Result {
-        let Difference { before, after } = *self;
+        let Difference {
+            before,
+            after,
+            unit,
+        } = *self;
         if before == after {
             write!(f, "unchanged")
         } else if before < after {
-            write!(f, "+{}", Size(after - before))
+            write!(f, "+{}", Amount(after - before, unit))
         } else {
-            write!(f, "-{}", Size(before - after))
+            write!(f, "-{}", Amount(before - after, unit))
         }
     }
 }
 
 #[tactic(auto, unfolding(crate::specs::Boxes::both_text))]
-impl fmt::Display for Comparison {
-    ghost output = { λ c. Some (both_text c.0.before c.0.after) };
+impl fmt::Display for Comparison<'_> {
+    ghost output = { λ c. Some (both_text c.0.unit.now c.0.before c.0.after) };
 
     fn fmt<W: fmt::Write>(&self, f: &mut fmt::Formatter<W>) -> fmt::Result {
         let change = self.0;
-        let Difference { before, after } = change;
-        let (earlier, later) = (Size(before), Size(after));
+        let Difference {
+            before,
+            after,
+            unit,
+        } = change;
+        let (earlier, later) = (Amount(before, unit), Amount(after, unit));
         write!(f, "{earlier} before, {later} after")?;
-        write!(f, " ({before} and {after} bytes)\n{change}")
+        if unit == "bytes" {
+            write!(f, " ({before} and {after} bytes)")?;
+        }
+        write!(f, "\n{change}")
     }
 }
 

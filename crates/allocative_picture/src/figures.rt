@@ -1,16 +1,21 @@
 //! Figures as texts.
 ghost use Rattle.std.specs.Prelude.{◌≡◌, ◌*◌, ◌<◌, Some};
-ghost use Rattle.allocative_picture.specs.Figures.{unit_bytes, unit_name, size_text, bytes_text, percent_text, place_text};
+ghost use Rattle.allocative_picture.specs.Figures.{unit_bytes, unit_name, size_text, amount_text, full_text, percent_text, place_text};
 
 use std::fmt;
 
 /// A number of bytes, printed in its greatest binary unit and rounded down to tenths, for example `1.5 KiB`.
 #[derive(Clone, Copy)]
-pub(crate) struct Size(pub usize);
+struct Size(usize);
 
-/// A number of bytes, printed in its greatest binary unit and in full, for example `1.5 KiB (1536 bytes)`.
+/// An amount and its unit, printed as `1536 samples`. Bytes are printed as a `Size`.
 #[derive(Clone, Copy)]
-pub(crate) struct Bytes(pub usize);
+pub(crate) struct Amount<'a>(pub usize, pub &'a str);
+
+/// An amount and its unit, printed as `1536 samples`. Bytes are printed in their greatest binary unit and in full, for
+/// example as `1.5 KiB (1536 bytes)`.
+#[derive(Clone, Copy)]
+pub(crate) struct Full<'a>(pub usize, pub &'a str);
 
 /// Millionths of all, printed as a number of percent and rounded down, for example `12.34`.
 #[derive(Clone, Copy)]
@@ -52,13 +57,29 @@ impl fmt::Display for Size {
     }
 }
 
-#[tactic(auto, unfolding(crate::specs::Figures::bytes_text))]
-impl fmt::Display for Bytes {
-    ghost output = { λ b. Some (bytes_text b.0) };
+#[tactic(auto, unfolding(crate::specs::Figures::amount_text))]
+impl fmt::Display for Amount<'_> {
+    ghost output = { λ a. Some (amount_text a.1.now a.0) };
 
     fn fmt<W: fmt::Write>(&self, f: &mut fmt::Formatter<W>) -> fmt::Result {
-        let bytes = self.0;
-        write!(f, "{} ({bytes} bytes)", Size(bytes))
+        let Amount(amount, unit) = *self;
+        if unit == "bytes" {
+            return write!(f, "{}", Size(amount));
+        }
+        write!(f, "{amount} {unit}")
+    }
+}
+
+#[tactic(auto, unfolding(crate::specs::Figures::full_text))]
+impl fmt::Display for Full<'_> {
+    ghost output = { λ a. Some (full_text a.1.now a.0) };
+
+    fn fmt<W: fmt::Write>(&self, f: &mut fmt::Formatter<W>) -> fmt::Result {
+        let Full(amount, unit) = *self;
+        if unit == "bytes" {
+            return write!(f, "{} ({amount} bytes)", Size(amount));
+        }
+        write!(f, "{amount} {unit}")
     }
 }
 

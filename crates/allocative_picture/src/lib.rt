@@ -1,4 +1,5 @@
-//! Pictures of flame graphs: SVG text, with a box for each path that is wide enough to be seen.
+//! Pictures of flame graphs: SVG text, with a box for each path that is wide enough to be seen. Views of flame graphs,
+//! which show what is heavy where its keys are data, and tables of the heaviest paths.
 //!
 //! All sizes are in bytes. A call that allocates takes an allocator first and returns a `Result`.
 #![tactic(auto)]
@@ -15,4 +16,6 @@ pub mod laws;
 pub mod options;
 pub mod page;
 pub mod picture;
+pub mod table;
+pub mod views;
 mod warned;

@@ -15,19 +15,23 @@ pub struct Options<'a> {
     /// The width of the narrowest box, in millionths of the width of the picture. A path has no box if its box would
     /// be narrower, or would have no width.
     pub narrowest: u32,
+    /// What the sizes count, as `bytes`, which are printed in binary units, or `samples`. It may be any text.
+    pub unit: &'a str,
 }
 
 impl Options<'_> {
-    /// The title `Declared bytes`, no warned paths, and boxes of at least a two-thousandth of the width.
+    /// The title `Declared bytes`, no warned paths, boxes of at least a two-thousandth of the width, and the unit `bytes`.
     pub fn default() -> Options<'static>
         ensures title { result.title.now ≡ codes "Declared bytes" }
         ensures warned { result.warned.now ≡ [] }
         ensures narrowest { result.narrowest ≡ 500 }
+        ensures unit { result.unit.now ≡ codes "bytes" }
     {
         Options {
             title: "Declared bytes",
             warned: &[],
             narrowest: 500,
+            unit: "bytes",
         }
     }
 }

@@ -9,7 +9,7 @@ ghost use Rattle.allocative_picture.specs.Page.{all_of, legend_of, subject_text,
 use crate::boxes::push_element;
 use crate::change::{Comparison, Difference};
 use crate::escape::escaped;
-use crate::figures::Bytes;
+use crate::figures::Full;
 use crate::fixed::{LEGEND, STYLE, TOOLS};
 use crate::frame::Frame;
 use allocative_collectors::output::WarnedPath;
@@ -55,15 +55,28 @@ impl Subject {
     }
 }
 
+/// The subject of a picture and its unit, printed as its totals.
+#[derive(Clone, Copy)]
+struct Totals<'a>(Subject, &'a str);
+
 #[tactic(auto, unfolding(crate::specs::Page::subject_text))]
-impl fmt::Display for Subject {
-    ghost output = { λ s. Some (subject_text s) };
+impl fmt::Display for Totals<'_> {
+    ghost output = { λ t. Some (subject_text t.1.now t.0) };
 
     fn fmt<W: fmt::Write>(&self, f: &mut fmt::Formatter<W>) -> fmt::Result {
-        match *self {
-            Subject::Profile { bytes } => write!(f, "{} declared", Bytes(bytes)),
+        let Totals(subject, unit) = *self;
+        match subject {
+            Subject::Profile { bytes } if unit == "bytes" => {
+                write!(f, "{} declared", Full(bytes, unit))
+            }
+            Subject::Profile { bytes } => write!(f, "{} in all", Full(bytes, unit)),
             Subject::Change { before, after } => {
-                write!(f, "{}", Comparison(Difference { before, after }))
+                let change = Difference {
+                    before,
+                    after,
+                    unit,
+                };
+                write!(f, "{}", Comparison(change))
             }
         }
     }
@@ -95,23 +108,25 @@ pub(crate) fn push_opening(height: u128, text: &mut String) -> Result<(), AllocE
 }
 
 /// Appends the title of a picture, the totals, the number of paths with a box, the number of the others, which are too
-/// narrow for one, and the labels that the script makes clickable.
+/// narrow for one, and the labels that the script makes clickable. The unit is markup.
 pub(crate) fn push_heading(
     alloc: Global,
     title: &str,
+    unit: &str,
     subject: Subject,
     drawn: usize,
     paths: usize,
     text: &mut String,
 ) -> Result<(), AllocError>
-    ensures { OnOk result (AppendsText text.old text.new (heading title.now subject drawn paths)) }
+    ensures { OnOk result (AppendsText text.old text.new (heading title.now unit.now subject drawn paths)) }
 {
     let title = escaped(alloc, title)?;
+    let totals = Totals(subject, unit);
     let narrow = paths.saturating_sub(drawn);
     write!(
         text,
         "<text class=\"title\" x=\"8\" y=\"22\">{title}</text>\n\
-        <text class=\"sum say\" x=\"8\" y=\"42\">{subject}; {drawn} paths drawn, {narrow} too narrow even for zoom</text>\n{TOOLS}"
+        <text class=\"sum say\" x=\"8\" y=\"42\">{totals}; {drawn} paths drawn, {narrow} too narrow even for zoom</text>\n{TOOLS}"
     )?;
     Ok(())
 }
@@ -119,15 +134,16 @@ pub(crate) fn push_heading(
 /// Appends the boxes of frames.
 pub(crate) fn push_boxes(
     alloc: Global,
+    unit: &str,
     all: u128,
     frames: &[Frame<'_>],
     text: &mut String,
 ) -> Result<(), AllocError>
     ensures { OnOk result
-        (AppendsText text.old text.new (flat_map (element all) (map frame_data frames.now))) }
+        (AppendsText text.old text.new (flat_map (element unit.now all) (map frame_data frames.now))) }
 {
     for frame in frames {
-        push_element(alloc, all, frame, text)?;
+        push_element(alloc, unit, all, frame, text)?;
     }
     Ok(())
 }

@@ -6,6 +6,7 @@ ghost use Rattle.allocative_picture.specs.Frames.{frame_data, frames_of};
 ghost use Rattle.allocative_picture.specs.Marks.{mark_by};
 ghost use Rattle.allocative_picture.specs.Picture.{drawing, drawing_of, profile_drawing, change_drawing};
 
+use crate::escape::escaped;
 use crate::fixed::CLOSING;
 use crate::frame::Frame;
 use crate::frames::{Marks, Shown, push_frames, push_wide};
@@ -126,18 +127,21 @@ fn draw_wide(
 {
     let bottom = 64 + 18 * levels(frames);
     let height = bottom + 8 + 16 * options.warned.len() as u128;
+    let unit = escaped(alloc, options.unit)?;
+    let unit = unit.as_str();
     let mut text = String::new(alloc);
     push_opening(height, &mut text)?;
     push_heading(
         alloc,
         options.title,
+        unit,
         subject,
         frames.len(),
         paths,
         &mut text,
     )?;
     text.push_str(subject.legend())?;
-    push_boxes(alloc, subject.all(), frames, &mut text)?;
+    push_boxes(alloc, unit, subject.all(), frames, &mut text)?;
     push_warnings(alloc, bottom + 14, options.warned, &mut text)?;
     text.push_str(CLOSING)?;
     Ok(text)

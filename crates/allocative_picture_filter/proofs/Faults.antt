@@ -1,11 +1,12 @@
 -- Faults and their status.
 use Rattle.std.proofs.Common.{◌≡◌, inl, inr, ℕ, ◌^◌, ◌<◌, ◌≤◌, ◌==◌, ◌&&◌, Bool, true, false, IsTrue, List, [], ◌∷◌}
-use Rattle.std.proofs.Common.{Option, None, Some, Ok, Err, Result, refl, arith, IfSome, IfErr, IsErrOf, IsErrAnd}
+use Rattle.std.proofs.Common.{cond, subst, Option, None, Some, Ok, Err, Result, refl, arith, IfSome, IfErr, IsErrOf, IsErrAnd}
 use Rattle.allocative_picture_filter.proofs.Common.{Graph, Fault, Text, Sourced, StopsAddingUp}
 use Rattle.allocative_graph.specs.declared.refusal.Refusal as refusal
 use Rattle.allocative_graph.specs.declared.refusal.Refusal.TheVariants as refused
 use Rattle.allocative_picture_filter.specs.declared.arguments.Arguments as words
-use Rattle.allocative_picture_filter.specs.declared.fault.Fault.TheVariants.{Writing}
+use Rattle.allocative_picture_filter.specs.declared.fault.Fault.TheVariants.{Memory, Arguments, Writing}
+use Rattle.allocative_picture_filter.specs.Arguments.{StopsAsking}
 use Rattle.allocative_picture_filter.specs.Fault.{fault_of}
 use Rattle.allocative_picture_filter.specs.Run.{StopsJoining, Stops}
 
@@ -33,10 +34,22 @@ stops-joining bytes refused.Memory h = tt
 stops-joining bytes refused.TooLarge h = h refl
 stops-joining bytes refused.Open h = tt
 
+-- The same for the bytes of a change alone.
+pub stops-writing : {T : Type 0} (c change : Bool) (bytes : ℕ) (r : refusal.Refusal) → c ≡ change →
+    (IsErrOf {T = T} (Err r) refused.TooLarge → 2 ^ 64 ≤ cond c bytes 0) → StopsJoining (cond change bytes 0) (fault_of r)
+stops-writing c change bytes r same h =
+    subst (λ (b : Bool). StopsJoining (cond b bytes 0) (fault_of r)) same (stops-joining (cond c bytes 0) r h)
+
 -- What holds of each value holds of the one that there is.
 pub of_each : {A : Type 0} {Q : A → Type 0} (o : Option A) → ((a : A) → Q a) → IfSome o Q
 of_each None f = tt
 of_each (Some a) f = f a
+
+-- Why nothing is asked for, if that implies another reason.
+pub because : (f : Fault) (P Q : Type 0) → (P → Q) → StopsAsking P f → StopsAsking Q f
+because Memory P Q more h = tt
+because (Arguments reason) P Q more h = more h
+because f P Q more h = absurd h
 
 -- What holds of a fault holds if the result is that fault.
 pub holds-of : {T : Type 0} (r : Result T Fault) (P : Fault → Type 0) (f : Fault) → IsErrAnd r (λ e. e ≡ f) → P f →

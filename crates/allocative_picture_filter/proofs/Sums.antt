@@ -1,5 +1,5 @@
 -- The graphs of some texts, one added after another, and what stops that.
-use Rattle.std.proofs.Common.{◌≡◌, ℕ, zero, suc, ◌+◌, ◌<◌, ◌==◌, ◌⊎◌, inl, inr, Bool, true, false, ◌&&◌, cond, List, []}
+use Rattle.std.proofs.Common.{◌≡◌, ℕ, zero, suc, ◌+◌, ◌<◌, ◌≤◌, ◌==◌, ◌⊎◌, inl, inr, Bool, true, false, ◌&&◌, cond, List, []}
 use Rattle.std.proofs.Common.{◌∷◌, ◌++◌, map, take, length, get_or, refl, sym, ap, subst, ◌∙◌, arith}
 use Rattle.allocative_picture_filter.proofs.Common.{Graph, default, total, Options, Fault, Memory, Text, Sourced}
 use Rattle.allocative_picture_filter.proofs.Common.{sourced, AddUp, StopsAddingUp}
@@ -8,8 +8,13 @@ use Rattle.allocative_picture_filter.specs.declared.arguments.Arguments.{Argumen
 use Rattle.allocative_picture_filter.specs.declared.fault.Source.TheVariants.{Input}
 use Rattle.allocative_picture_filter.specs.Fault.{IsReadingOf}
 use Rattle.allocative_picture_filter.proofs.Faults.{has-bytes}
-use Rattle.allocative_picture_filter.specs.Run.{without_mark, Adds, AddUpOnto, StopsAdding, StopsProfile, IsMade}
-use Rattle.allocative_picture_filter.specs.Run.{written_of}
+use Rattle.allocative_picture_filter.specs.Run.{without_mark, Adds, AddUpOnto, StopsAdding, StopsProfile, IsMade, IsShown}
+use Rattle.allocative_picture_filter.specs.Run.{IsOptions, Writes, guide_of, is_change, is_outlined, limit_of}
+use Rattle.allocative_graph.specs.Graph.{text}
+use Rattle.allocative_picture.specs.Picture.{change_drawing, profile_drawing}
+use Rattle.allocative_picture.specs.Table.{IsTable}
+use Rattle.allocative_picture.specs.Views.{IsOutline, by_last_key}
+use Rattle.std.specs.Prelude.{MatchBool, nat_lt}
 
 -- ---- one text after another
 -- One text more is added.
@@ -70,21 +75,45 @@ stops-unread xs b known g f e up (inr r) = inr (g, up, e, r)
 
 -- ---- what is written
 -- What is written of some graphs is what the arguments ask for.
-pub made-so : (asked : Arguments) (before : List Text) (after : List Sourced) (made : List ℕ) (g h : Graph)
-    (o : Options)
-    → AddUp (map sourced before) g → o.warned.now ≡ [] → AddUp after h → (asked.not_empty && (total h == 0)) ≡ false
-    → made ≡ written_of asked.as_text (length before == 0)
-    (record { title = asked.title; warned = o.warned; narrowest = asked.narrowest }) g h →
-    IsMade asked before after made
-made-so asked before after made g h o earlier warned later some is = record {
+pub made-so : (asked : Arguments) (before : List Text) (after : List Sourced) (made : List ℕ) (g h x y u : Graph)
+    → AddUp (map sourced before) g → AddUp after h → (asked.not_empty && (total h == 0)) ≡ false
+    → (is_outlined asked ≡ true → u ≡ guide_of (is_change asked (length before)) g h)
+    → ((v : Graph) → (is_outlined asked ≡ true → u ≡ v) → IsShown asked v g x)
+    → ((v : Graph) → (is_outlined asked ≡ true → u ≡ v) → IsShown asked v h y)
+    → Writes asked (is_change asked (length before)) x y made → IsMade asked before after made
+made-so asked before after made g h x y u earlier later some guides one other is = record {
   earlier = g;
   later = h;
   earlier_read = earlier;
   later_read = later;
-  options = record { title = asked.title; warned = o.warned; narrowest = asked.narrowest };
-  title = refl;
-  warned = warned;
-  narrowest = refl;
   some = has-bytes asked.not_empty (total h) some;
+  shown_earlier = x;
+  shown_later = y;
+  earlier_shown = one (guide_of (is_change asked (length before)) g h) guides;
+  later_shown = other (guide_of (is_change asked (length before)) g h) guides;
   is = is;
 }
+
+-- What is shown of a graph, from its outline.
+pub shown-so : (asked : Arguments) (v u g o made : Graph)
+    → (is_outlined asked ≡ true → IsOutline (limit_of asked.depth) (limit_of asked.fold) v g o)
+    → (is_outlined asked ≡ false → o ≡ g) → made ≡ cond asked.by_last_key (by_last_key o) o
+    → (is_outlined asked ≡ true → v ≡ u) → IsShown asked u g made
+shown-so asked v u g o made outlined whole is same = record {
+  outline = o;
+  outlined = λ out. subst (λ (x : Graph). IsOutline (limit_of asked.depth) (limit_of asked.fold) x g o) (same out)
+      (outlined out);
+  whole = whole;
+  is = is;
+}
+
+-- A picture is written if neither a text nor a table is asked for.
+pub writes-picture : (asked : Arguments) (change : Bool) (g h : Graph) (o : Options) (made : List ℕ)
+    → asked.as_text ≡ false → asked.top ≤ 0 → IsOptions asked o
+    → made ≡ cond change (change_drawing o g h) (profile_drawing o h) → Writes asked change g h made
+writes-picture asked change g h o made no_text no_lines options is =
+    let Pictures : Type 0 = (p : Options) × IsOptions asked p × (made ≡ cond change (change_drawing p g h) (profile_drawing p h)) in
+    let e : asked.top ≡ 0 = omega arith in
+    let no_table : nat_lt 0 asked.top ≡ false = ap (λ n. nat_lt 0 n) e in
+    subst (λ (b : Bool). MatchBool b (made ≡ text h) (MatchBool (nat_lt 0 asked.top) (IsTable asked.top h made) Pictures)) (sym no_text)
+    (subst (λ (b : Bool). MatchBool b (IsTable asked.top h made) Pictures) (sym no_table) (o, options, is))

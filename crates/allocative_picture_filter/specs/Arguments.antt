@@ -1,5 +1,5 @@
 -- What the arguments ask for, by what clap finds in them.
-use Rattle.std.specs.Prelude.{◌≡◌, ◌≢◌, ◌≤◌, ◌<◌, ⊤, ◌^◌, ◌⊎◌, ◌||◌, Bool, true, false, not, nat_lt, List, [], ◌∷◌, map}
+use Rattle.std.specs.Prelude.{◌≡◌, ◌≢◌, ℕ, ◌≤◌, ◌<◌, ⊤, ◌^◌, ◌⊎◌, ◌||◌, Bool, true, false, cond, not, nat_lt, List, [], ◌∷◌, map}
 use Rattle.std.specs.Prelude.{codes, filter, count_by, length, Some, unwrap_or, String, string_bytes, IsTrue, ◌==◌}
 use Rattle.std.specs.Str.{bytes_eq}
 use Rattle.std.specs.Str.Parse.{IsNumeral, digits_value}
@@ -25,12 +25,14 @@ valued name action = record (named name action) { value_names = 1 }
 abbrev pub names : Rule
 names = record (new_rule (codes "FILE")) { action = Some Append }
 
--- The arguments of the program as clap reads them. Of several titles and of several widths the last one counts.
+-- The arguments of the program as clap reads them. Of several uses of one that has a single value the last one counts.
 abbrev pub picture_app : App
 picture_app = record {
   top = record (new_shape (codes "allocative-picture")) {
     rules = named (codes "help") SetTrue ∷ named (codes "text") SetTrue ∷ named (codes "not-empty") SetTrue
-        ∷ valued (codes "title") Set ∷ valued (codes "narrowest") Set ∷ valued (codes "before") Append ∷ names ∷ [];
+        ∷ named (codes "by-last-key") SetTrue ∷ valued (codes "title") Set ∷ valued (codes "narrowest") Set
+        ∷ valued (codes "unit") Set ∷ valued (codes "depth") Set ∷ valued (codes "fold") Set ∷ valued (codes "top") Set
+        ∷ valued (codes "before") Append ∷ names ∷ [];
     no_binary_name = true;
     args_override_self = true;
     disable_help_flag = true;
@@ -61,31 +63,54 @@ abbrev pub is_input : Text → Bool
 is_input name = bytes_eq name (codes "-")
 
 -- The text is decimal digits alone, which write a number below 2 ^ 32.
-abbrev pub IsWidth : Text → Type 0
-IsWidth text = IsNumeral 10 text × (digits_value 10 text < 2 ^ 32)
+abbrev pub IsNumber : Text → Type 0
+IsNumber text = IsNumeral 10 text × (digits_value 10 text < 2 ^ 32)
+
+-- n is the number that is the value of an argument, or another if it has none.
+abbrev pub IsNumberIn : Text → Text → List Row → ℕ → Type 0
+IsNumberIn name otherwise rows n =
+    IsNumber (value_in name otherwise rows) × (n ≡ digits_value 10 (value_in name otherwise rows))
+
+-- The title of what counts in a unit, if there is no other.
+abbrev pub title_of : Text → Text
+title_of unit = cond (bytes_eq unit (codes "bytes")) (codes "Declared bytes") (codes "Profile")
+
+-- Two of these are asked for: the text, so many lines of a table, and a change from so many files.
+abbrev pub Disagree : Bool → ℕ → ℕ → Type 0
+Disagree as_text top before =
+    (IsTrue as_text × (0 < before)) ⊎ ((0 < top) × (0 < before)) ⊎ (IsTrue as_text × (0 < top))
 
 -- What clap finds asks for this.
 pub record IsAsked (rows : List Row) (asked : Arguments) : Type 0 where
   pub help : IsFlag (codes "help") rows asked.help
   pub as_text : IsFlag (codes "text") rows asked.as_text
   pub not_empty : IsFlag (codes "not-empty") rows asked.not_empty
-  pub title : asked.title.now ≡ value_in (codes "title") (codes "Declared bytes") rows
-  pub width : IsWidth (value_in (codes "narrowest") (codes "500") rows)
-  pub narrowest : asked.narrowest ≡ digits_value 10 (value_in (codes "narrowest") (codes "500") rows)
+  pub unit : asked.unit.now ≡ value_in (codes "unit") (codes "bytes") rows
+  pub title : asked.title.now ≡ value_in (codes "title") (title_of asked.unit.now) rows
+  pub narrowest : IsNumberIn (codes "narrowest") (codes "500") rows asked.narrowest
+  pub depth : IsNumberIn (codes "depth") (codes "0") rows asked.depth
+  pub fold : IsNumberIn (codes "fold") (codes "0") rows asked.fold
+  pub top : IsNumberIn (codes "top") (codes "0") rows asked.top
+  pub by_last_key : IsFlag (codes "by-last-key") rows asked.by_last_key
   pub before : map (λ name. name.now) asked.before.items ≡ values_in (codes "before") rows
   pub after : map (λ name. name.now) asked.after.items
       ≡ filter (λ name. not (is_input name)) (values_in (codes "FILE") rows)
   pub reads_input : asked.reads_input
       ≡ (nat_lt 0 (count_by is_input (values_in (codes "FILE") rows)) || (length asked.after.items == 0))
   pub input_once : count_by is_input (values_in (codes "FILE") rows) ≤ 1
-  pub text_of_one : IsTrue asked.as_text × (0 < length asked.before.items) → ⊥
+  pub agree : ¬ Disagree asked.as_text asked.top (length asked.before.items)
 
 -- ---- what is refused
--- What clap finds asks for nothing: the width is none, the input is named again, or the text of a change is asked for.
+-- What clap finds asks for nothing: a number is none, the input is named again, or two of a text, a table and a change
+-- are asked for.
 abbrev pub IsWrong : List Row → Type 0
-IsWrong rows = (¬ IsWidth (value_in (codes "narrowest") (codes "500") rows))
+IsWrong rows = (¬ IsNumber (value_in (codes "narrowest") (codes "500") rows))
+    ⊎ (¬ IsNumber (value_in (codes "depth") (codes "0") rows))
+    ⊎ (¬ IsNumber (value_in (codes "fold") (codes "0") rows))
+    ⊎ (¬ IsNumber (value_in (codes "top") (codes "0") rows))
     ⊎ (1 < count_by is_input (values_in (codes "FILE") rows))
-    ⊎ (IsFlag (codes "text") rows true × (0 < length (values_in (codes "before") rows)))
+    ⊎ ((as_text : Bool) × IsFlag (codes "text") rows as_text
+    × Disagree as_text (digits_value 10 (value_in (codes "top") (codes "0") rows)) (length (values_in (codes "before") rows)))
 
 -- The words are wrong: clap refuses them, or what it finds in them asks for nothing.
 abbrev pub IsRefused : List Text → Type 0

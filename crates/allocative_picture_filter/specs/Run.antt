@@ -1,10 +1,12 @@
 -- What a run makes of its texts, and what stops it.
-use Rattle.std.specs.Prelude.{◌≡◌, ℕ, ◌+◌, ◌^◌, ◌<◌, ◌≤◌, ◌==◌, ◌⊎◌, ◌||◌, Bool, true, cond, List, [], ◌∷◌, ◌++◌}
-use Rattle.std.specs.Prelude.{length, drop, map, nat_eq, IsUtf8, ⊤, IsTrue}
+use Rattle.std.specs.Prelude.{◌≡◌, ℕ, ◌+◌, ◌-◌, ◌^◌, ◌<◌, ◌≤◌, ◌==◌, ◌⊎◌, ◌||◌, ◌&&◌, Bool, true, false, not, cond, List, []}
+use Rattle.std.specs.Prelude.{◌∷◌, ◌++◌, length, drop, map, nat_eq, nat_lt, IsUtf8, ⊤, IsTrue, MatchBool}
 use Rattle.std.specs.List.{starts_with}
 use Rattle.allocative_graph.specs.Graph.{Graph, default, sum_of, text, total}
 use Rattle.allocative_graph.specs.Read.{IsRead, IsFault, Exceeds}
 use Rattle.allocative_picture.specs.Picture.{profile_drawing, change_drawing}
+use Rattle.allocative_picture.specs.Table.{IsTable}
+use Rattle.allocative_picture.specs.Views.{IsOutline, by_last_key}
 use Rattle.allocative_picture.specs.declared.options.Options.{Options}
 use Rattle.allocative_picture_filter.specs.Fault.{IsReadingOf}
 use Rattle.allocative_picture_filter.specs.declared.arguments.Arguments.{Arguments}
@@ -55,25 +57,59 @@ AddUpOnto g (t ∷ ts) h = (next : Graph) × Adds g t next × AddUpOnto next ts 
 abbrev pub AddUp : List Sourced → Graph → Type 0
 AddUp ts h = AddUpOnto default ts h
 
--- ---- what is written
--- What is written of the graph of the earlier texts and of that of the others.
-abbrev pub written_of : Bool → Bool → Options → Graph → Graph → List ℕ
-written_of as_text is_alone o g h = cond as_text (text h) (cond is_alone (profile_drawing o h) (change_drawing o g h))
+-- ---- what is shown
+-- Whether the picture of a change is asked for, if there are so many earlier texts.
+abbrev pub is_change : Arguments → ℕ → Bool
+is_change asked before = not (asked.as_text || nat_lt 0 asked.top || (before == 0))
 
--- What is written of these texts is what the arguments ask for: the text of the graph that they add up to; its picture;
--- or, if there are earlier texts, that of the change from the graph of these. A picture has the title and the width of
--- the narrowest box that are asked for, and no warned path. The graph has bytes if it is asked not to be empty.
+-- Whether graphs are outlined.
+abbrev pub is_outlined : Arguments → Bool
+is_outlined asked = not ((asked.depth == 0) && (asked.fold == 0))
+
+-- A number that limits, or the greatest one if it is 0.
+abbrev pub limit_of : ℕ → ℕ
+limit_of n = cond (n == 0) (2 ^ 64 - 1) n
+
+-- The children are counted in the later graph, and in that of a change also in the earlier one.
+abbrev pub guide_of : Bool → Graph → Graph → Graph
+guide_of change g h = cond change (sum_of h g) h
+
+-- The graph s is what is shown of g, if u guides its outline: the outline that the arguments ask for, or g itself, and
+-- of that the bytes by last key if these are asked for.
+pub record IsShown (asked : Arguments) (u g s : Graph) : Type 0 where
+  pub outline : Graph
+  pub outlined : is_outlined asked ≡ true → IsOutline (limit_of asked.depth) (limit_of asked.fold) u g outline
+  pub whole : is_outlined asked ≡ false → outline ≡ g
+  pub is : s ≡ cond asked.by_last_key (by_last_key outline) outline
+
+-- ---- what is written
+-- The options of a picture are those that are asked for, with no warned path.
+pub record IsOptions (asked : Arguments) (o : Options) : Type 0 where
+  pub title : o.title ≡ asked.title
+  pub warned : o.warned.now ≡ []
+  pub narrowest : o.narrowest ≡ asked.narrowest
+  pub unit : o.unit ≡ asked.unit
+
+-- What is written of the earlier graph and of the later one is what the arguments ask for: the text of the later graph;
+-- the table of its heaviest paths; the picture of the change; or its own picture.
+abbrev pub Writes : Arguments → Bool → Graph → Graph → List ℕ → Type 0
+Writes asked change g h made = MatchBool asked.as_text (made ≡ text h)
+    (MatchBool (nat_lt 0 asked.top) (IsTable asked.top h made)
+    ((o : Options) × IsOptions asked o × (made ≡ cond change (change_drawing o g h) (profile_drawing o h))))
+
+-- What is written of these texts is what the arguments ask for, of what is shown of the graphs that they add up to. The
+-- later graph has bytes if it is asked not to be empty.
 pub record IsMade (asked : Arguments) (before : List Text) (after : List Sourced) (made : List ℕ) : Type 0 where
   pub earlier : Graph
   pub later : Graph
   pub earlier_read : AddUp (map sourced before) earlier
   pub later_read : AddUp after later
-  pub options : Options
-  pub title : options.title ≡ asked.title
-  pub warned : options.warned.now ≡ []
-  pub narrowest : options.narrowest ≡ asked.narrowest
   pub some : IsTrue asked.not_empty → 0 < total later
-  pub is : made ≡ written_of asked.as_text (length before == 0) options earlier later
+  pub shown_earlier : Graph
+  pub shown_later : Graph
+  pub earlier_shown : IsShown asked (guide_of (is_change asked (length before)) earlier later) earlier shown_earlier
+  pub later_shown : IsShown asked (guide_of (is_change asked (length before)) earlier later) later shown_later
+  pub is : Writes asked (is_change asked (length before)) shown_earlier shown_later made
 
 -- ---- what stops a run
 -- Why no graph is read of a text: memory runs out; it is not UTF-8; a line of it is none; or its bytes exceed a word.
@@ -108,8 +144,8 @@ StopsProfile ts reads_input known f = StopsAddingUp default (later_texts ts read
 -- Why nothing is made of the graph g of the earlier texts and of that of the others: memory runs out, or a change is
 -- asked for, and their bytes together exceed a word.
 abbrev pub StopsWriting : Bool → Graph → List Sourced → Fault → Type 0
-StopsWriting is_alone g after f =
-    (h : Graph) × AddUp after h × StopsJoining (cond is_alone 0 (total g + total h)) f
+StopsWriting change g after f =
+    (h : Graph) × AddUp after h × StopsJoining (cond change (total g + total h) 0) f
 
 -- Why a profile is refused: it has 0 bytes, and is asked not to be empty.
 abbrev pub StopsEmpty : Bool → List Sourced → Fault → Type 0
@@ -122,4 +158,4 @@ abbrev pub Stops : Arguments → List Text → List Text → List ℕ → Fault 
 Stops asked before after known f = StopsAddingUp default (map sourced before) f
     ⊎ ((g : Graph) × AddUp (map sourced before) g × (StopsProfile after asked.reads_input known f
     ⊎ StopsEmpty asked.not_empty (later_texts after asked.reads_input known) f
-    ⊎ StopsWriting (asked.as_text || (length before == 0)) g (later_texts after asked.reads_input known) f))
+    ⊎ StopsWriting (is_change asked (length before)) g (later_texts after asked.reads_input known) f))

@@ -1,9 +1,9 @@
 //! The arguments of the program.
-ghost use Rattle.std.specs.Prelude.{◌≡◌, ◌≢◌, ◌<◌, ⊤, [], ◌↔◌, ◌||◌, ◌==◌, IfOk, IfErr, IsTrue, false, map, not, nat_lt, filter, count_by, length};
+ghost use Rattle.std.specs.Prelude.{◌≡◌, ◌≢◌, ⊤, [], ◌||◌, ◌==◌, IfOk, IfErr, IfSome, IfNone, false, map, not, nat_lt, filter, count_by, length};
 ghost use Rattle.std.specs.Str.Parse.{digits_value};
 ghost use Rattle.std.specs.Option.{SomeIff};
 ghost use Rattle.clap.specs.Words.{app_of, fault_of, kind_of, found_of, rows_of, rule_of, matches_of};
-ghost use Rattle.allocative_picture_filter.specs.Arguments.{IsAsked, IsFlag, IsRefused, IsWidth, IsWrong, StopsAsking, is_input, named, picture_app, valued, value_in, values_in, words_of};
+ghost use Rattle.allocative_picture_filter.specs.Arguments.{Disagree, IsAsked, IsFlag, IsNumber, IsNumberIn, IsRefused, IsWrong, StopsAsking, is_input, named, picture_app, title_of, valued, value_in, values_in, words_of};
 
 use crate::fault::Fault;
 use clap::error::ErrorKind;
@@ -23,6 +23,16 @@ pub struct Arguments<'a> {
     pub title: &'a str,
     /// The width of the narrowest box, in millionths of the width of the picture.
     pub narrowest: u32,
+    /// What the numbers of the lines count.
+    pub unit: &'a str,
+    /// The greatest number of keys of a path that is shown, or 0 if paths are not cut.
+    pub depth: u32,
+    /// The greatest number of children of a path that keep their keys, or 0 if no keys are folded.
+    pub fold: u32,
+    /// How many lines of a table are written in place of the picture, or 0 if the picture is.
+    pub top: u32,
+    /// Whether to add up the paths that end in a key.
+    pub by_last_key: bool,
     /// The files of the earlier profile. If there is one, the picture is that of a change.
     pub before: Vec<&'a str>,
     /// The files of the profile.
@@ -58,8 +68,13 @@ fn command<'a>(alloc: Global) -> Result<Command<'a>, AllocError>
         .arg(named(alloc, "help", ArgAction::SetTrue))?
         .arg(named(alloc, "text", ArgAction::SetTrue))?
         .arg(named(alloc, "not-empty", ArgAction::SetTrue))?
+        .arg(named(alloc, "by-last-key", ArgAction::SetTrue))?
         .arg(valued(alloc, "title", ArgAction::Set, "TEXT"))?
         .arg(valued(alloc, "narrowest", ArgAction::Set, "WIDTH"))?
+        .arg(valued(alloc, "unit", ArgAction::Set, "WORD"))?
+        .arg(valued(alloc, "depth", ArgAction::Set, "KEYS"))?
+        .arg(valued(alloc, "fold", ArgAction::Set, "CHILDREN"))?
+        .arg(valued(alloc, "top", ArgAction::Set, "LINES"))?
         .arg(valued(alloc, "before", ArgAction::Append, "EARLIER"))?
         .arg(Arg::new(alloc, "FILE").action(ArgAction::Append))
 }
@@ -92,9 +107,9 @@ fn clap_fault<'a>(alloc: Global, error: &Error) -> Fault<'a>
     argument_fault(reason_of(alloc, error))
 }
 
-// The width that a text writes in decimal digits alone.
-fn width_of(text: &str) -> Option<u32>
-    ensures { SomeIff result (IsWidth text.now) (digits_value 10 text.now) }
+// The number that a text writes in decimal digits alone.
+fn number_of(text: &str) -> Option<u32>
+    ensures { SomeIff result (IsNumber text.now) (digits_value 10 text.now) }
 {
     if text.starts_with('+') {
         return None;
@@ -116,6 +131,36 @@ fn value_of<'a>(matches: &ArgMatches<'a>, name: &str, otherwise: &'a str) -> &'a
     ensures { result.now ≡ value_in name.now otherwise.entry.now (rows_of (found_of matches.now)) }
 {
     matches.get_str(name).unwrap_or(otherwise)
+}
+
+// The number that is the value of an argument, or another if it has none.
+fn number_in<'a>(
+    alloc: Global,
+    matches: &ArgMatches<'a>,
+    name: &str,
+    otherwise: &'a str,
+    takes: &str,
+) -> Result<u32, Fault<'a>>
+    ensures ok { IfOk result
+        (IsNumberIn name.now otherwise.entry.now (rows_of (found_of matches.now))) }
+    ensures err { IfErr result
+        (StopsAsking (¬ IsNumber (value_in name.now otherwise.entry.now (rows_of (found_of matches.now))))) }
+{
+    let value = value_of(matches, name, otherwise);
+    let Some(number) = number_of(value) else {
+        return Err(argument_fault(format!(in alloc; "--{name} takes {takes}, not {value}")));
+    };
+    Ok(number)
+}
+
+// The title of what counts so, if there is no other.
+fn title_of(unit: &str) -> &'static str
+    ensures { result.now ≡ title_of unit.now }
+{
+    if unit == "bytes" {
+        return "Declared bytes";
+    }
+    "Profile"
 }
 
 // The values of an argument.
@@ -162,11 +207,22 @@ fn is_input_asked(inputs: usize, files: &[&str]) -> bool
     inputs > 0 || files.is_empty()
 }
 
-// Whether the text of a change is asked for.
-fn is_text_of_change(as_text: bool, before: &[&str]) -> bool
-    ensures { IsTrue result ↔ (IsTrue as_text × (0 < length before.now)) }
+// Which two arguments do not go together, if the text, so many lines of a table and a change are asked for.
+fn discord_of(as_text: bool, top: u32, before: &[&str]) -> Option<&'static str>
+    ensures some { IfSome result (λ _. Disagree as_text top (length before.now)) }
+    ensures none { IfNone result (¬ Disagree as_text top (length before.now)) }
 {
-    as_text && !before.is_empty()
+    let is_change = !before.is_empty();
+    if as_text && is_change {
+        return Some("--text does not go with --before");
+    }
+    if top > 0 && is_change {
+        return Some("--top does not go with --before");
+    }
+    if as_text && top > 0 {
+        return Some("--text does not go with --top");
+    }
+    None
 }
 
 // What is asked for.
@@ -174,12 +230,11 @@ fn asked_by<'a>(alloc: Global, matches: &ArgMatches<'a>) -> Result<Arguments<'a>
     ensures ok { IfOk result (IsAsked (rows_of (found_of matches.now))) }
     ensures err { IfErr result (StopsAsking (IsWrong (rows_of (found_of matches.now)))) }
 {
-    let width = value_of(matches, "narrowest", "500");
-    let Some(narrowest) = width_of(width) else {
-        return Err(argument_fault(format!(in alloc;
-            "--narrowest takes millionths of the width, not {width}"
-        )));
-    };
+    let takes = "millionths of the width";
+    let narrowest = number_in(alloc, matches, "narrowest", "500", takes)?;
+    let depth = number_in(alloc, matches, "depth", "0", "a number of keys")?;
+    let fold = number_in(alloc, matches, "fold", "0", "a number of children")?;
+    let top = number_in(alloc, matches, "top", "0", "a number of lines")?;
     let names = values_of(alloc, matches, "FILE")?;
     let names = names.as_slice();
     let inputs = inputs_among(names);
@@ -188,27 +243,34 @@ fn asked_by<'a>(alloc: Global, matches: &ArgMatches<'a>) -> Result<Arguments<'a>
     }
     let before = values_of(alloc, matches, "before")?;
     let as_text = flag(matches, "text");
-    if is_text_of_change(as_text, before.as_slice()) {
-        return Err(argument_fault(String::from_str(alloc, "--text does not go with --before")));
+    if let Some(discord) = discord_of(as_text, top, before.as_slice()) {
+        return Err(argument_fault(String::from_str(alloc, discord)));
     }
     let after = files_among(alloc, names)?;
+    let unit = value_of(matches, "unit", "bytes");
     Ok(Arguments {
         help: flag(matches, "help"),
         as_text,
         not_empty: flag(matches, "not-empty"),
-        title: value_of(matches, "title", "Declared bytes"),
+        title: value_of(matches, "title", title_of(unit)),
         narrowest,
+        unit,
+        depth,
+        fold,
+        top,
+        by_last_key: flag(matches, "by-last-key"),
         before,
         reads_input: is_input_asked(inputs, after.as_slice()),
         after,
     })
 }
 
-/// Reads the arguments by `clap`: `--help`, `--text`, `--not-empty`, `--title` with a text, `--narrowest` with a number of
-/// millionths, `--before` with the name of a file, names of files, and `-` for the input, which is also read if no file
-/// of the profile is named. Of several titles or widths the last one counts. It fails with `Fault::Arguments` if `clap`
-/// refuses the words, if the width is not a number below 2^32 in decimal digits alone, if `-` is repeated, or if the text
-/// of a change is asked for. The only other error is `Fault::Memory`.
+/// Reads the arguments by `clap`: `--help`, `--text`, `--not-empty`, `--by-last-key`, `--title` and `--unit` with a text,
+/// `--narrowest`, `--depth`, `--fold` and `--top` with a number, `--before` with the name of a file, names of files, and
+/// `-` for the input, which is also read if no file of the profile is named. Of several uses of one with a text or a
+/// number the last one counts. It fails with `Fault::Arguments` if `clap` refuses the words, if a number is not below
+/// 2^32 in decimal digits alone, if `-` is repeated, or if two of a text, a table and a change are asked for. The only
+/// other error is `Fault::Memory`.
 pub fn read_arguments<'a>(alloc: Global, words: &'a [String]) -> Result<Arguments<'a>, Fault<'a>>
     ensures ok { IfOk result (IsAsked (matches_of picture_app (words_of words.entry.now))) }
     ensures taken { IfOk result (λ _. fault_of picture_app (words_of words.entry.now) ≡ []) }

@@ -1,30 +1,37 @@
 //! The whole program, over any reader and two writers.
-ghost use Rattle.std.specs.Prelude.{◌≡◌, ◌≢◌, ◌⊎◌, ◌&&◌, ◌==◌, ℕ, OnOk, IfOk, IfErr, IfSome, List, map, string_bytes};
+ghost use Rattle.std.specs.Prelude.{◌≡◌, ◌≢◌, ◌+◌, ◌^◌, ◌≤◌, ◌⊎◌, ◌&&◌, ◌==◌, true, false, cond, ℕ, OnOk, IfOk, IfErr, IfSome, IsErrOf, List, map, string_bytes};
 ghost use Rattle.std.specs.Io.KnownBytes.{Appends};
-ghost use Rattle.allocative_graph.specs.Graph.{default, total};
+ghost use Rattle.allocative_graph.specs.Graph.{Graph, default, total};
 ghost use Rattle.allocative_io.specs.Streams.{AppendsBeginning};
 ghost use Rattle.allocative_picture_filter.specs.Fault.{IsReadingOf};
-ghost use Rattle.allocative_picture_filter.specs.Run.{sourced, without_mark, later_texts, Reads, Adds, AddUp, StopsReading, StopsAdding, StopsAddingUp, StopsProfile, Stops, IsMade};
+ghost use Rattle.allocative_picture_filter.specs.Run.{sourced, without_mark, later_texts, Reads, Adds, AddUp, StopsReading, StopsAdding, StopsAddingUp, StopsProfile, Stops, IsMade, IsShown, Writes, guide_of, is_change, is_outlined, limit_of};
+ghost use Rattle.allocative_picture.specs.Views.{IsOutline};
 
 use crate::arguments::Arguments;
 use crate::fault::{Fault, Source};
 use allocative_graph::flamegraph::FlameGraph;
 use allocative_graph::read::ReadFault;
+use allocative_graph::refusal::Refusal;
 use allocative_io::{ReadError, read_input, write_text};
 use allocative_picture::options::Options;
 use allocative_picture::picture::{change_picture, picture};
-use std::alloc::Global;
+use allocative_picture::table::table;
+use allocative_picture::views::{by_last_key, outline};
+use std::alloc::{AllocError, Global};
 use std::io::{Read, Write};
 
 /// How the program is used.
 pub const USAGE: &str =
-    r"usage: allocative-picture [--title TEXT] [--narrowest WIDTH] [--text] [--not-empty] [--before EARLIER].. [FILE | -]..
+    r"usage: allocative-picture [--title TEXT] [--unit WORD] [--narrowest WIDTH] [--depth KEYS] [--fold CHILDREN]
+    [--by-last-key] [--text | --top LINES] [--not-empty] [--before EARLIER].. [FILE | -]..
 
 Adds up collapsed stacks, lines of keys joined by `;`, a space and a number of bytes, and writes their picture to
 standard output. They are read from the files, and from standard input where `-` or no file is named. With files of
-earlier stacks the picture is that of the change. With --text the added lines are written in place of a picture.
-WIDTH is that of the narrowest box, in millionths of the picture's width. With --not-empty a profile of 0 bytes is
-refused.
+earlier stacks the picture is that of the change. With --text the added lines are written in place of a picture, and
+with --top a table of the heaviest paths. --depth adds what is below so many keys to its ancestor. --fold makes the
+children of a path that has more than so many one child `{}`. --by-last-key adds up the paths that end in a key. WORD
+is what the numbers count, `bytes` if it is not given. WIDTH is that of the narrowest box, in millionths of the
+picture's width. With --not-empty a profile of 0 bytes is refused.
 ";
 
 /// A text, and where it comes from. Its bytes are kept as long as the program runs, since the keys of a graph are
@@ -144,7 +151,126 @@ fn is_refused(not_empty: bool, profile: &FlameGraph) -> bool
     not_empty && profile.total_size() == 0
 }
 
-// Makes what the arguments ask for: the added text, the picture, or that of a change.
+// Whether the picture of a change is asked for, if there are so many earlier texts.
+fn is_change(asked: &Arguments<'_>, before: usize) -> bool
+    ensures { result ≡ is_change asked.now before }
+{
+    !(asked.as_text || asked.top > 0 || before == 0)
+}
+
+// Whether graphs are outlined.
+fn is_outlined(asked: &Arguments<'_>) -> bool
+    ensures { result ≡ is_outlined asked.now }
+{
+    !(asked.depth == 0 && asked.fold == 0)
+}
+
+// A number that limits, or the greatest one if it is 0.
+fn limit_of(number: u32) -> usize
+    ensures { result ≡ limit_of number }
+{
+    if number == 0 {
+        return usize::MAX;
+    }
+    number as usize
+}
+
+// The graph in which children are counted. If nothing is outlined, none is made.
+fn guide_of(
+    alloc: Global,
+    asked: &Arguments<'_>,
+    change: bool,
+    earlier: &FlameGraph,
+    later: &FlameGraph,
+) -> Result<FlameGraph, Refusal>
+    ensures guide { IfOk result
+        (λ guide. is_outlined asked.now ≡ true → guide ≡ guide_of change earlier.now later.now) }
+    ensures too_large { IsErrOf result Refusal.TooLarge
+        → 2 ^ 64 ≤ cond change (total earlier.now + total later.now) 0 }
+{
+    if !is_outlined(asked) {
+        return Ok(FlameGraph::default(alloc));
+    }
+    let mut guide = later.clone()?;
+    if change {
+        guide.add(earlier.clone()?)?;
+    }
+    Ok(guide)
+}
+
+// The outline of a graph that the arguments ask for, or the graph itself.
+fn outline_of(
+    alloc: Global,
+    asked: &Arguments<'_>,
+    guide: &FlameGraph,
+    graph: FlameGraph,
+) -> Result<FlameGraph, AllocError>
+    ensures outlined { IfOk result (λ made. is_outlined asked.now ≡ true
+        → IsOutline (limit_of asked.now.depth) (limit_of asked.now.fold) guide.now graph made) }
+    ensures whole { IfOk result (λ made. is_outlined asked.now ≡ false → made ≡ graph) }
+    ensures total { IfOk result (λ made. total made ≡ total graph) }
+{
+    if !is_outlined(asked) {
+        return Ok(graph);
+    }
+    outline(
+        alloc,
+        guide,
+        &graph,
+        limit_of(asked.depth),
+        limit_of(asked.fold),
+    )
+}
+
+// What is shown of a graph.
+fn shown(
+    alloc: Global,
+    asked: &Arguments<'_>,
+    guide: &FlameGraph,
+    graph: FlameGraph,
+) -> Result<FlameGraph, AllocError>
+    ensures shown { IfOk result (λ made. (u : Graph)
+        → (is_outlined asked.now ≡ true → guide.now ≡ u) → IsShown asked.now u graph made) }
+    ensures total { IfOk result (λ made. total made ≡ total graph) }
+{
+    let outlined = outline_of(alloc, asked, guide, graph)?;
+    if asked.by_last_key {
+        return by_last_key(alloc, &outlined);
+    }
+    Ok(outlined)
+}
+
+// What is written of what is shown: the text, the table, the picture, or that of a change.
+fn written(
+    alloc: Global,
+    asked: &Arguments<'_>,
+    change: bool,
+    earlier: &FlameGraph,
+    later: &FlameGraph,
+) -> Result<String, Refusal>
+    ensures ok { IfOk result
+        (λ made. Writes asked.now change earlier.now later.now (string_bytes made)) }
+    ensures too_large { IsErrOf result Refusal.TooLarge
+        → 2 ^ 64 ≤ cond change (total earlier.now + total later.now) 0 }
+{
+    let options = Options {
+        title: asked.title,
+        narrowest: asked.narrowest,
+        unit: asked.unit,
+        ..Options::default()
+    };
+    if asked.as_text {
+        later.write()
+    } else if asked.top > 0 {
+        Ok(table(alloc, later, asked.top as usize)?)
+    } else if change {
+        change_picture(alloc, earlier, later, &options)
+    } else {
+        picture(alloc, later, &options)
+    }
+}
+
+// Makes what the arguments ask for.
 fn make<'a, R: Read>(
     alloc: Global,
     asked: &Arguments<'a>,
@@ -159,21 +285,14 @@ fn make<'a, R: Read>(
 {
     let earlier = graph_of_all(alloc, before)?;
     let later = later_graph(alloc, after, asked.reads_input, input)?;
-    let options = Options {
-        title: asked.title,
-        narrowest: asked.narrowest,
-        ..Options::default()
-    };
     if is_refused(asked.not_empty, &later) {
         return Err(Fault::Empty);
     }
-    if asked.as_text {
-        Ok(later.write()?)
-    } else if before.is_empty() {
-        Ok(picture(alloc, &later, &options)?)
-    } else {
-        Ok(change_picture(alloc, &earlier, &later, &options)?)
-    }
+    let change = is_change(asked, before.len());
+    let guide = guide_of(alloc, asked, change, &earlier, &later)?;
+    let shown_earlier = shown(alloc, asked, &guide, earlier)?;
+    let shown_later = shown(alloc, asked, &guide, later)?;
+    Ok(written(alloc, asked, change, &shown_earlier, &shown_later)?)
 }
 
 /// Runs the program but for reading its arguments and files.

@@ -37,6 +37,7 @@ fn warned_and_unused_paths_are_marked(rt: HostRuntime) -> Result<(), Refusal> {
         title: "A & B",
         warned: &warned,
         narrowest: 500,
+        unit: "bytes",
     };
     let text = picture(alloc, &graph, &options)?;
     assert!(rt; text.starts_with(MARKED[0]) && text.ends_with("]]></script>\n</svg>\n"));

@@ -1,14 +1,33 @@
--- What clap finds asks for this.
-use Rattle.std.proofs.Common.{◌≡◌, ◌∙◌, ◌||◌, ◌==◌, map, ap, ap₂, arith, length, nat_lt, IsTrue, false}
+-- What clap finds asks for this, or for nothing.
+use Rattle.std.proofs.Common.{◌≡◌, ◌∙◌, ℕ, List, Bor, ◌||◌, ◌==◌, map, ap, ap₂, sym, subst₂, arith, length, nat_lt, inl, inr}
+use Rattle.std.proofs.lemmas.List.{length-map}
 use Rattle.std.specs.Prelude.{codes, filter, count_by, not}
 use Rattle.clap.specs.Words.{found_of, rows_of}
-use Rattle.allocative_picture_filter.specs.Arguments.{is_input, values_in}
+use Rattle.allocative_picture_filter.specs.Arguments.{Disagree, is_input, value_in, values_in}
+use Rattle.allocative_picture_filter.proofs.Faults.{because, holds-of}
 use Rattle.allocative_picture_filter.proofs.arguments.asked_by.Goals as goal
+
+-- A number that is none is wrong.
+pub returns-in_err-narrowest-clause-err : goal.returns-in_err-narrowest-clause-err
+returns-in_err-narrowest-clause-err c = holds-of c.from_residual.result _ _ c.from_residual.ensures.1
+    (because c.in_err-narrowest.field-0.0 _ _ (λ w. inl w) c.in_err-narrowest.ensures.err)
+
+pub returns-in_err-depth-clause-err : goal.returns-in_err-depth-clause-err
+returns-in_err-depth-clause-err c = holds-of c.from_residual-in_err-depth.result _ _
+    c.from_residual-in_err-depth.ensures.1
+    (because c.in_err-depth.field-0.0 _ _ (λ w. inr (inl w)) c.in_err-depth.ensures.err)
+
+pub returns-in_err-fold-clause-err : goal.returns-in_err-fold-clause-err
+returns-in_err-fold-clause-err c = holds-of c.from_residual-in_err-fold.result _ _ c.from_residual-in_err-fold.ensures.1
+    (because c.in_err-fold.field-0.0 _ _ (λ w. inr (inr (inl w))) c.in_err-fold.ensures.err)
+
+pub returns-in_err-top-clause-err : goal.returns-in_err-top-clause-err
+returns-in_err-top-clause-err c = holds-of c.from_residual-in_err-top.result _ _ c.from_residual-in_err-top.ensures.1
+    (because c.in_err-top.field-0.0 _ _ (λ w. inr (inr (inr (inl w)))) c.in_err-top.ensures.err)
 
 pub returns-clause-ok : goal.returns-clause-ok
 returns-clause-ok c =
     let rows = rows_of (found_of c.args.matches.now) in
-    let width = rw c.value_of-width.ensures at c.in-Some.ensures in
     let names : map (λ name. name.now) c.as_slice-names.result.now ≡ values_in (codes "FILE") rows =
     ap (map (λ name. name.now)) c.as_slice-names.ensures.value ∙ c.in_ok-names.ensures in
     let inputs : c.inputs_among-inputs.result ≡ count_by is_input (values_in (codes "FILE") rows) =
@@ -17,12 +36,32 @@ returns-clause-ok c =
       help = c.flag.ensures;
       as_text = c.flag-as_text.ensures;
       not_empty = c.flag-2.ensures;
-      title = c.value_of.ensures;
-      width = width.0;
-      narrowest = width.1;
+      unit = c.value_of-unit.ensures;
+      title = c.value_of.ensures ∙ ap (λ title. value_in (codes "title") title rows) c.title_of.ensures;
+      narrowest = c.in_ok-narrowest.ensures.ok;
+      depth = c.in_ok-depth.ensures.ok;
+      fold = c.in_ok-fold.ensures.ok;
+      top = c.in_ok-top.ensures.ok;
+      by_last_key = c.flag-3.ensures;
       before = c.in_ok-before.ensures;
       after = c.in_ok-after.ensures ∙ ap (filter (λ name. not (is_input name))) names;
       reads_input = c.is_input_asked.ensures ∙ ap₂ (λ n files. nat_lt 0 n || (length files == 0)) inputs c.as_slice-2.ensures.value;
       input_once = omega (arith, inputs);
-      text_of_one = λ both. let no : IsTrue false = c.if-is_text_of_change.ensures.1 (both.0, rw c.as_slice.ensures.value both.1) in absurd (cc);
+      agree = rw (← c.as_slice.ensures.value) c.in_default.ensures.none;
     }
+
+-- Two arguments that do not go together are wrong.
+pub returns-in-Some-clause-err : goal.returns-in-Some-clause-err
+returns-in-Some-clause-err c =
+    let rows = rows_of (found_of c.args.matches.now) in
+    let count : length c.as_slice.result.now ≡ length (values_in (codes "before") rows) =
+    ap length c.as_slice.ensures.value
+    ∙ sym (length-map c.in_ok-before.before.items (λ (name : Bor (List ℕ)). name.now))
+    ∙ ap length c.in_ok-before.ensures in
+    because c.argument_fault-in-Some.result _ _
+    (λ _. inr (inr (inr (inr (inr (
+      c.flag-as_text.result,
+      c.flag-as_text.ensures,
+      subst₂ (λ (n m : ℕ). Disagree c.flag-as_text.result n m) c.in_ok-top.ensures.ok.1 count c.in-Some.ensures.some,
+    ))))))
+    c.argument_fault-in-Some.ensures

@@ -23,7 +23,12 @@ returns c =
     let one = adds _ _ _ _ _ c.in_ok-arg.ensures c.named.ensures.local start c.named.ensures.rule in
     let two = adds _ _ _ _ _ c.in_ok-arg-2.ensures c.named-2.ensures.local one c.named-2.ensures.rule in
     let three = adds _ _ _ _ _ c.in_ok-arg-3.ensures c.named-3.ensures.local two c.named-3.ensures.rule in
-    let four = adds _ _ _ _ _ c.in_ok-arg-4.ensures c.valued.ensures.local three c.valued.ensures.rule in
-    let five = adds _ _ _ _ _ c.in_ok-arg-5.ensures c.valued-2.ensures.local four c.valued-2.ensures.rule in
-    let six = adds _ _ _ _ _ c.in_ok-arg-6.ensures c.valued-3.ensures.local five c.valued-3.ensures.rule in
-    IfOk-weaker c.arg-7.result _ _ (λ all added. adds _ _ _ _ _ added (search rules) six (search rules)) c.arg-7.ensures
+    let four = adds _ _ _ _ _ c.in_ok-arg-4.ensures c.named-4.ensures.local three c.named-4.ensures.rule in
+    let five = adds _ _ _ _ _ c.in_ok-arg-5.ensures c.valued.ensures.local four c.valued.ensures.rule in
+    let six = adds _ _ _ _ _ c.in_ok-arg-6.ensures c.valued-2.ensures.local five c.valued-2.ensures.rule in
+    let seven = adds _ _ _ _ _ c.in_ok-arg-7.ensures c.valued-3.ensures.local six c.valued-3.ensures.rule in
+    let eight = adds _ _ _ _ _ c.in_ok-arg-8.ensures c.valued-4.ensures.local seven c.valued-4.ensures.rule in
+    let nine = adds _ _ _ _ _ c.in_ok-arg-9.ensures c.valued-5.ensures.local eight c.valued-5.ensures.rule in
+    let ten = adds _ _ _ _ _ c.in_ok-arg-10.ensures c.valued-6.ensures.local nine c.valued-6.ensures.rule in
+    let eleven = adds _ _ _ _ _ c.in_ok-arg-11.ensures c.valued-7.ensures.local ten c.valued-7.ensures.rule in
+    IfOk-weaker c.arg-12.result _ _ (λ all added. adds _ _ _ _ _ added (search rules) eleven (search rules)) c.arg-12.ensures

@@ -1,13 +1,16 @@
 -- What clap says of the words is what the arguments are read by.
-use Rattle.std.proofs.Common.{◌≡◌, List, [], Result, Ok, Err, IfOk, refl, true, subst, inr}
+use Rattle.std.proofs.Common.{◌≡◌, ◌≢◌, List, [], Result, Ok, Err, IfOk, refl, true, subst, ⊎_elim, inl, inr}
 use Rattle.std.proofs.lemmas.Result.{IfErr-weaker}
 use Rattle.clap.specs.Words.{App, HasMatchesOf, Text, fault_of, found_of, is_simple, is_simple_and_free}
-use Rattle.clap.specs.Words.{matches_of, rows_of}
+use Rattle.clap.specs.Words.{Row, kind_of, matches_of, rows_of}
+use Rattle.clap.specs.Kinds.{HasKind, IsAmong}
+use Rattle.clap.specs.declared.error.Error.{Error}
+use Rattle.clap.specs.declared.error.kind.ErrorKind.{ErrorKind}
+use Rattle.clap.specs.declared.error.kind.ErrorKind.TheVariants.{OutOfMemory}
 use Rattle.clap.specs.declared.parser.matches.ArgMatches.{ArgMatches}
 use Rattle.clap.proofs.OnLiterals.{clap_on_literals}
-use Rattle.allocative_picture_filter.specs.Arguments.{IsWrong, StopsAsking, picture_app}
-use Rattle.allocative_picture_filter.specs.declared.fault.Fault.{Fault}
-use Rattle.allocative_picture_filter.specs.declared.fault.Fault.TheVariants.{Memory, Arguments}
+use Rattle.allocative_picture_filter.specs.Arguments.{IsAsked, IsWrong, picture_app}
+use Rattle.allocative_picture_filter.proofs.Faults.{because}
 use Rattle.allocative_picture_filter.proofs.arguments.read_arguments.Goals as goal
 
 -- The contract of clap says all of such a command.
@@ -35,12 +38,6 @@ anyhow : {X E : Type 0} (r : Result X E) (P : Type 0) → P → IfOk r (λ x. P)
 anyhow (Ok x) P p = p
 anyhow (Err e) P p = tt
 
--- Why nothing is asked for, if that implies another reason.
-because : (f : Fault) (P Q : Type 0) → (P → Q) → StopsAsking P f → StopsAsking Q f
-because Memory P Q more h = tt
-because (Arguments reason) P Q more h = more h
-because f P Q more h = absurd h
-
 pub returns-in-Ok-clause-taken : goal.returns-in-Ok-clause-taken
 returns-in-Ok-clause-taken c =
     anyhow c.asked_by.result _ (taken _ _ c.in_ok-command.ensures c.in-Ok.ensures.kinds)
@@ -49,3 +46,22 @@ pub returns-in-Ok-clause-err : goal.returns-in-Ok-clause-err
 returns-in-Ok-clause-err c =
     IfErr-weaker c.asked_by.result _ _ (λ f. because f _ _ (λ wrong.
     inr (subst IsWrong (found _ _ _ c.in_ok-command.ensures c.in-Ok.ensures.matches) wrong))) c.asked_by.ensures.err
+
+-- What clap finds is asked for.
+pub returns-in-Ok-clause-ok : goal.returns-in-Ok-clause-ok
+returns-in-Ok-clause-ok c =
+    subst (λ (rows : List Row). IfOk c.asked_by.result (IsAsked rows))
+    (found _ _ _ c.in_ok-command.ensures c.in-Ok.ensures.matches) c.asked_by.ensures.ok
+
+-- If clap refuses the words for another reason than memory, they are wrong.
+refused : (app : App) (words : List Text) (e : Error) → app ≡ picture_app →
+    (is_simple_and_free app ≡ true → HasKind (fault_of app words) e) → kind_of e ≢ OutOfMemory →
+    fault_of picture_app words ≢ []
+refused app words e is has other none =
+    let h = rw is at has in
+    ⊎_elim (λ m. other m) (λ among. subst (λ (ks : List ErrorKind). IsAmong (kind_of e) ks) none among) (h free)
+
+pub returns-in-Err-clause-err : goal.returns-in-Err-clause-err
+returns-in-Err-clause-err c =
+    because c.clap_fault.result _ _
+    (λ other. inl (refused _ _ c.in-Err.error c.in_ok-command.ensures c.in-Err.ensures.kinds other)) c.clap_fault.ensures

@@ -1,0 +1,62 @@
+-- Views of a graph: its bytes by last key, and its outline.
+use Rattle.std.specs.Prelude.{◌≡◌, ℕ, zero, suc, ◌<◌, ◌≤◌, ◌⊎◌, ⊤, cond, List, [], ◌∷◌, fold, length, sum_by, codes}
+use Rattle.std.specs.FinMap.{entries}
+use Rattle.allocative_graph.specs.Path.{Key, Path}
+use Rattle.allocative_graph.specs.Graph.{Graph, default, add_self, sum_of, under, total, size_at, IsBehind, HasNothing}
+use Rattle.allocative_graph.specs.Many.{sum_of_all}
+use Rattle.allocative_graph.specs.Report.{ends_in}
+use Rattle.allocative_graph.specs.Rows.{node, AreChildren}
+use Rattle.allocative_graph.specs.declared.flamegraph.Child.{Child}
+
+-- The graph whose root alone has n bytes.
+abbrev pub bytes_alone : ℕ → Graph
+bytes_alone n = add_self n default
+
+-- ---- by last key
+-- The bytes of a path, at its last key alone.
+abbrev pub bytes_at_last_key : Path → ℕ → Graph
+bytes_at_last_key [] n = bytes_alone n
+bytes_at_last_key (k ∷ []) n = sum_of default (under k (bytes_alone n))
+bytes_at_last_key (k ∷ l ∷ p) n = bytes_at_last_key (l ∷ p) n
+
+-- The bytes of all paths by last key: those of all paths that end in a key add up under it.
+abbrev pub by_last_key : Graph → Graph
+by_last_key g = fold (λ h e. sum_of h (bytes_at_last_key e.0 e.1)) default (entries g)
+
+-- The bytes of all paths of g that end in k.
+abbrev pub bytes_ending_in : Key → Graph → ℕ
+bytes_ending_in k g = sum_by (λ e. cond (ends_in k e.0) e.1 0) (entries g)
+
+-- ---- the outline
+-- The graphs of some children, added up.
+abbrev pub joined : List Child → Graph
+joined cs = fold (λ g c. sum_of g c.graph) default cs
+
+-- The children of the root of g.
+pub record HasChildren (g : Graph) (cs : List Child) : Type 0 where
+  pub whole : g ≡ node (size_at g []) cs
+  pub children : AreChildren cs
+
+-- x guides the outline of a child, if g guides that of its parent: it is what g has at the child's key, or the child's
+-- graph if that is nothing.
+abbrev pub GuidesChild : Graph → Child → Graph → Type 0
+GuidesChild g c x = IsBehind g (c.key ∷ []) x ⊎ (HasNothing g (c.key ∷ []) × (x ≡ c.graph))
+
+-- The second list has the keys of the first one in their order, and R holds of each two children with one key.
+abbrev pub InStep : (Child → Graph → Type 0) → List Child → List Child → Type 0
+InStep R [] [] = ⊤
+InStep R [] (d ∷ ds) = ⊥
+InStep R (c ∷ cs) [] = ⊥
+InStep R (c ∷ cs) (d ∷ ds) = (d.key ≡ c.key) × R c d.graph × InStep R cs ds
+
+-- h is the outline of g with at most so many keys a path, if u guides it. The own bytes of the root stay. If u has more
+-- than n children, those of g are one child `{}`, the outline of their sum; otherwise each is outlined.
+unfoldable pub IsOutline : ℕ → ℕ → Graph → Graph → Graph → Type 0
+IsOutline zero n u g h = h ≡ bytes_alone (total g)
+IsOutline (suc l) n u g h =
+    (us : List Child) × (cs : List Child) × HasChildren u us × HasChildren g cs
+    × (((n < length us) × (o : Graph) × IsOutline l n (joined us) (joined cs) o
+    × (h ≡ sum_of (bytes_alone (size_at g [])) (under (codes "{}") o)))
+    ⊎ ((length us ≤ n) × (ds : List Child)
+    × InStep (λ c o. (x : Graph) × GuidesChild u c x × IsOutline l n x c.graph o) cs ds
+    × (h ≡ sum_of_all (bytes_alone (size_at g [])) ds)))

@@ -1,0 +1,131 @@
+//! Views of a flame graph, which say what is heavy where its keys are data: the bytes by last key, and the outline of a
+//! graph. Each is a graph, and keeps the total.
+ghost use Rattle.std.specs.Prelude.{◌≡◌, [], ◌∷◌, IfOk, OnOk};
+ghost use Rattle.allocative_graph.specs.Path.{Key, texts};
+ghost use Rattle.allocative_graph.specs.Graph.{size_at, sum_of, total, under};
+ghost use Rattle.allocative_picture.specs.Views.{by_last_key, bytes_alone, bytes_at_last_key, bytes_ending_in, joined, GuidesChild, IsOutline};
+
+use allocative_graph::flamegraph::{Child, FlameGraph};
+use allocative_graph::key::Key;
+use std::alloc::{AllocError, Global};
+
+/// A graph whose root alone has bytes.
+fn bytes_alone(alloc: Global, bytes: usize) -> Result<FlameGraph, AllocError>
+    ensures { IfOk result (λ graph. graph ≡ bytes_alone bytes) }
+{
+    let mut graph = FlameGraph::default(alloc);
+    if graph.add_self(bytes).is_err() {
+        return Err(AllocError);
+    }
+    Ok(graph)
+}
+
+/// Adds a graph with a key before its paths. The bytes of all views together are those of one graph, so the only error
+/// is that memory runs out.
+fn put(view: &mut FlameGraph, key: Key, graph: FlameGraph) -> Result<(), AllocError>
+    ensures { OnOk result (view.new ≡ sum_of view.old (under key graph)) }
+{
+    if view.add_child(key, graph).is_err() {
+        return Err(AllocError);
+    }
+    Ok(())
+}
+
+/// The graphs of some children, added up.
+#[tactic(auto, using(std::proofs::Common::take_all, crate::proofs::Viewing::joined_more))]
+fn joined(alloc: Global, children: &[Child]) -> Result<FlameGraph, AllocError>
+    ensures { IfOk result (λ graph. graph ≡ joined children.now) }
+{
+    let mut graph = FlameGraph::default(alloc);
+    for child in children {
+        if graph.add(child.graph.clone()?).is_err() {
+            return Err(AllocError);
+        }
+    }
+    Ok(graph)
+}
+
+/// What guides the outline of a child: what the guide has at the child's key, or the child itself if that is nothing.
+fn guide_of<'a>(guide: &'a FlameGraph, child: &'a Child) -> &'a FlameGraph
+    ensures { GuidesChild guide.now child.now result.now }
+{
+    match guide.get(&[child.key.as_str()]) {
+        Some(found) => found,
+        None => &child.graph,
+    }
+}
+
+/// The outline of a graph: the graph cut at a depth, with keys folded.
+///
+/// A path has at most `depth` keys; what is below adds to its ancestor of so many keys. If a path has more than `most`
+/// children, they are one child `{}`, in which their graphs add up before they are folded in turn. With `usize::MAX`
+/// nothing is cut, and no keys are folded. The children are counted in the guide, which is the graph itself, or the sum
+/// of several graphs whose outlines are to be alike. The only error is that memory runs out.
+pub fn outline(
+    alloc: Global,
+    guide: &FlameGraph,
+    graph: &FlameGraph,
+    depth: usize,
+    most: usize,
+) -> Result<FlameGraph, AllocError>
+    ensures outline { IfOk result (IsOutline depth most guide.now graph.now) }
+    ensures total { IfOk result (λ view. total view ≡ total graph.now) }
+{
+    let Some(rest) = depth.checked_sub(1) else {
+        return bytes_alone(alloc, graph.total_size());
+    };
+    let mut view = bytes_alone(alloc, graph.self_size())?;
+    let guides = guide.children();
+    let children = graph.children();
+    if guides.len() > most {
+        let guide_below = joined(alloc, guides)?;
+        let all = joined(alloc, children)?;
+        let below = outline(alloc, &guide_below, &all, rest, most)?;
+        put(&mut view, Key::new("{}"), below)?;
+        return Ok(view);
+    }
+    for child in children {
+        let child_guide = guide_of(guide, child);
+        let below = outline(alloc, child_guide, &child.graph, rest, most)?;
+        put(&mut view, child.key.copy(), below)?;
+    }
+    Ok(view)
+}
+
+/// The bytes of a path, at its last key alone.
+fn bytes_at_last_key(
+    alloc: Global,
+    path: &[&'static str],
+    bytes: usize,
+) -> Result<FlameGraph, AllocError>
+    ensures { IfOk result (λ graph. graph ≡ bytes_at_last_key (texts path.now) bytes) }
+{
+    let graph = bytes_alone(alloc, bytes)?;
+    let Some(key) = path.last() else {
+        return Ok(graph);
+    };
+    let mut view = FlameGraph::default(alloc);
+    put(&mut view, Key::new(*key), graph)?;
+    Ok(view)
+}
+
+/// The bytes of a graph by last key: all paths that end in a key add up under that key alone. The root keeps its own
+/// bytes. The only error is that memory runs out.
+#[tactic(auto, using(crate::proofs::Viewing::row_more))]
+pub fn by_last_key(alloc: Global, graph: &FlameGraph) -> Result<FlameGraph, AllocError>
+    ensures view { IfOk result (λ view. view ≡ by_last_key graph.now) }
+    ensures total { IfOk result (λ view. total view ≡ total graph.now) }
+    ensures sizes { IfOk result (λ view. (k : Key) → size_at view (k ∷ []) ≡ bytes_ending_in k graph.now) }
+{
+    let Ok(rows) = graph.rows() else {
+        return Err(AllocError);
+    };
+    let mut view = FlameGraph::default(alloc);
+    for row in &rows {
+        let added = bytes_at_last_key(alloc, row.path.as_slice(), row.self_size)?;
+        if view.add(added).is_err() {
+            return Err(AllocError);
+        }
+    }
+    Ok(view)
+}
