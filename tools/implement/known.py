@@ -20,8 +20,9 @@ CELLS = "Cell RefCell OnceCell Mutex RwLock OnceLock".split()
 HOMES = dict.fromkeys((*STD, *CELLS, *NUMBERS), "std") | {"Slab": "slab", "SmallVec": "smallvec", "Either": "either"}
 HOMES |= {"IndexMap": "indexmap", "IndexSet": "indexmap", "LruCache": "lru", "Value": "serde_json", "Number": "serde_json"}
 HOMES |= {"OnceBox": "once_cell", "Error": "anyhow", "IdRc": "allocative", "IdArc": "allocative"}
+HOMES |= {"BoundedCache": "allocative_service"}
 # What containers ask of their keys.
-KEYS = dict.fromkeys(("HashMap", "HashSet", "IndexMap", "IndexSet", "LruCache"), ("Eq", "Hash"))
+KEYS = dict.fromkeys(("HashMap", "HashSet", "IndexMap", "IndexSet", "LruCache", "BoundedCache"), ("Eq", "Hash"))
 KEYS |= dict.fromkeys(("BTreeMap", "BTreeSet"), ("Ord",))
 # What types ask of their first parameter.
 ASKED = KEYS | {"Cell": ("Copy",)}

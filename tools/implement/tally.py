@@ -15,7 +15,7 @@ if TYPE_CHECKING:
     from .text import Writer
 
 # Types of the library that have no tally.
-UNTALLIED = set("PhantomData ManuallyDrop Value Number OnceBox LruCache Error IdRc IdArc".split()) | set(CELLS)
+UNTALLIED = set("PhantomData ManuallyDrop Value Number OnceBox LruCache BoundedCache Error IdRc IdArc".split()) | set(CELLS)
 UNTALLIED |= {name for name in NUMBERS if name.startswith("Atomic")}
 # The containers of any number of items.
 MANY = set("Vec VecDeque BTreeMap BTreeSet HashMap HashSet IndexMap IndexSet".split())

@@ -8,6 +8,7 @@ ghost use Rattle.std.specs.Map.Iter.{ShowsInOrder, deref_pair};
 ghost use Rattle.allocative_service.specs.Entries.{bytes_of, KeepsRecent, bounded, with_entries, IsBounded, Inserts, Changes, IsFigure, RefusesInsert, RefusesChange, stored_key, entry_at, value_at, used, without, ends_as, step_of, ChangesTo};
 
 pub mod error;
+mod shown;
 
 pub use crate::cache::error::{CacheError, Refused};
 use crate::measure::Measure;

@@ -1,16 +1,16 @@
-//! What no clause of the services says: that nothing is measured too early, texts of errors, and the order of paths that
-//! grew alike.
+//! What no clause of the services says: that nothing is measured too early, texts of errors, the text of a cache, and the
+//! order of paths that grew alike.
 #![tactic(auto, using(allocative::proofs::Parts::parts))]
 
 ghost use Rattle.allocative.specs.Shows.{Nothing};
 
-use crate::texts::is_text;
+use crate::texts::{is_text, shows};
 use allocative::{Allocative, FlameGraph, Part, Refusal, Visitor};
-use allocative_service::cache::CacheError;
+use allocative_service::cache::{BoundedCache, CacheError};
 use allocative_service::history::{compare, grew_most, report};
 use allocative_service::ledger::{Budget, Ledger, Rejection};
 use allocative_service::measure::Measure;
-use std::alloc::Global;
+use std::alloc::{AllocError, Global};
 use std::cell::Cell;
 use std::test::Fail;
 
@@ -76,6 +76,21 @@ fn services_say_why(rt: HostRuntime) -> Result<(), Fail> {
     let rejection = Rejection::NotMeasured(Refusal::TooLarge);
     let text = format!(in rt.alloc(); "{rejection}")?;
     is_text(text.as_str(), "not measured: sizes do not fit")
+}
+
+/// Two numbers in a cache that has room for both.
+fn two_kept(alloc: Global) -> Result<BoundedCache<u8, u64>, AllocError> {
+    let mut cache = BoundedCache::new(alloc, Measure::Owned, 16)?;
+    let _first = cache.insert(1, 2, |_key, _value| ());
+    let _second = cache.insert(3, 4, |_key, _value| ());
+    Ok(cache)
+}
+
+#[test]
+fn entries_of_a_bounded_cache(rt: HostRuntime) -> Result<(), Fail> {
+    let text =
+        "BoundedCache 24\nBoundedCache;entries;LruCache 56\nBoundedCache;entries;LruCache;ptr 8\nBoundedCache;entries;LruCache;ptr;key;u8 2\nBoundedCache;entries;LruCache;ptr;value;Kept 16\nBoundedCache;entries;LruCache;ptr;value;Kept;value;u64 16\nBoundedCache;entries;LruCache;raw_table 8\nBoundedCache;entries;LruCache;raw_table;alloc 36\n";
+    shows(rt.alloc(), &two_kept(rt.alloc())?, text)
 }
 
 /// Changes of three paths, of which two grew alike.

@@ -10,6 +10,7 @@ use allocative::{Allocative, Field, IdArc, Identity, Inside, Part, Refusal, Visi
 use allocative_described::{
     And, Described, Or, Record, raw_table_alloc_size_for_len, shared_inner_size,
 };
+use allocative_service::cache::BoundedCache;
 use either::Either;
 use indexmap::{IndexMap, IndexSet};
 use lru::LruCache;
@@ -239,6 +240,7 @@ fn types_of_other_crates(rt: HostRuntime) {
         is::<IndexMap<u64, u8, RandomState>>("IndexMap", 72, 8, true),
         is::<IndexSet<u64, RandomState>>("IndexSet", 72, 8, true),
         is::<LruCache<u64, u8>>("LruCache", 72, 8, true),
+        is::<BoundedCache<u8, u64>>("BoundedCache", 96, 8, true),
         is::<Slab<u128>>("Slab", 40, 8, true),
         is::<Value>("Value", 32, 8, true),
         is::<Number>("Number", 16, 8, false),

@@ -143,6 +143,14 @@ class CommandTest(unittest.TestCase):
         told = self.run_it(head + "    a: HashMap<u8, u8, Own>,\n}\n")[2]
         self.assertIn("A.a: `Own` makes hashers, and is no type that is described", told[0])
 
+    def test_a_cache_of_the_service_library(self) -> None:
+        head = "use allocative_service::cache::BoundedCache;\n#[derive(Drop)]\nstruct A<K> {\n"
+        told = self.run_it(head + "    a: BoundedCache<K, u8>,\n}\n")[2]
+        self.assertIn("asks `K: Eq + Hash`", told[0])
+        _, output, told = self.run_it(head.replace("<K>", "<K: Eq + Hash>") + "    a: BoundedCache<K, u8>,\n}\n", "--counted")
+        self.assertIn("type ALayout<K> = Record<(BoundedCache<K, u8>, ())>;", output)
+        self.assertEqual(told, ["implement: A has no tally, as `BoundedCache<K, u8>` has none"])
+
     def test_flags_through_a_cycle(self) -> None:
         two = "#[cycle(x)]\n#[derive(Drop)]\nstruct A {\n    b: Vec<B>,\n    o: OnceBox<u8>,\n}\n"
         two += "#[cycle(x)]\n#[derive(Drop)]\nstruct B {\n    a: Vec<A>,\n}\n"
