@@ -16,7 +16,7 @@ from .tokens import Fault
 
 STALE, ARGUMENTS, FILES, FAULTS = 1, 2, 3, 4
 # The folders of answers, in that of a module.
-ANSWERS = ("+*", "*Allocative/*visit", "*Tallied/tally", "*TallyTally/none")
+ANSWERS = ("+*", "*Allocative/*visit", "*Tallied/*")
 HEAD = re.compile(r"(?:(?://!|#!\[).*\n|\s*\n)*")
 ABOUT = """Writes the implementations of Described and Allocative for the structs and enums of a source file:
 of the types that are named, or of all that have none. They are the text of a module `shown` of the file. The

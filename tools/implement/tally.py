@@ -7,7 +7,7 @@ from functools import reduce
 from typing import TYPE_CHECKING, Any, Callable, NamedTuple
 
 from .known import CELLS, NUMBERS, Scope, split_at_hasher
-from .text import INDENT, WIDTH, bound, called, entered, holds, in_angles, joined, laid, pattern_of
+from .text import INDENT, WIDTH, bound, called, entered, holds, in_angles, joined, laid, pattern_of, size_of
 from .types import Definition, Member, Type, Variant
 
 if TYPE_CHECKING:
@@ -20,18 +20,25 @@ UNTALLIED |= {name for name in NUMBERS if name.startswith("Atomic")}
 # The containers of any number of items.
 MANY = set("Vec VecDeque BTreeMap BTreeSet HashMap HashSet IndexMap IndexSet".split())
 # The modules of the library that have the words of the code.
-HOMES = {"field": {"CountedField", "FieldSum", "FieldTally", "count", "count_own"}}
-HOMES["tally"] = {"CountError", "Entries", "InlineSum", "Sum", "Tallied", "Tally"}
-SHAPES = {"Beside", "EntryAt", "NoEntry", "Wide"}
+HOMES = {"field": {"CountedField", "FieldMany", "OwnTally", "count_own"}}
+HOMES["tally"] = {"CountError", "Entries", "InlineSum", "Sum", "Tallied", "added", "declared"}
+SHAPES = {"Beside", "NoEntry", "entries"}
 HUMP = re.compile(r"(?<=[a-z0-9])(?=[A-Z])")
+STARTING = "#[tactic(auto, using(allocative_tally::proofs::Fields::starting))]\n"
 
 
 class Part(NamedTuple):
-    """What has an entry, with its field of the tally: a field of a kind, or what has other parts inside it."""
+    """What has an entry, with its field of the tally if it has one.
+
+    It is a field, with its type and that of its tally, or what has other parts inside it, with the type of its size.
+    `is_own` says that the values of a field have a number of their own.
+    """
 
     name: str
     key: str
+    type: str
     kind: str = ""
+    is_own: bool = False
     inside: tuple[Part, ...] = ()
 
 
@@ -87,11 +94,12 @@ class Tally:
         self.names: set[str] = set()
         self.arms = [(each, self.part(each)) for each in self.definition.variants]
         parts = tuple(part for _, part in self.arms if part)
-        self.root = Part(self.free("own"), writer.name, "", parts if self.definition.is_enum else parts[0].inside)
-        self.flat = [self.root, *(each for part in self.root.inside for each in (part, *part.inside))]
+        inside = parts if self.definition.is_enum else parts[0].inside
+        self.root = Part("", writer.name, writer.name + writer.applied, inside=inside)
+        self.flat = [each for part in inside for each in (part, *part.inside)]
         self.parameters = [f"S{number + 1}" for number in range(len(self.kinds))]
         self.name = writer.source.free(writer.name, "Tally")
-        self.text = self.struct() + self.tally() + self.tallied()
+        self.text = self.struct() + self.tallied()
 
     # ---- the fields of a tally
     def free(self, name: str) -> str:
@@ -101,121 +109,155 @@ class Tally:
         self.names.add(name)
         return name
 
-    def field(self, member: Member, key: str, name: str) -> Part:
+    def field(self, member: Member, key: str, name: str, is_own: bool = False) -> Part:
         """The part of a field. If its type has parameters, what counts it is a parameter of the tally."""
         kind = f"<{member.type.text} as Tallied>::Tally"
         if any(holds(member.type, each) for each in self.writer.types):
             self.kinds.append(kind)
             kind = f"S{len(self.kinds)}"
-        return Part(self.free(name), key, kind)
+        return Part(self.free(name), key, member.type.text, kind, is_own)
 
     def part(self, variant: Variant) -> Part | None:
         """The part of a variant, or of all fields of a struct."""
         start = f"{HUMP.sub('_', variant.name).lower()}_" if self.definition.is_enum else ""
         if start and not variant.is_entry:
-            return self.field(variant.members[0], variant.name, f"{start}value") if variant.members else None
+            is_there = bool(variant.members)
+            return self.field(variant.members[0], variant.name, f"{start}value", True) if is_there else None
         names = [name if start or name.isidentifier() else f"part{name}" for name in variant.names]
         inside = [self.field(each, each.name, start + name) for each, name in zip(variant.members, names)]
-        return Part(self.free(f"{start}own") if start else "", variant.name, "", tuple(inside))
+        record = self.writer.variant_records[variant.name] if start else ""
+        return Part(self.free(f"{start}count") if start else "", variant.name, record, inside=tuple(inside))
 
     # ---- what counts
     def struct(self) -> str:
         lines = ""
         for part in self.flat:
-            kind = Type("path", f"FieldTally<{part.kind}>", (), (Type("other", part.kind),))
-            lines += f"    {part.name}: {laid(kind, 4, WIDTH - 7 - len(part.name)) if part.kind else 'Sum'},\n"
+            kind = Type("other", part.kind or "usize")
+            kind = Type("path", f"OwnTally<{part.kind}>", (), (kind,)) if part.is_own else kind
+            lines += f"    {part.name}: {laid(kind, 4, WIDTH - 7 - len(part.name))},\n"
         head = f"/// Values of `{self.writer.name}`, counted.\n#[derive(Drop)]\n"
-        return f"{head}pub struct {self.name}{in_angles(self.parameters)} {{\n{lines}}}\n\n"
+        body = f"{{\n{lines}}}" if lines else "{}"
+        return f"{head}pub struct {self.name}{in_angles(self.parameters)} {body}\n\n"
 
-    def shape(self, part: Part) -> str:
-        entry = f'(EntryAt Wide (codes "{part.key}") t.{part.name}'
-        word = part.kind if part.kind in self.parameters else f"⟦<{part.kind} as Tally>⟧"
-        shapes = [self.shape(each) for each in part.inside]
+    def shape(self, part: Part, count: str) -> str:
+        """The entries of a part of so many values, with what is inside them."""
+        value = f"t.{part.name}"
+        if part.is_own:
+            value, count = f"{value}.values", f"{value}.count"
+        elif part.name and not part.kind:
+            count = value
+        head = f'(entries (codes "{part.key}") {size_of(part.type)} {count}'
+        shapes = [self.shape(each, count) for each in part.inside]
         inside = paired(shapes, f"(Beside {{}}\n{INDENT}{{}})".format, "NoEntry")
-        return f"{entry}.own ({word}.shape t.{part.name}.value))" if part.kind else f"{entry}\n{INDENT}{inside})"
-
-    def tally(self) -> str:
-        declared = in_angles([f"{each}: Tally" for each in self.parameters])
-        head = f"impl{declared} Tally for {self.name}{in_angles(self.parameters)} {{\n"
-        none = [f"{part.name}: {'FieldTally' if part.kind else 'Sum'}::none()" for part in self.flat]
-        lines = "".join(f"\n{' ' * 12}{each}," for each in none) + f"\n{INDENT}" if none[1:] else f" {none[0]} "
-        starts = self.starts(self.root, "starts_whole _")[1:-1]
-        self.writer.answer(f"{self.name}Tally/none", [("returns", starts)])
-        return (
-            f"#[tactic(auto)]\n{head}    ghost shape = {{ λ t. {self.shape(self.root)[1:-1]} }};\n\n"
-            f"    fn none() -> Self {{\n{INDENT}{self.name} {{{lines}}}\n    }}\n\n"
-            f"    fn enter(&self, visitor: &mut Visitor<'_>) -> Result<(), Refusal> {{\n{self.entering()}    }}\n}}\n\n"
-        )
-
-    def entering(self) -> str:
-        """The lines that enter what was counted."""
-        names, text = dict(zip(self.flat[1:], bound([part.name for part in self.flat[1:]], 52))), ""
-        for part in sorted(self.flat, key=lambda part: (not part.kind, part is self.root)):
-            inside = paired([names[each] for each in part.inside], "({}, {})".format, "()")
-            word, arguments = "FieldSum", [f'"{part.key}"', f"&self.{part.name}"]
-            if not part.kind:
-                word, arguments = "InlineSum", [f'"{part.key}"', f"self.{part.name}", inside]
-            if part is not self.root:
-                text += INDENT + called(f"let {names[part]} = ", word, arguments, ";", INDENT)
-        return f"{text}{INDENT}{entered(word, arguments, INDENT)}\n"
+        return f"{head} (⟦<{part.type} as Tallied>⟧.shape {value} {count}))" if part.kind else f"{head}\n{INDENT}{inside})"
 
     def tallied(self) -> str:
         writer, kinds = self.writer, tuple(Type("other", each) for each in self.kinds)
         kind = laid(Type("path", self.name + in_angles(self.kinds), (), kinds), 4, WIDTH - 17)
-        body = self.counting(self.root, f"<{writer.name}{writer.applied}>::size()", INDENT)
+        body = f"{INDENT}declared::<{self.root.type}>()?;\n"
         if self.definition.is_enum:
             body += f"{INDENT}match self {{\n{''.join(self.arm(*each) for each in self.arms)}{INDENT}}}\n"
         else:
             body += "".join(self.counting(part, f"&self.{part.key}", INDENT) for part in self.root.inside)
             body += f"{INDENT}Ok(())\n"
         writer.answer(f"{writer.name}Tallied/tally", self.counted(), writer.lemma)
+        writer.answer(f"{writer.name}Tallied/show", [("returns", self.sums())])
         return (
-            f"#[tactic(auto)]\n{writer.head('Tallied', 'Tallied')}    type Tally = {kind};\n\n"
+            f"{STARTING}{writer.head('Tallied', 'Tallied')}    type Tally = {kind};\n\n"
+            f"    ghost shape = {{ λ t n. {self.shape(self.root, 'n')[1:-1]} }};\n\n"
+            f"    ghost bounded = {{ λ t n. le_refl _ }};\n\n"
+            f"    fn none_counted() -> Self::Tally {{\n{self.none()}    }}\n\n"
+            f"    fn show(tally: &Self::Tally, count: usize, visitor: &mut Visitor<'_>) -> Result<(), Refusal> {{\n"
+            f"{self.entering()}    }}\n\n"
+            f"    #[inline(always)]\n"
             f"    fn tally(&self, tally: &mut Self::Tally) -> Result<(), CountError> {{\n{body}    }}\n}}\n"
         )
 
+    def none(self) -> str:
+        """The lines that make a tally of nothing."""
+        lines = ""
+        for part in self.flat:
+            value = f"<{part.type} as Tallied>::none_counted()" if part.kind else "0"
+            if part.is_own:
+                value = f"OwnTally {{\n{' ' * 16}count: 0,\n{' ' * 16}values: {value},\n{' ' * 12}}}"
+            lines += f"{' ' * 12}{part.name}: {value},\n"
+        if len(self.flat) == 1 and not self.flat[0].is_own:
+            return f"{INDENT}{self.name} {{ {lines.strip()[:-1]} }}\n"
+        return f"{INDENT}{self.name} {{\n{lines}{INDENT}}}\n" if lines else f"{INDENT}{self.name} {{}}\n"
+
+    def entering(self) -> str:
+        """The lines that enter what was counted."""
+        names = dict(zip(self.flat, bound([part.name for part in self.flat], 52, "visitor tally count size")))
+        text = ""
+        for part in self.root.inside:
+            count = "count" if part.kind else f"tally.{part.name}"
+            text += "".join(INDENT + self.entry(each, names, count) for each in (*part.inside, part))
+        inside = paired([names[each] for each in self.root.inside], "({}, {})".format, "()")
+        size = called("let size = ", "Sum::times", [f"<{self.root.type}>::size()", "count"], ";", INDENT)
+        return f"{text}{INDENT}{size}{INDENT}{entered('InlineSum', [quoted(self.root.key), 'size', inside], INDENT)}\n"
+
+    def entry(self, part: Part, names: dict[Part, str], count: str) -> str:
+        """The line that makes the entries of a part of so many values."""
+        head = f"let {names[part]} = "
+        if part.is_own:
+            arguments = [quoted(part.key), f"&tally.{part.name}.values", f"tally.{part.name}.count"]
+        elif part.kind:
+            arguments = [quoted(part.key), f"&tally.{part.name}", count]
+        else:
+            inside = paired([names[each] for each in part.inside], "({}, {})".format, "()")
+            sum_of = f"Sum::times(<{part.type}>::size(), {count})"
+            return called(head, "InlineSum", [quoted(part.key), sum_of, inside], ";", INDENT)
+        return called(head, f"FieldMany::<{part.type}>", arguments, ";", INDENT)
+
     def counting(self, part: Part, value: str, indent: str) -> str:
-        """The line that counts an entry."""
-        word = "count" if part.kind else "count_own"
-        return indent + called("", word, [f"&mut tally.{part.name}", value], "?;", indent)
+        """The line that counts the value of a field."""
+        if part.is_own:
+            return indent + called("", "count_own", [f"&mut tally.{part.name}", value], "?;", indent)
+        return indent + called("", "Tallied::tally", [value, f"&mut tally.{part.name}"], "?;", indent)
 
     def arm(self, variant: Variant, part: Part | None) -> str:
         """The lines that count the fields of a variant."""
-        names, indent = bound(variant.names, 44, "self tally count count_own"), " " * 16
+        names, indent = bound(variant.names, 44, "self tally count_own added declared"), " " * 16
         head = f"{' ' * 12}{self.writer.name}::{variant.name}{pattern_of(variant, names)} => "
         if not part:
             return f"{head}Ok(()),\n"
-        parts, values = (part, *part.inside), names
+        lines = ""
         if not part.kind:
-            values = [f"<{self.writer.variant_records[variant.name]}>::size()", *names]
-        lines = "".join(self.counting(each, value, indent) for each, value in zip(parts, values))
+            lines = f"{indent}declared::<{part.type}>()?;\n{indent}tally.{part.name} = added(tally.{part.name}, 1)?;\n"
+        lines += "".join(self.counting(each, name, indent) for each, name in zip(part.inside or (part,), names))
         return f"{head}{{\n{lines}{indent}Ok(())\n{' ' * 12}}}\n"
 
     # ---- answers
-    def starts(self, part: Part, word: str) -> str:
-        """The proof that nothing is counted at first."""
-        at = self.flat.index(part)
-        step = f"c.none-{at + 1}" if at else "c.none"
-        inside = [self.starts(each, "starts_entry") for each in part.inside]
-        proof = paired(inside, "(starts_both\n    {}\n    {})".format, "starts_none")
-        sums = f"{step}.result {step}.ensures.there {step}.ensures.bytes"
-        return f"(starts_field {step}.ensures)" if part.kind else f"({word} {sums}\n    {proof})"
+    def sums(self) -> str:
+        """The proof of what is entered: the sums are those of the shape."""
+        sized = [part for part in self.root.inside if not part.kind]
+        facts = [f"c.times{ordinal(at)}.ensures, c.size{ordinal(at)}.ensures" for at in range(1, len(sized) + 1)]
+        facts.append(f"c.times-size.ensures, c.size{ordinal(len(sized) + 1)}.ensures")
+        return f"rw ({', '.join(facts)}) at c.enter.ensures"
 
     def counted(self) -> list[tuple[str, str]]:
         """The proofs of what is counted, each with the name of its goal."""
         if not self.definition.is_enum:
-            return [("returns", whole("", fields(self.root.inside, "")))]
+            return [("returns", whole("next_whole", fields(self.root.inside, "")))]
         found = []
         for (variant, part), fact in zip(self.arms, self.writer.facts):
             arm = f"-in-{variant.name}" if self.arms[1:] else ""
             proof, last = "nothing_counted", f"-{variant.name}"
-            if part:
-                last = f"_ok-count{arm}{ordinal(len(part.inside or (part,)))}"
-                proof = fields((part,), arm) if part.kind else f"({whole(arm or '-2', fields(part.inside, arm))})"
-                proof = placed(paired([*self.root.inside], lambda one, later: [one, later], None), part, proof)
+            if part and part.is_own:
+                proof, last = f"(own_counted c.in_ok-count_own{arm}.ensures)", f"_ok-count_own{arm}"
+            elif part:
+                case = f"case_counted c.in_ok-declared{arm or '-2'}.ensures (omega arith)"
+                # The first step that is named `tally` is that which adds to the number of the variant.
+                proof = f"({case}\n    {fields(part.inside, arm, 2)}\n    (search (rules, holding)))"
+                last = f"_ok-tally{arm}{ordinal(len(part.inside) + 1)}"
+            proof = placed(paired([*self.root.inside], lambda one, later: [one, later], None), part, proof) if part else proof
             goal = f"returns-in{last}" if arm else "returns"
-            found.append((goal, f"tallies_as (λ f. rw {fact} (λ x. x))\n    ({whole('', proof)})"))
+            found.append((goal, f"next_as (λ f. rw {fact} (λ x. x))\n    ({whole('next_case', proof)})"))
         return found
+
+
+def quoted(key: str) -> str:
+    return f'"{key}"'
 
 
 def ordinal(at: int) -> str:
@@ -223,16 +265,15 @@ def ordinal(at: int) -> str:
     return f"-{at}" if at > 1 else ""
 
 
-def fields(parts: tuple[Part, ...], arm: str) -> str:
-    """The proof for fields, which are counted in an arm."""
-    steps = [f"(field_counted c.in_ok-count{arm}{ordinal(at)}.ensures)" for at in range(1, len(parts) + 1)]
-    return paired(steps, "(both_counted\n    {}\n    {})".format, "nothing_counted")
+def fields(parts: tuple[Part, ...], arm: str, start: int = 1) -> str:
+    """The proof for fields, which are counted in an arm, by steps that are numbered from a start."""
+    steps = [f"(next_field c.in_ok-tally{arm}{ordinal(at)}.ensures)" for at in range(start, start + len(parts))]
+    return paired(steps, "(next_both\n    {}\n    {})".format, "next_nothing")
 
 
-def whole(arm: str, inside: str) -> str:
-    """The proof for an entry, from that for what is inside it."""
-    entry = f"whole_counted c.size{arm}.ensures c.in_ok-count_own{arm}.ensures.ok"
-    return f"{entry}\n    {inside}\n    (search (rules, holding))"
+def whole(lemma: str, inside: str) -> str:
+    """The proof for the entry of a value, from that for what is inside it."""
+    return f"{lemma} c.in_ok-declared.ensures\n    {inside}\n    (search (rules, holding))"
 
 
 def placed(tree: Any, part: Part, proof: str) -> str:

@@ -39,14 +39,14 @@ LEVEL = re.compile(rf'(?<![\w."<])(?:{"|".join(sorted(LEVELS))})(?![\w.>"])|(?<=
 CLAUSE_WORDS = {"codes", "true", "false", "elim", "where", "deriving", "record", "data", "open", "let", "in"}
 # What answers cite, by its module.
 LEMMAS = {
-    "std.proofs.Common": "ap refl rules ◌≡◌ ◌∙◌",
+    "std.proofs.Common": "ap arith refl rules ◌≡◌ ◌∙◌",
     "allocative.proofs.ByHand": "visited_at",
     "allocative.proofs.Levels": "means_opened means_recursive",
     "allocative.proofs.Meaning": "entered_loosely strict_same means_field means_same visited_as visited_if",
     "allocative.proofs.Parts": "strict",
-    "allocative_tally.proofs.Counting": "tallies_as",
-    "allocative_tally.proofs.Fields": "both_counted field_counted first_counted holding nothing_counted second_counted "
-    "starts_both starts_entry starts_field starts_none starts_whole whole_counted",
+    "allocative_tally.proofs.Counting": "first_counted second_counted",
+    "allocative_tally.proofs.Fields": "case_counted holding next_as next_both next_case next_field next_nothing next_whole "
+    "nothing_counted own_counted",
 }
 DESCRIBED = {"align": "usize", "needs_drop": "bool", "size": "Option<usize>"}
 

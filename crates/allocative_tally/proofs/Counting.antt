@@ -10,8 +10,8 @@ use Rattle.allocative_graph.proofs.Owned.{direct-following}
 use Rattle.allocative.proofs.Strict.{followed_by-empty, followed_by_assoc, each_append, each_one}
 use Rattle.allocative_tally.specs.Merged.{IsPlain, Merged}
 use Rattle.allocative_tally.specs.Shapes.{Width, Unique, Wide, Narrow, is_unique, Keeps, Shape}
-use Rattle.allocative_tally.specs.Shapes.{NoEntry, Beside, EntryAt, forest_of, Holds, entry_counted}
-use Rattle.allocative_tally.specs.Tallies.{Tallies, IsWithin, AddsEntry}
+use Rattle.allocative_tally.specs.Shapes.{NoEntry, Beside, EntryAt, forest_of, Holds, IsRight, entry_counted, top_bytes}
+use Rattle.allocative_tally.specs.Tallies.{Tallies, IsWithin, AddsEntry, both_bounds}
 use Rattle.allocative_tally.specs.declared.tally.Sum.{Sum}
 use Rattle.allocative_tally.proofs.Unshared.{plain_parts, plain_inside}
 use Rattle.allocative_tally.proofs.Merging.{merged_same, merged_then, merged_both, merged_crossed, merged_entry}
@@ -28,44 +28,13 @@ tallies_none {w} {s = s} x = record {
   counted = Empty;
   allowed = x;
   within = zero_within w;
-  merged = λ r. (rw (followed_by-empty (forest_of s)) (merged_same (forest_of s) r.0), r.1);
+  merged = λ r room. (rw (followed_by-empty (forest_of s)) (merged_same (forest_of s) r.0), r.1);
 }
 
 -- What was counted as p was counted as q, if each forest of p is one of q.
 pub tallies_as : {w : Option ℕ} {p q : Showing} {s t : Shape} → ((h : Forest) → p h → q h) → Tallies w p s t →
     Tallies w q s t
 tallies_as up t = record { counted = t.counted; allowed = up t.counted t.allowed; within = t.within; merged = t.merged }
-
--- What was counted is within a bound of all that is allowed.
-pub tallies_within : {w : Option ℕ} {p : Showing} {s t : Shape} (n : ℕ) → ((f : Forest) → p f → direct f ≤ n) →
-    Tallies w p s t → Tallies (Some n) p s t
-tallies_within n least t =
-    record { counted = t.counted; allowed = t.allowed; within = least t.counted t.allowed; merged = t.merged }
-
--- What was counted need have no bound.
-pub tallies_loosely : {w : Option ℕ} {p : Showing} {s t : Shape} → Tallies w p s t → Tallies None p s t
-tallies_loosely t = record { counted = t.counted; allowed = t.allowed; within = tt; merged = t.merged }
-
--- One value and then another were counted into one tally.
-pub tallies_then : {w v : Option ℕ} {p q : Showing} {s t u : Shape} → Tallies w p s t → Tallies v q t u →
-    Tallies None (Both p q) s u
-tallies_then {s = s} {t = t} {u = u} a b = record {
-  counted = followed_by a.counted b.counted;
-  allowed = (a.counted, b.counted, a.allowed, b.allowed, refl);
-  within = tt;
-  merged = λ r.
-      let m = a.merged r in
-      let l = b.merged (m.0.plain_merged, m.1) in
-      let more = plain_parts (forest_of t) b.counted l.0.plain in
-      let all = merged_then (merged_both m.0 (merged_same b.counted more.1)) l.0 in
-      (subst (λ (h : Forest). Merged h (forest_of u)) (followed_by_assoc (forest_of s) a.counted b.counted) all, l.1);
-}
-
--- The bound of two values, one after another.
-abbrev pub both_bounds : Option ℕ → Option ℕ → Option ℕ
-both_bounds None n = None
-both_bounds (Some m) None = None
-both_bounds (Some m) (Some n) = Some (m + n)
 
 -- Two forests are within the bounds of both if each is within its own.
 both_within : (m n : Option ℕ) (f g : Forest) → IsWithin (direct f) m → IsWithin (direct g) n →
@@ -74,6 +43,27 @@ both_within None n f g h l = tt
 both_within (Some m) None f g h l = tt
 both_within (Some m) (Some n) f g h l = omega (arith, h, l, direct-following f g)
 
+-- One value and then another were counted into one tally.
+pub tallies_then : {w v : Option ℕ} {p q : Showing} {s t u : Shape} → Tallies w p s t → Tallies v q t u →
+    Tallies (both_bounds w v) (Both p q) s u
+tallies_then {w} {v} {s = s} {t = t} {u = u} a b = record {
+  counted = followed_by a.counted b.counted;
+  allowed = (a.counted, b.counted, a.allowed, b.allowed, refl);
+  within = both_within w v a.counted b.counted a.within b.within;
+  merged = λ r room.
+      let m = a.merged r (omega (arith, room, direct-following a.counted b.counted)) in
+      let l = b.merged (m.0.plain_merged, m.1) (omega (
+        arith,
+        room,
+        direct-following a.counted b.counted,
+        direct-following (forest_of s) a.counted,
+        m.0.same_direct,
+      )) in
+      let more = plain_parts (forest_of t) b.counted l.0.plain in
+      let all = merged_then (merged_both m.0 (merged_same b.counted more.1)) l.0 in
+      (subst (λ (h : Forest). Merged h (forest_of u)) (followed_by_assoc (forest_of s) a.counted b.counted) all, l.1);
+}
+
 -- Two values were counted, each into a tally of its own.
 pub tallies_both : {m n : Option ℕ} {p q : Showing} {s t u v : Shape} → Tallies m p s t → Tallies n q u v →
     Tallies (both_bounds m n) (Both p q) (Beside s u) (Beside t v)
@@ -81,10 +71,12 @@ tallies_both {m} {n} {s = s} {u = u} a b = record {
   counted = followed_by a.counted b.counted;
   allowed = (a.counted, b.counted, a.allowed, b.allowed, refl);
   within = both_within m n a.counted b.counted a.within b.within;
-  merged = λ r.
+  merged = λ r room.
       let old = plain_parts (forest_of s) (forest_of u) r.0 in
-      let m = a.merged (old.0, r.1.0) in
-      let l = b.merged (old.1, r.1.1) in
+      let left = direct-following (forest_of s) (forest_of u) in
+      let right = direct-following a.counted b.counted in
+      let m = a.merged (old.0, r.1.0) (omega (arith, room, left, right)) in
+      let l = b.merged (old.1, r.1.1) (omega (arith, room, left, right)) in
       let x = plain_parts (forest_of s) a.counted m.0.plain in
       let y = plain_parts (forest_of u) b.counted l.0.plain in
       let crossed = merged_crossed (forest_of s) (forest_of u) a.counted b.counted x.0 y.0 x.1 y.1 in
@@ -92,25 +84,24 @@ tallies_both {m} {n} {s = s} {u = u} a b = record {
 }
 
 -- A value was counted into the first of two shapes.
-pub tallies_first : {w : Option ℕ} {p : Showing} {s t : Shape} (u : Shape) → Tallies w p s t →
-    Tallies w p (Beside s u) (Beside t u)
+pub first_counted : {w : Option ℕ} {p : Showing} {s t u : Shape} → Tallies w p s t → Tallies w p (Beside s u) (Beside t u)
 unfolding tallies_both tallies_none
-tallies_first {p = p} {s} {t} u c =
+first_counted {s = s} {t} {u} c =
     let all = tallies_both {q = Nothing} c (tallies_none {w = None} {s = u} refl) in
+    let same = followed_by-empty c.counted in
     record {
       counted = c.counted;
       allowed = c.allowed;
       within = c.within;
-      merged = λ r. subst (λ (h : Forest). Merged (followed_by (forest_of (Beside s u)) h) (forest_of
+      merged = λ r room. subst (λ (h : Forest). Merged (followed_by (forest_of (Beside s u)) h) (forest_of
           (Beside t u)) × Holds (Beside t u))
-          (followed_by-empty c.counted) (all.merged r);
+          same (all.merged r (subst (λ (h : Forest). direct (forest_of (Beside s u)) + direct h < 2 ^ 64) (sym same) room));
     }
 
 -- A value was counted into the second of two shapes.
-pub tallies_second : {w : Option ℕ} {p : Showing} {s t : Shape} (u : Shape) → Tallies w p s t →
-    Tallies w p (Beside u s) (Beside u t)
+pub second_counted : {w : Option ℕ} {p : Showing} {s t u : Shape} → Tallies w p s t → Tallies w p (Beside u s) (Beside u t)
 unfolding tallies_both tallies_none
-tallies_second {p = p} u c =
+second_counted {u = u} c =
     let all = tallies_both {p = Nothing} (tallies_none {w = None} {s = u} refl) c in
     record { counted = c.counted; allowed = c.allowed; within = c.within; merged = all.merged }
 
@@ -141,10 +132,23 @@ entries_merged u k m n f h g room keeps t =
     let x = plain_parts f h t.plain in
     merged_then (merged_entry u k m n f h x.0 x.1 room keeps) (merged_inside u k (m + n) t)
 
--- An entry has at most its own bytes at its top.
-direct_entry : (u : Bool) (k : Key) (n : ℕ) (f : Forest) → direct (entry_of u k n f) ≤ n
+-- An entry has its own bytes at its top.
+direct_entry : (u : Bool) (k : Key) (n : ℕ) (f : Forest) → direct (entry_of u k n f) ≡ n
 direct_entry true k n f = omega arith
 direct_entry false k n f = omega arith
+
+-- What is inside entries of this kind has room in a word by itself.
+abbrev pub HasInsideRoom : Width → Shape → Forest → Type 0
+HasInsideRoom Unique s h = IsRight s → direct (forest_of s) + direct h < 2 ^ 64
+HasInsideRoom Wide s h = Unit {0}
+HasInsideRoom Narrow s h = IsRight s → direct (forest_of s) + direct h < 2 ^ 64
+
+-- What is inside has room if the entries do.
+inside_room : (x : Width) (m n : ℕ) (s : Shape) (h : Forest) → HasInsideRoom x s h → Keeps x m (forest_of s) →
+    Keeps x n h → IsRight s → m + n < 2 ^ 64 → direct (forest_of s) + direct h < 2 ^ 64
+inside_room Unique m n s h i a b r room = i r
+inside_room Wide m n s h i a b r room = omega (arith, a, b, room)
+inside_room Narrow m n s h i a b r room = i r
 
 -- Whatever a bound allows fits an entry of n bytes.
 pub record FitsEntry (w : Option ℕ) (n : ℕ) : Type 0 where
@@ -165,13 +169,13 @@ counted_keeps Narrow n i c = i c.counted c.allowed
 
 -- One more entry was counted, with what is inside it.
 pub tallies_entry : {w : Option ℕ} {p : Showing} (x : Width) (k : Key) (n : ℕ) {old new : Sum} {s t : Shape} →
-    AddsEntry n old new → IsOfKind x w p n → Tallies w p s t →
+    AddsEntry n old new → IsOfKind x w p n → (c : Tallies w p s t) → HasInsideRoom x s c.counted →
     Tallies (Some n) (InsideAs (is_unique x) k n p) (EntryAt x k old s) (EntryAt x k new t)
-tallies_entry {w} {p} x k n {old} {new} {s} {t} more kind c = record {
+tallies_entry {w} {p} x k n {old} {new} {s} {t} more kind c inside = record {
   counted = entry_of (is_unique x) k n c.counted;
   allowed = (c.counted, c.allowed, refl);
-  within = direct_entry (is_unique x) k n c.counted;
-  merged = λ r. rw (more.is_there, more.bytes) (one_more old.is_there r);
+  within = omega (arith, direct_entry (is_unique x) k n c.counted);
+  merged = λ r room. rw more.is_there (one_more old.is_there r room);
 }
   where
     keeps : Keeps x n c.counted
@@ -179,14 +183,24 @@ tallies_entry {w} {p} x k n {old} {new} {s} {t} more kind c = record {
 
     one_more : (b : Bool) → IsPlain (entry_counted b (is_unique x) k old.bytes (forest_of s)) ×
         (Holds s × (b ≡ false → (old.bytes ≡ 0) × (forest_of s ≡ Empty)) × Keeps x old.bytes (forest_of s)) →
+        direct (entry_counted b (is_unique x) k old.bytes (forest_of s))
+        + direct (entry_of (is_unique x) k n c.counted) < 2 ^ 64 →
         Merged (followed_by (entry_counted b (is_unique x) k old.bytes (forest_of s)) (entry_of
         (is_unique x) k n c.counted))
-        (entry_of (is_unique x) k (old.bytes + n) (forest_of t))
-        × (Holds t × (true ≡ false → (old.bytes + n ≡ 0) × (forest_of t ≡ Empty))
-        × Keeps x (old.bytes + n) (forest_of t))
-    one_more true (plain, (holds, none, kept)) =
-        let m = c.merged (plain_inside (is_unique x) k old.bytes (forest_of s) plain, holds) in (
-          entries_merged (is_unique x) k old.bytes n (forest_of s) c.counted (forest_of t) more.fits
+        (entry_of (is_unique x) k new.bytes (forest_of t))
+        × (Holds t × (true ≡ false → (new.bytes ≡ 0) × (forest_of t ≡ Empty))
+        × Keeps x new.bytes (forest_of t))
+    one_more true (plain, (holds, none, kept)) room =
+        let sizes : old.bytes + n < 2 ^ 64 = omega (
+          arith,
+          room,
+          direct_entry (is_unique x) k n c.counted,
+          direct_entry (is_unique x) k old.bytes (forest_of s),
+        ) in
+        let right : IsRight s = (plain_inside (is_unique x) k old.bytes (forest_of s) plain, holds) in
+        let m = c.merged right (inside_room x old.bytes n s c.counted inside kept keeps right sizes) in
+        rw (more.bytes sizes) (
+          entries_merged (is_unique x) k old.bytes n (forest_of s) c.counted (forest_of t) sizes
               (keeps_owned x old.bytes n (forest_of s) c.counted kept keeps) m.0,
           (
             m.1,
@@ -195,17 +209,24 @@ tallies_entry {w} {p} x k n {old} {new} {s} {t} more kind c = record {
                 (sym (direct-following (forest_of s) c.counted) ∙ m.0.same_direct),
           ),
         )
-    one_more false (plain, (holds, none, kept)) =
+    one_more false (plain, (holds, none, kept)) room =
         let nothing = none refl in
-        let m = c.merged (subst IsPlain (sym nothing.1) tt, holds) in
+        let sizes : old.bytes + n < 2 ^ 64 = omega (
+          arith,
+          room,
+          direct_entry (is_unique x) k n c.counted,
+          nothing.0,
+        ) in
+        let right : IsRight s = (subst IsPlain (sym nothing.1) tt, holds) in
+        let m = c.merged right (inside_room x old.bytes n s c.counted inside kept keeps right sizes) in
         let same : Merged c.counted (forest_of t) =
         subst (λ (h : Forest). Merged (followed_by h c.counted) (forest_of t)) nothing.1 m.0 in
-        let bytes : old.bytes + n ≡ n = omega (arith, nothing.0) in (
-          rw bytes (merged_inside (is_unique x) k n same),
+        let bytes : new.bytes ≡ n = omega (arith, nothing.0, more.bytes sizes) in rw bytes (
+          merged_inside (is_unique x) k n same,
           (
             m.1,
             (λ e. absurd (false≢true (sym e))),
-            rw bytes (keeps_same x n c.counted (forest_of t) same.same_direct keeps),
+            keeps_same x n c.counted (forest_of t) same.same_direct keeps,
           ),
         )
 
@@ -214,19 +235,19 @@ tallies_entry {w} {p} x k n {old} {new} {s} {t} more kind c = record {
 pub counted_inline : {w : Option ℕ} {p : Showing} {k : Key} {n : ℕ} {old new : Sum} {s t : Shape} →
     AddsEntry n old new → Tallies w p s t → FitsEntry w n →
     Tallies (Some n) (Inside k n p) (EntryAt Wide k old s) (EntryAt Wide k new t)
-counted_inline {k = k} {n = n} more c fits = tallies_entry Wide k n more fits c
+counted_inline {k = k} {n = n} more c fits = tallies_entry Wide k n more fits c tt
 
 -- One more unique entry was counted, with what is inside it.
 pub counted_unique : {w : Option ℕ} {p : Showing} {k : Key} {n : ℕ} {old new : Sum} {s t : Shape} →
-    AddsEntry n old new → Tallies w p s t →
+    AddsEntry n old new → (c : Tallies w p s t) → (IsRight s → direct (forest_of s) + direct c.counted < 2 ^ 64) →
     Tallies (Some n) (InsideAs true k n p) (EntryAt Unique k old s) (EntryAt Unique k new t)
-counted_unique {k = k} {n = n} more c = tallies_entry Unique k n more tt c
+counted_unique {k = k} {n = n} more c room = tallies_entry Unique k n more tt c room
 
 -- One more inline entry was counted, which has at most the bytes directly inside it.
 pub counted_narrow : {w : Option ℕ} {p : Showing} {k : Key} {n : ℕ} {old new : Sum} {s t : Shape} →
-    AddsEntry n old new → Tallies w p s t → ((f : Forest) → p f → n ≤ direct f) →
-    Tallies (Some n) (Inside k n p) (EntryAt Narrow k old s) (EntryAt Narrow k new t)
-counted_narrow {k = k} {n = n} more c least = tallies_entry Narrow k n more least c
+    AddsEntry n old new → (c : Tallies w p s t) → (IsRight s → direct (forest_of s) + direct c.counted < 2 ^ 64) →
+    ((f : Forest) → p f → n ≤ direct f) → Tallies (Some n) (Inside k n p) (EntryAt Narrow k old s) (EntryAt Narrow k new t)
+counted_narrow {k = k} {n = n} more c room least = tallies_entry Narrow k n more least c room
 
 -- One more inline entry with nothing inside it was counted.
 pub counted_leaf : {k : Key} {n : ℕ} {old new : Sum} → AddsEntry n old new →
@@ -243,7 +264,25 @@ pub fits_bytes : {m n : ℕ} → m ≤ n → FitsEntry (Some m) n
 fits_bytes h = record { fits = λ d i. omega (arith, h, i) }
 
 -- One more item was counted.
-pub tallies_more : {T : Type 0} {w : Option ℕ} (p : T → Showing) (xs : List T) (x : T) {s t u : Shape} →
-    Tallies None (each_shows p xs) s t → Tallies w (p x) t u → Tallies None (each_shows p (xs ++ x ∷ [])) s u
+pub tallies_more : {T : Type 0} {v w : Option ℕ} (p : T → Showing) (xs : List T) (x : T) {s t u : Shape} →
+    Tallies v (each_shows p xs) s t → Tallies w (p x) t u →
+    Tallies (both_bounds v w) (each_shows p (xs ++ x ∷ [])) s u
 tallies_more p xs x a b =
     tallies_as (λ h (y, z, v, w, e). each_append p xs (x ∷ []) h (y, z, v, each_one p x z w, e)) (tallies_then a b)
+
+-- ---- the bytes at the top of a shape
+-- An entry has at most the bytes of its sum.
+pub entry_direct : (x : Width) (k : Key) (sum : Sum) (s : Shape) → direct (forest_of (EntryAt x k sum s)) ≤ sum.bytes
+entry_direct x k sum s = by_test x sum.is_there
+  where
+    by_test : (x : Width) (b : Bool) → direct (entry_counted b (is_unique x) k sum.bytes (forest_of s)) ≤ sum.bytes
+    by_test Unique true = omega arith
+    by_test Wide true = omega arith
+    by_test _ true = omega arith
+    by_test x false = omega arith
+
+-- A shape has at most the bytes of its sums.
+pub shape_direct : (s : Shape) → direct (forest_of s) ≤ top_bytes s
+shape_direct NoEntry = omega arith
+shape_direct (Beside s t) = omega (arith, direct-following (forest_of s) (forest_of t), shape_direct s, shape_direct t)
+shape_direct (EntryAt x k sum s) = entry_direct x k sum s

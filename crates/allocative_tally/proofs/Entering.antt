@@ -1,6 +1,7 @@
 -- What was entered as the merged forest was entered as the forests that it merges.
 use Rattle.std.proofs.Common.{◌≡◌, ℕ, ◌+◌, ◌-◌, min, Bool, true, false, cond, Result, Ok, refl, sym, ap, subst, ◌∙◌}
-use Rattle.std.proofs.Common.{arith}
+use Rattle.std.proofs.Common.{arith, Option, Some, ◌<◌, ◌≤◌, ◌^◌}
+use Rattle.allocative_graph.specs.Owned.{direct}
 use Rattle.std.proofs.Common.{append-nil, List, [], ◌∷◌, ◌++◌, length, get_or, take, drop}
 use Rattle.std.proofs.lemmas.List.{take-append-drop}
 use Rattle.allocative.proofs.Common.{Refusal, Key, Forest, Empty, followed_by, entry_of, add_all, Live, Kind, OfGraph}
@@ -22,7 +23,7 @@ use Rattle.allocative.proofs.Strict.{each_append, each_one}
 use Rattle.allocative_tally.specs.Merged.{IsPlain, Merged}
 use Rattle.allocative_tally.specs.Shapes.{Width, is_unique, Shape, NoEntry, Beside, EntryAt, forest_of, IsNothing}
 use Rattle.allocative_tally.specs.Shapes.{entry_counted, shape_shows, is_shape}
-use Rattle.allocative_tally.specs.Tallies.{Tallies, EntersShape}
+use Rattle.allocative_tally.specs.Tallies.{Tallies, EntersShape, IsWithin}
 use Rattle.allocative_tally.specs.declared.tally.Sum.{Sum}
 use Rattle.allocative_tally.proofs.Unshared.{plain_contents, plain_taken, plain_shows}
 
@@ -117,13 +118,16 @@ entered_counted w h = record {
 }
 
 -- What was counted, from nothing.
-pub counts : {w : _} {p : Showing} {s t : Shape} → IsNothing s → Tallies w p s t → Counts p t
-counts {s = s} {t = t} none c =
-    let m = (c.merged (subst IsPlain (sym none.0) tt, none.1)).0 in
+pub counts : {w : Option ℕ} {n : ℕ} {p : Showing} {s t : Shape} → IsNothing s → Tallies w p s t → w ≡ Some n →
+    n < 2 ^ 64 → Counts p t
+counts {n = n} {s = s} {t = t} none c e room =
+    let within : direct c.counted ≤ n = subst (IsWithin (direct c.counted)) e c.within in
+    let empty : direct (forest_of s) ≡ 0 = ap direct none.is_empty in
+    let m = (c.merged (subst IsPlain (sym none.is_empty) tt, none.holds) (omega (arith, within, empty, room))).0 in
     record {
       one = c.counted;
       allowed = c.allowed;
-      merged = subst (λ (h : Forest). Merged (followed_by h c.counted) (forest_of t)) none.0 m;
+      merged = subst (λ (h : Forest). Merged (followed_by h c.counted) (forest_of t)) none.is_empty m;
     }
 
 -- ---- what a tally enters

@@ -1,48 +1,60 @@
 -- How values of structs and enums are counted, by their fields.
-use Rattle.std.proofs.Common.{◌≡◌, ◌≤◌, ℕ, false, Option, Some, None, refl, sym, ap, subst, arith, ◌∙◌}
+use Rattle.std.proofs.Common.{◌≡◌, ◌≤◌, ◌<◌, ◌+◌, ◌*◌, mul-add, ℕ, Option, Some, None, refl, sym, ap, subst, arith, ◌∙◌}
 use Rattle.allocative_described.specs.Sizes.{size_sum, size_max, size_up}
-use Rattle.allocative.proofs.Common.{Key, Forest, followed_by, Showing, Nothing, Both, Field}
-use Rattle.allocative_tally.specs.Shapes.{Shape, Wide, NoEntry, Beside, EntryAt, IsNothing}
-use Rattle.allocative_tally.specs.Tallies.{Tallies, TalliesField}
-use Rattle.allocative_tally.specs.Fields.{AddsSize, HasNothing}
-use Rattle.allocative_tally.specs.declared.tally.Sum.{Sum}
-use Rattle.allocative_tally.proofs.Counting.{both_bounds, counted_field, counted_inline, tallies_both, tallies_none}
-use Rattle.allocative_tally.proofs.Counting.{tallies_as}
-use Rattle.allocative.proofs.Strict.{followed_by-empty}
+use Rattle.allocative_graph.specs.Owned.{direct}
+use Rattle.allocative.proofs.Common.{Key, Forest, Showing, Nothing, Both, Field}
+use Rattle.allocative_tally.specs.Shapes.{Shape, NoEntry, Beside, IsNothing, bytes_times, entries, sum_of, sum_times}
+use Rattle.allocative_tally.specs.Tallies.{Tallies, TalliesNext, TalliesFields, TalliesOwn, AddsEntry, IsDeclared}
+use Rattle.allocative_tally.specs.Tallies.{both_bounds}
+use Rattle.allocative_tally.proofs.Counting.{counted_field, counted_inline, tallies_both, tallies_none, tallies_as}
 use Rattle.allocative_tally.proofs.Sizes.{HasRoom, room_up, room_sum, room_second, room_max_first, room_max_second}
 use Rattle.allocative_tally.proofs.Sizes.{room_then, room_both, room_grouped, fits_room}
 
--- ---- nothing counted
--- Nothing is counted in a shape.
-pub record Starts (s : Shape) : Type 0 where
-  pub nothing : IsNothing s
+-- ---- sums
+-- Entries have more bytes.
+pub adds_of : (n m : ℕ) {a b c : ℕ} → 0 < m → c ≡ a + b → AddsEntry b (sum_of n a) (sum_of m c)
+adds_of n m some e = record { is_there = grind (arith, some); bytes = λ room. e }
 
--- An entry that is not there has nothing in it.
-pub starts_entry : {k : Key} {s : Shape} (own : Sum) → own.is_there ≡ false → own.bytes ≡ 0 → Starts s →
-    Starts (EntryAt Wide k own s)
-starts_entry {k} {s} own there bytes inside = record {
-  nothing = (
-    rw there refl,
-    (inside.nothing.1, (λ e. (bytes, inside.nothing.0)), rw inside.nothing.0 (omega arith)),
+-- Entries have the bytes of more values of a declared size.
+pub adds_times : (size : Option ℕ) (n m a b c : ℕ) {z : ℕ} → 0 < m → size ≡ Some z → c ≡ a + b →
+    AddsEntry (z * b) (sum_of n (bytes_times size a)) (sum_of m (bytes_times size c))
+adds_times None n m a b c some e i = absurd (cc)
+adds_times (Some s) n m a b c {z} some e i =
+    let same : s * b ≡ z * b = ap (λ (y : ℕ). y * b) (cc) in
+    let all : s * c ≡ s * a + s * b = ap (λ (y : ℕ). s * y) i ∙ mul-add s a b in record {
+      is_there = grind (arith, some);
+      bytes = λ room. omega (arith, room, same, all);
+    }
+
+-- One more value of a declared size is one more entry.
+pub one_more : (size : Option ℕ) (n m : ℕ) {z : ℕ} → size ≡ Some z → m ≡ n + 1 →
+    AddsEntry z (sum_times size n) (sum_times size m)
+one_more size n m {z} e i = subst (λ (b : ℕ). AddsEntry b (sum_times size n) (sum_times size m)) (omega arith)
+    (adds_times size n m n 1 m (omega (arith, i)) e i)
+
+-- No entry of no values.
+times_none : (size : Option ℕ) → bytes_times size 0 ≡ 0
+times_none None = refl
+times_none (Some s) = omega arith
+
+-- ---- nothing counted
+-- Nothing is counted in the entry of no values.
+pub starts_entry : (k : Key) (s : Shape) (size : Option ℕ) → IsNothing s → IsNothing (entries k size 0 s)
+starts_entry k s size none = record {
+  is_empty = refl;
+  holds = (
+    none.holds,
+    (λ e. (times_none size, none.is_empty)),
+    subst (λ (f : Forest). direct f ≤ bytes_times size 0) (sym none.is_empty) (omega arith),
   );
 }
 
--- A field in which nothing was counted.
-pub starts_field : {k : Key} {own : Sum} {s : Shape} → HasNothing own s → Starts (EntryAt Wide k own s)
-starts_field {own = own} field = starts_entry own field.there field.bytes (record { nothing = field.inside })
-
 -- Two shapes, one after another.
-pub starts_both : {s t : Shape} → Starts s → Starts t → Starts (Beside s t)
-starts_both a b = record { nothing = (rw (a.nothing.0, b.nothing.0) refl, (a.nothing.1, b.nothing.1)) }
+pub starts_both : (s t : Shape) → IsNothing s → IsNothing t → IsNothing (Beside s t)
+starts_both s t a b = record { is_empty = rw (a.is_empty, b.is_empty) refl; holds = (a.holds, b.holds) }
 
--- No entry.
-pub starts_none : Starts NoEntry
-starts_none = record { nothing = (refl, tt) }
-
--- A type of which no value was counted.
-pub starts_whole : (k : Key) {s : Shape} (own : Sum) → own.is_there ≡ false → own.bytes ≡ 0 → Starts s →
-    IsNothing (EntryAt Wide k own s)
-starts_whole k own there bytes inside = (starts_entry {k = k} own there bytes inside).nothing
+-- The lemmas for what shows nothing.
+pub ruleset starting = (starts_entry, starts_both)
 
 -- ---- room for the fields
 -- Whatever a bound allows fits a declared size.
@@ -56,19 +68,6 @@ holds_itself = record { room = λ d h. h }
 -- A size holds what is not more.
 pub holds_bytes : {m n : ℕ} → m ≤ n → Holds (Some n) (Some m)
 holds_bytes h = record { room = λ d i. omega (arith, h, i) }
-
--- No bytes more than those of a bound.
-pub holds_no_more : (u : Option ℕ) {w : Option ℕ} → Holds u w → Holds u (both_bounds w (Some 0))
-holds_no_more u {w} a = record { room = λ d h. a.room d (less w d h) }
-  where
-    less : (w : Option ℕ) → HasRoom w (both_bounds w (Some 0))
-    less None d h = tt
-    less (Some m) d h = omega (arith, h)
-
--- No bytes before those of a bound.
-pub holds_none_more : (w : Option ℕ) → Holds w (both_bounds (Some 0) w)
-holds_none_more None = record { room = λ d h. tt }
-holds_none_more (Some m) = record { room = λ d h. omega (arith, h) }
 
 -- The last field of a list.
 pub holds_last : (u : Option ℕ) {w : Option ℕ} → Holds u w → Holds (size_sum u (Some 0)) w
@@ -114,108 +113,80 @@ pub holds_nothing : (u : Option ℕ) → Holds u (Some 0)
 holds_nothing None = record { room = λ d h. tt }
 holds_nothing (Some m) = record { room = λ d h. omega (arith, h) }
 
--- ---- counting
+-- ---- fields
 -- What was counted within a bound is within a size that holds the bound.
 pub tallies_within : {w : Option ℕ} {p : Showing} {s t : Shape} (v : Option ℕ) → Holds v w → Tallies w p s t →
     Tallies v p s t
-tallies_within v h t = record {
-  counted = t.counted;
-  allowed = t.allowed;
-  within = h.room _ t.within;
-  merged = t.merged;
-}
+tallies_within v h t =
+    record { counted = t.counted; allowed = t.allowed; within = h.room _ t.within; merged = t.merged }
 
 -- A value is its own entry with its fields inside it.
-pub whole_counted : {found size w : Option ℕ} {k : Key} {p : Showing} {a a' : Sum} {s s' : Shape} → found ≡ size →
-    AddsSize found a a' → Tallies w p s s' → Holds size w →
-    Tallies size (Field k size p) (EntryAt Wide k a s) (EntryAt Wide k a' s')
-whole_counted {w = w} e own fields holds =
-    let sized = sym e ∙ own.sized in
-    counted_field sized (counted_inline own.added fields (fits_room w sized holds.room))
+whole_counted : (n m : ℕ) {b : ℕ} {size w : Option ℕ} {k : Key} {p : Showing} {s t : Shape} → size ≡ Some b → m ≡ n + 1 →
+    Tallies w p s t → Holds size w → Tallies size (Field k size p) (entries k size n s) (entries k size m t)
+whole_counted n m {size = size} {w} sized more fields holds =
+    counted_field sized (counted_inline (one_more size n m sized more) fields (fits_room w sized holds.room))
 
--- A field is its entry with what its value shows inside it.
-pub field_counted : {size : Option ℕ} {k : Key} {p : Showing} {a a' : Sum} {s s' : Shape} →
-    TalliesField size p a s a' s' → Tallies size (Field k size p) (EntryAt Wide k a s) (EntryAt Wide k a' s')
-field_counted {k = k} field = field.under k
+-- What a value shows, counted as the only field.
+pub next_value : {v : Option ℕ} {p : Showing} {s t : ℕ → Shape} → TalliesNext v p s t → TalliesFields v p s t
+next_value a = record { next = a.next }
 
--- A variant without fields.
+-- A field is its entry with what its value shows.
+pub next_field : {v : Option ℕ} {k : Key} {p : Showing} {s t : ℕ → Shape} → TalliesNext v p s t →
+    TalliesFields v (Field k v p) (λ n. entries k v n (s n)) (λ n. entries k v n (t n))
+next_field a = record { next = λ n. whole_counted n (n + 1) a.declared.sized refl (a.next n) holds_itself }
+
+-- Fields and then others.
+pub next_both : {v w : Option ℕ} {p q : Showing} {s s' t t' : ℕ → Shape} → TalliesFields v p s s' →
+    TalliesFields w q t t' →
+    TalliesFields (both_bounds v w) (Both p q) (λ n. Beside (s n) (t n)) (λ n. Beside (s' n) (t' n))
+next_both a b = record { next = λ n. tallies_both (a.next n) (b.next n) }
+
+-- No field.
 pub nothing_counted : {s : Shape} → Tallies (Some 0) Nothing s s
 nothing_counted = tallies_none refl
 
--- One more value of a field was counted: an entry of its size, and inside it what the value shows.
-pub field_tallied : {found size : Option ℕ} {p : Showing} {a a' : Sum} {s s' : Shape} → found ≡ size →
-    AddsSize found a a' → Tallies size p s s' → TalliesField size p a s a' s'
-field_tallied e own value = record { under = λ k. whole_counted e own value holds_itself }
+-- No field of any number of values.
+pub next_nothing : TalliesFields (Some 0) Nothing (λ n. NoEntry) (λ n. NoEntry)
+next_nothing = record { next = λ n. nothing_counted }
 
--- A value without fields is its own entry.
-pub bare_counted : {found size : Option ℕ} {k : Key} {a a' : Sum} {s : Shape} → found ≡ size → AddsSize found a a' →
-    Tallies size (Field k size Nothing) (EntryAt Wide k a s) (EntryAt Wide k a' s)
-bare_counted {size = size} e own = whole_counted e own nothing_counted (holds_nothing size)
+-- A value is its own entry with its fields inside it.
+pub next_whole : {size w : Option ℕ} {k : Key} {p : Showing} {s t : ℕ → Shape} → IsDeclared size →
+    TalliesFields w p s t → Holds size w →
+    TalliesNext size (Field k size p) (λ n. entries k size n (s n)) (λ n. entries k size n (t n))
+next_whole d fields holds = record { declared = d; next = λ n. whole_counted n (n + 1) d.sized refl (fields.next n) holds }
+
+-- What was counted as p was counted as q, if each forest of p is one of q.
+pub next_as : {w : Option ℕ} {p q : Showing} {s t : ℕ → Shape} → ((f : Forest) → p f → q f) → TalliesNext w p s t →
+    TalliesNext w q s t
+next_as up a = record { declared = a.declared; next = λ n. tallies_as up (a.next n) }
 
 -- A value that may show an entry with nothing inside it is that entry.
-pub one_counted : {found size : Option ℕ} {k : Key} {p : Showing} {a a' : Sum} →
-    ((f : Forest) → Field k size Nothing f → p f) → found ≡ size → AddsSize found a a' →
-    Tallies size p (EntryAt Wide k a NoEntry) (EntryAt Wide k a' NoEntry)
-one_counted up e own = tallies_as up (bare_counted e own)
+pub next_leaf : {size : Option ℕ} {k : Key} {p : Showing} → ((f : Forest) → Field k size Nothing f → p f) →
+    IsDeclared size → TalliesNext size p (λ n. entries k size n NoEntry) (λ n. entries k size n NoEntry)
+next_leaf {size} up d = record {
+  declared = d;
+  next = λ n. tallies_as up (whole_counted n (n + 1) d.sized refl nothing_counted (holds_nothing size));
+}
 
--- Two fields were counted, each into a shape of its own.
-pub both_counted : {m n : Option ℕ} {p q : Showing} {s t u v : Shape} → Tallies m p s t → Tallies n q u v →
-    Tallies (both_bounds m n) (Both p q) (Beside s u) (Beside t v)
-both_counted a b = tallies_both a b
+-- ---- cases
+-- A value is its own entry, with what its case shows inside it, whatever the number of the values.
+pub next_case : {size w : Option ℕ} {k : Key} {p : Showing} {s t : Shape} → IsDeclared size → Tallies w p s t →
+    Holds size w → TalliesNext size (Field k size p) (λ n. entries k size n s) (λ n. entries k size n t)
+next_case d inside holds = next_whole d (record { next = λ n. inside }) holds
 
--- A value was counted into the first of two shapes.
-pub first_counted : {w : Option ℕ} {p : Showing} {s t u : Shape} → Tallies w p s t →
-    Tallies w p (Beside s u) (Beside t u)
-first_counted {w} {p} {u = u} c = tallies_within w (holds_no_more w holds_itself)
-    (tallies_as (λ h (a, b, x, e, i). subst p (sym (i ∙ ap (followed_by a) e ∙ followed_by-empty a)) x)
-    (tallies_both {q = Nothing} c (tallies_none {w = Some 0} refl)))
+-- A case of one value is its entry, with what the value shows.
+pub own_counted : {v : Option ℕ} {k : Key} {p : Showing} {n m : ℕ} {s t : ℕ → Shape} → TalliesOwn v p n s m t →
+    Tallies v (Field k v p) (entries k v n (s n)) (entries k v m (t m))
+own_counted {v} {k} {p} {n} {m} {s} {t} a =
+    subst (λ (i : ℕ). Tallies v (Field k v p) (entries k v n (s n)) (entries k v i (t i))) (sym a.more)
+    ((next_field a.value).next n)
 
--- A value was counted into the second of two shapes.
-pub second_counted : {w : Option ℕ} {p : Showing} {s t u : Shape} → Tallies w p s t →
-    Tallies w p (Beside u s) (Beside u t)
-second_counted {w} {p} {u = u} c = tallies_within w (holds_none_more w)
-    (tallies_as (λ h (a, b, e, x, i). subst p (sym (i ∙ ap (λ z. followed_by z b) e)) x)
-    (tallies_both {p = Nothing} (tallies_none {w = Some 0} refl) c))
-
--- ---- values of std
--- An option with a value is its own entry with the value's field inside it.
-pub some_counted : {found : Option ℕ} (w : Option ℕ) (align : ℕ) {k j : Key} {p : Showing} {a a' b b' : Sum}
-    {s s' : Shape} → found ≡ size_up (size_sum (Some 1) w) align → AddsSize found a a' → TalliesField w p b s b' s' →
-    Tallies (size_up (size_sum (Some 1) w) align) (Field k (size_up (size_sum (Some 1) w) align) (Field j w p))
-    (EntryAt Wide k a (EntryAt Wide j b s)) (EntryAt Wide k a' (EntryAt Wide j b' s'))
-some_counted w align e own value =
-    whole_counted e own (field_counted value) (holds_up _ align (holds_second (Some 1) w holds_itself))
-
--- A value of two cases, of which the first is there, is its own entry with the first case's field inside it.
-pub first_case_counted : {found : Option ℕ} (v w : Option ℕ) (align : ℕ) {k i j : Key} {p : Showing}
-    {a a' b b' c : Sum} {s s' t : Shape} → found ≡ size_up (size_sum (Some 1) (size_max v w)) align →
-    AddsSize found a a' → TalliesField v p b s b' s' → Tallies (size_up (size_sum (Some 1) (size_max v w)) align)
-    (Field k (size_up (size_sum (Some 1) (size_max v w)) align) (Field i v p))
-    (EntryAt Wide k a (Beside (EntryAt Wide i b s) (EntryAt Wide j c t)))
-    (EntryAt Wide k a' (Beside (EntryAt Wide i b' s') (EntryAt Wide j c t)))
-first_case_counted v w align e own value = whole_counted e own (first_counted (field_counted value))
-    (holds_up _ align (holds_second (Some 1) (size_max v w) (holds_first_of v w holds_itself)))
-
--- A value of two cases, of which the second is there, is its own entry with the second case's field inside it.
-pub second_case_counted : {found : Option ℕ} (v w : Option ℕ) (align : ℕ) {k i j : Key} {q : Showing}
-    {a a' b c c' : Sum} {s t t' : Shape} → found ≡ size_up (size_sum (Some 1) (size_max v w)) align →
-    AddsSize found a a' → TalliesField w q c t c' t' → Tallies (size_up (size_sum (Some 1) (size_max v w)) align)
-    (Field k (size_up (size_sum (Some 1) (size_max v w)) align) (Field j w q))
-    (EntryAt Wide k a (Beside (EntryAt Wide i b s) (EntryAt Wide j c t)))
-    (EntryAt Wide k a' (Beside (EntryAt Wide i b s) (EntryAt Wide j c' t')))
-second_case_counted v w align e own value = whole_counted e own (second_counted (field_counted value))
-    (holds_up _ align (holds_second (Some 1) (size_max v w) (holds_second_of v w holds_itself)))
-
--- A pair is its own entry with both fields inside it.
-pub pair_counted : {found : Option ℕ} (v w : Option ℕ) (align : ℕ) {k i j : Key} {p q : Showing} {a a' b b' c c' : Sum}
-    {s s' t t' : Shape} → found ≡ size_up (size_sum v w) align → AddsSize found a a' → TalliesField v p b s b' s' →
-    TalliesField w q c t c' t' →
-    Tallies (size_up (size_sum v w) align) (Field k (size_up (size_sum v w) align) (Both (Field i v p) (Field j w q)))
-    (EntryAt Wide k a (Beside (EntryAt Wide i b s) (EntryAt Wide j c t)))
-    (EntryAt Wide k a' (Beside (EntryAt Wide i b' s') (EntryAt Wide j c' t')))
-pair_counted v w align e own first second =
-    whole_counted e own (both_counted (field_counted first) (field_counted second))
-    (holds_up _ align (holds_both v w v w holds_itself holds_itself))
+-- A case of several fields is its entry, with the fields inside it.
+pub case_counted : {v w : Option ℕ} {k : Key} {p : Showing} {n m : ℕ} {s t : ℕ → Shape} → IsDeclared v → m ≡ n + 1 →
+    TalliesFields w p s t → Holds v w → Tallies v (Field k v p) (entries k v n (s n)) (entries k v m (t m))
+case_counted {v} {k = k} {p} {n} {m} {s} {t} d more fields holds =
+    subst (λ (i : ℕ). Tallies v (Field k v p) (entries k v n (s n)) (entries k v i (t i))) (sym more)
+    (whole_counted n (n + 1) d.sized refl (fields.next n) holds)
 
 -- The lemmas for what a declared size has room for.
 pub ruleset holding = (
@@ -232,6 +203,3 @@ pub ruleset holding = (
 
 -- The lemmas for what the sizes of tuples have room for.
 pub ruleset holding_tuples = (holds_grouped, holds_up, holds_both, holds_itself)
-
--- The lemmas for what std's types show.
-pub ruleset values = (bare_counted, some_counted, first_case_counted, second_case_counted, pair_counted)

@@ -3,7 +3,7 @@ pub mod Merging
 pub mod Entering
 pub mod Counting
 pub mod Sizes
-pub mod Sequences
-pub mod Maps
-pub mod Rules
 pub mod Fields
+pub mod Many
+pub mod Buffers
+pub mod Items

@@ -3,8 +3,8 @@ use Rattle.std.proofs.Common.{◌≡◌, ◌≤◌, ◌+◌, ◌^◌, ℕ, suc, 
 use Rattle.std.proofs.Common.{Option, Some}
 use Rattle.std.proofs.Common.{None, refl, subst, arith, if◌then◌else◌}
 use Rattle.allocative_described.specs.Sizes.{checked, up, size_sum, size_max, size_up}
-use Rattle.allocative_tally.specs.Tallies.{IsWithin}
-use Rattle.allocative_tally.proofs.Counting.{FitsEntry, both_bounds}
+use Rattle.allocative_tally.specs.Tallies.{IsWithin, both_bounds}
+use Rattle.allocative_tally.proofs.Counting.{FitsEntry}
 
 -- Whatever is within the first bound is within the second.
 abbrev pub HasRoom : Option ℕ → Option ℕ → Type 0
@@ -23,7 +23,7 @@ checked_is m n e = by_test (nat_lt m (2 ^ 64)) e
     by_test false i = cc
 
 -- A size that is checked is the size or none.
-room_checked : (m d : ℕ) → d ≤ m → IsWithin d (checked m)
+pub room_checked : (m d : ℕ) → d ≤ m → IsWithin d (checked m)
 room_checked m d h = by_test (nat_lt m (2 ^ 64))
   where
     by_test : (b : Bool) → IsWithin d (if b then Some m else None)

@@ -1,5 +1,5 @@
 -- What a tally shows.
-use Rattle.std.specs.Prelude.{◌≡◌, ◌≤◌, ℕ, Bool, true, false, cond, ⊤, codes}
+use Rattle.std.specs.Prelude.{◌≡◌, ◌≤◌, ◌*◌, ◌-◌, ◌^◌, ◌+◌, ◌==◌, min, not, ℕ, Bool, true, false, cond, ⊤, Option, None, Some, codes}
 use Rattle.allocative_graph.specs.Path.{Key}
 use Rattle.allocative_graph.specs.Forest.{Forest, Empty, followed_by, entry_of}
 use Rattle.allocative_graph.specs.Owned.{direct}
@@ -55,18 +55,60 @@ abbrev pub IsRight : Shape → Type 0
 IsRight s = IsPlain (forest_of s) × Holds s
 
 -- Nothing was counted.
-abbrev pub IsNothing : Shape → Type 0
-IsNothing s = (forest_of s ≡ Empty) × Holds s
+pub record IsNothing (s : Shape) : Type 0 where
+  pub is_empty : forest_of s ≡ Empty
+  pub holds : Holds s
 
 -- The forest of a shape, and no other.
 pub data shape_shows (s : Shape) : Forest → Type 0 where
   is_shape : {f : Forest} → f ≡ forest_of s → shape_shows s f
 
--- A slice: one entry of all items, or what each item shows.
-abbrev pub slice_shape : Key → Sum → Shape → Shape
-slice_shape name slice item = Beside (EntryAt Wide name slice NoEntry) item
+-- The bytes of so many entries of a declared size, up to the greatest word.
+abbrev pub bytes_times : Option ℕ → ℕ → ℕ
+bytes_times None n = 0
+bytes_times (Some s) n = min (s * n) (2 ^ 64 - 1)
 
--- A buffer, with items and unused places inside it.
-abbrev pub buffer_shape : Sum → Shape → Sum → Shape
-buffer_shape pointer items unused = EntryAt Unique (codes "ptr") pointer
-    (Beside items (EntryAt Wide (codes "unused_capacity") unused NoEntry))
+-- So many entries with some bytes together.
+abbrev pub sum_of : ℕ → ℕ → Sum
+sum_of n bytes = record { is_there = not (n == 0); bytes = bytes }
+
+-- So many entries of a declared size.
+abbrev pub sum_times : Option ℕ → ℕ → Sum
+sum_times size n = sum_of n (bytes_times size n)
+
+-- So many inline entries of a declared size, with a shape inside them.
+abbrev pub entries : Key → Option ℕ → ℕ → Shape → Shape
+entries k size n s = EntryAt Wide k (sum_times size n) s
+
+-- The fields `key` and `value` of so many pairs, by what so many keys and values show.
+abbrev pub pairs_shape : Option ℕ → Option ℕ → (ℕ → Shape) → (ℕ → Shape) → ℕ → Shape
+pairs_shape v w s t n = Beside (entries (codes "key") v n (s n)) (entries (codes "value") w n (t n))
+
+-- The entries `data` of so many maps or sets whose items have at most 8 bytes, and of those whose items have more.
+abbrev pub data_shape : ℕ → Shape → ℕ → Shape → Shape
+data_shape n s m t = Beside (EntryAt Wide (codes "data") (sum_times (Some 8) n) s)
+    (EntryAt Narrow (codes "data") (sum_times (Some 8) m) t)
+
+-- The items of so many slices: what they show, or one entry of their bytes.
+abbrev pub items_shape : Bool → Key → ℕ → ℕ → Shape → Shape
+items_shape true name n bytes s = s
+items_shape false name n bytes s = EntryAt Wide name (sum_of n bytes) NoEntry
+
+-- The unused places of so many buffers, with some bytes together.
+abbrev pub unused_shape : ℕ → ℕ → Shape
+unused_shape n bytes = EntryAt Wide (codes "unused_capacity") (sum_of n bytes) NoEntry
+
+-- So many buffers under a key, with their items inside them, and unused places of some bytes together.
+abbrev pub buffer_shape : Key → ℕ → Shape → ℕ → Shape
+buffer_shape k n items unused = EntryAt Unique k (sum_times (Some 8) n) (Beside items (unused_shape n unused))
+
+-- So many hash tables, with buckets of some bytes together.
+abbrev pub table_shape : ℕ → ℕ → Shape
+table_shape n bytes = EntryAt Unique (codes "raw_table") (sum_times (Some 8) n)
+    (EntryAt Wide (codes "alloc") (sum_of n bytes) NoEntry)
+
+-- The bytes of a shape's sums at its top.
+abbrev pub top_bytes : Shape → ℕ
+top_bytes NoEntry = 0
+top_bytes (Beside s t) = top_bytes s + top_bytes t
+top_bytes (EntryAt x k sum s) = sum.bytes

@@ -1,15 +1,25 @@
 -- What counting a value does to what was counted before.
-use Rattle.std.specs.Prelude.{◌≡◌, ◌≤◌, ◌<◌, ◌+◌, ◌^◌, ℕ, Bool, true, false, ◌*◌, Option, None, Some, Result, ⊤}
+use Rattle.std.specs.Prelude.{◌≡◌, ◌≤◌, ◌<◌, ◌+◌, ◌*◌, ◌^◌, ℕ, Bool, true, List, length, map, Option}
+use Rattle.std.specs.Prelude.{None, Some, Result, ⊤}
+use Rattle.std.specs.Iterator.{Drains}
 use Rattle.allocative_graph.specs.Path.{Key}
 use Rattle.allocative_graph.specs.Forest.{Forest, followed_by}
 use Rattle.allocative_graph.specs.Owned.{direct}
-use Rattle.allocative_graph.specs.Shows.{Showing, Field}
+use Rattle.allocative_graph.specs.Shows.{Showing, each_shows}
 use Rattle.allocative_graph.specs.declared.refusal.Refusal.{Refusal}
+use Rattle.allocative.specs.Bodies.{are_shown_each}
+use Rattle.allocative.specs.Runs.{field_of}
 use Rattle.allocative.specs.Visited.{Entered}
 use Rattle.allocative.specs.declared.visitor.Visitor.{Visitor}
 use Rattle.allocative_tally.specs.Merged.{Merged}
-use Rattle.allocative_tally.specs.Shapes.{Shape, Wide, EntryAt, forest_of, Holds, IsRight, shape_shows}
+use Rattle.allocative_tally.specs.Shapes.{Shape, forest_of, Holds, IsRight, shape_shows, entries, items_shape}
 use Rattle.allocative_tally.specs.declared.tally.Sum.{Sum}
+
+-- The bound of two values, one after another.
+abbrev pub both_bounds : Option ℕ → Option ℕ → Option ℕ
+both_bounds None n = None
+both_bounds (Some m) None = None
+both_bounds (Some m) (Some n) = Some (m + n)
 
 -- n is at most a bound, if there is one.
 abbrev pub IsWithin : ℕ → Option ℕ → Type 0
@@ -17,30 +27,76 @@ IsWithin n None = ⊤
 IsWithin n (Some s) = n ≤ s
 
 -- One more forest that p allows, with at most so many bytes at its top, was counted: s was the shape before, and if
--- it was right, that of t merges it and the forest, and t is right.
+-- it was right and the bytes at the top fit a word, that of t merges it and the forest, and t is right.
 pub record Tallies (size : Option ℕ) (p : Showing) (s t : Shape) : Type 0 where
   pub counted : Forest
   pub allowed : p counted
   pub within : IsWithin (direct counted) size
-  pub merged : IsRight s → Merged (followed_by (forest_of s) counted) (forest_of t) × Holds t
+  pub merged : IsRight s → direct (forest_of s) + direct counted < 2 ^ 64
+      → Merged (followed_by (forest_of s) counted) (forest_of t) × Holds t
 
--- One more value was counted in a field of its declared size, whatever the field's key.
-pub record TalliesField (size : Option ℕ) (p : Showing) (old : Sum) (s : Shape) (new : Sum) (t : Shape) : Type 0 where
-  pub under : (k : Key) → Tallies size (Field k size p) (EntryAt Wide k old s) (EntryAt Wide k new t)
+-- A declared size is there, and fits a word.
+pub record IsDeclared (size : Option ℕ) : Type 0 where
+  pub bytes : ℕ
+  pub sized : size ≡ Some bytes
+  pub fits : bytes < 2 ^ 64
 
--- One more entry of n bytes was added to a sum.
+-- One more value of a declared size was counted into what any number of values show: s is what so many values showed
+-- before, and t what so many show then.
+pub record TalliesNext (size : Option ℕ) (p : Showing) (s t : ℕ → Shape) : Type 0 where
+  pub declared : IsDeclared size
+  pub next : (n : ℕ) → Tallies size p (s n) (t (n + 1))
+
+-- The same, of a value's fields, which have no declared size of their own.
+pub record TalliesFields (size : Option ℕ) (p : Showing) (s t : ℕ → Shape) : Type 0 where
+  pub next : (n : ℕ) → Tallies size p (s n) (t (n + 1))
+
+-- The bytes of so many values of a declared size, if there is one.
+abbrev pub size_times : Option ℕ → ℕ → Option ℕ
+size_times None n = None
+size_times (Some s) n = Some (s * n)
+
+-- So many values more, of a declared size each, were counted into what any number of values show.
+pub record TalliesMany (size : Option ℕ) (count : ℕ) (p : Showing) (s t : ℕ → Shape) : Type 0 where
+  pub next : (n m : ℕ) → m ≡ n + count → Tallies (size_times size count) p (s n) (t m)
+
+-- Each item was counted: what it shows, and, whatever the key, a field of its declared size with that inside it.
+pub record TalliesEach {T : Type 0} (size : Option ℕ) (p : T → Showing) (xs : List T) (s t : ℕ → Shape) : Type 0 where
+  pub items : TalliesMany size (length xs) (each_shows p xs) s t
+  pub fields : (k : Key) → TalliesMany size (length xs) (each_shows (field_of k size p) xs) (λ n. entries k size n (s n))
+      (λ n. entries k size n (t n))
+
+-- r holds of the items of some whole run of an iterator that starts at s; v is what a contract sees of an item.
+pub record HoldsOfRun {S A B : Type 0} (steps : S → Option A → S → Type 0) (s : S) (v : A → B) (r : List B → Type 0)
+    : Type 0 where
+  pub given : List A
+  pub drained : Drains steps s given
+  pub holds : r (map v given)
+
+-- One more value of a number of its own was counted.
+pub record TalliesOwn (size : Option ℕ) (p : Showing) (n : ℕ) (s : ℕ → Shape) (m : ℕ) (t : ℕ → Shape) : Type 0 where
+  pub more : m ≡ n + 1
+  pub value : TalliesNext size p s t
+
+-- What a slice of l items of a declared size shows was counted into the items of slices, which are shown one by one or
+-- as one entry: n and m are how many slices there were before and then, i and j how many items.
+pub record TalliesSlice (size : Option ℕ) (l : ℕ) (needs_drop : Bool) (name : Key) (p : Showing) (s t : ℕ → Shape)
+    : Type 0 where
+  pub next : (z n m i j : ℕ) → size ≡ Some z → 0 < m → j ≡ i + l
+      → Tallies (Some (z * l)) p (items_shape (are_shown_each needs_drop size) name n (z * i) (s i))
+      (items_shape (are_shown_each needs_drop size) name m (z * j) (t j))
+
+-- The bytes of n items of a declared size fit a word.
+pub record FitsWord (size : Option ℕ) (n : ℕ) : Type 0 where
+  pub bytes : ℕ
+  pub sized : size ≡ Some bytes
+  pub fits : bytes * n < 2 ^ 64
+
+-- One more entry of n bytes was added to a sum, if the bytes fit a word.
 pub record AddsEntry (n : ℕ) (old new : Sum) : Type 0 where
   pub is_there : new.is_there ≡ true
-  pub bytes : new.bytes ≡ old.bytes + n
-  pub fits : old.bytes + n < 2 ^ 64
+  pub bytes : old.bytes + n < 2 ^ 64 → new.bytes ≡ old.bytes + n
 
 -- The shape was entered, exactly.
 pub record EntersShape (s : Shape) (old new : Visitor) (r : Result (Unit {0}) Refusal) : Type 0 where
   pub entered : Entered true (shape_shows s) old new r
-
--- Whether n items of a declared size have at most 8 bytes. If there is no size, nothing is said.
-pub record FitsData (size : Option ℕ) (n : ℕ) (fits : Bool) : Type 0 where
-  pub item : ℕ
-  pub is_size : size ≡ Some item
-  pub if_fits : fits ≡ true → item * n ≤ 8
-  pub if_more : fits ≡ false → 8 ≤ item * n

@@ -1,139 +1,147 @@
 //! Types that are one of several: `Option`, `Result` and `Either`.
-#![tactic(auto, using(crate::proofs::Fields::values))]
+#![tactic(auto, using(crate::proofs::Fields::starting))]
 
 ghost use Rattle.std.specs.Prelude.{codes};
-ghost use Rattle.allocative_tally.specs.Shapes.{Wide, EntryAt, Beside};
+ghost use Rattle.std.proofs.Common.{le_refl};
+ghost use Rattle.allocative_tally.specs.Shapes.{Beside, entries};
 
-use crate::field::{FieldSum, FieldTally, count, count_own};
-use crate::tally::{CountError, Entries, InlineSum, Sum, Tallied, Tally};
+use crate::field::{FieldMany, OwnTally, count_own};
+use crate::tally::{CountError, Entries, InlineSum, Sum, Tallied, declared};
 use allocative::{Described, Refusal, Visitor};
 use either::{Either, Left, Right};
 
-/// Options, counted.
-#[derive(Drop)]
-pub struct OptionTally<S> {
-    own: Sum,
-    some: FieldTally<S>,
-}
+impl<T: Tallied> Tallied for Option<T> {
+    type Tally = OwnTally<T::Tally>;
 
-impl<S: Tally> Tally for OptionTally<S> {
-    ghost shape = { λ t. EntryAt Wide (codes "Option") t.own
-        (EntryAt Wide (codes "Some") t.some.own (S.shape t.some.value)) };
+    ghost shape = { λ t n. entries (codes "Option") ⟦<Option<T> as Described>⟧.size n
+        (entries (codes "Some") T.size t.count (T.shape t.values t.count)) };
 
-    fn none() -> Self {
-        OptionTally {
-            own: Sum::none(),
-            some: FieldTally::none(),
+    ghost bounded = { λ t n. le_refl _ };
+
+    fn none_counted() -> Self::Tally {
+        OwnTally {
+            count: 0,
+            values: T::none_counted(),
         }
     }
 
-    fn enter(&self, visitor: &mut Visitor<'_>) -> Result<(), Refusal> {
-        let some = FieldSum("Some", &self.some);
-        InlineSum("Option", self.own, some).enter(visitor)
+    fn show(tally: &Self::Tally, count: usize, visitor: &mut Visitor<'_>) -> Result<(), Refusal> {
+        let some = FieldMany::<T>("Some", &tally.values, tally.count);
+        InlineSum("Option", Sum::times(<Option<T>>::size(), count), some).enter(visitor)
     }
-}
 
-impl<T: Tallied> Tallied for Option<T> {
-    type Tally = OptionTally<T::Tally>;
-
+    #[inline(always)]
     fn tally(&self, tally: &mut Self::Tally) -> Result<(), CountError> {
-        count_own(&mut tally.own, <Option<T>>::size())?;
+        declared::<Option<T>>()?;
         match self {
             None => Ok(()),
             Some(value) => {
-                count(&mut tally.some, value)?;
+                count_own(tally, value)?;
                 Ok(())
             }
         }
     }
 }
 
-/// Values of `Result`, counted.
+/// Values of one of two kinds, counted.
 #[derive(Drop)]
-pub struct ResultTally<P, Q> {
-    own: Sum,
-    ok: FieldTally<P>,
-    err: FieldTally<Q>,
-}
-
-impl<P: Tally, Q: Tally> Tally for ResultTally<P, Q> {
-    ghost shape = { λ t. EntryAt Wide (codes "Result") t.own
-        (Beside (EntryAt Wide (codes "Ok") t.ok.own (P.shape t.ok.value))
-        (EntryAt Wide (codes "Err") t.err.own (Q.shape t.err.value))) };
-
-    fn none() -> Self {
-        ResultTally {
-            own: Sum::none(),
-            ok: FieldTally::none(),
-            err: FieldTally::none(),
-        }
-    }
-
-    fn enter(&self, visitor: &mut Visitor<'_>) -> Result<(), Refusal> {
-        let ok = FieldSum("Ok", &self.ok);
-        let err = FieldSum("Err", &self.err);
-        InlineSum("Result", self.own, (ok, err)).enter(visitor)
-    }
+pub struct EitherTally<P, Q> {
+    first: OwnTally<P>,
+    second: OwnTally<Q>,
 }
 
 impl<T: Tallied, E: Tallied> Tallied for Result<T, E> {
-    type Tally = ResultTally<T::Tally, E::Tally>;
+    type Tally = EitherTally<T::Tally, E::Tally>;
 
+    ghost shape = { λ t n. entries (codes "Result") ⟦<Result<T, E> as Described>⟧.size n
+        (Beside (entries (codes "Ok") T.size t.first.count (T.shape t.first.values t.first.count))
+        (entries (codes "Err") E.size t.second.count (E.shape t.second.values t.second.count))) };
+
+    ghost bounded = { λ t n. le_refl _ };
+
+    fn none_counted() -> Self::Tally {
+        EitherTally {
+            first: OwnTally {
+                count: 0,
+                values: T::none_counted(),
+            },
+            second: OwnTally {
+                count: 0,
+                values: E::none_counted(),
+            },
+        }
+    }
+
+    fn show(tally: &Self::Tally, count: usize, visitor: &mut Visitor<'_>) -> Result<(), Refusal> {
+        let ok = FieldMany::<T>("Ok", &tally.first.values, tally.first.count);
+        let err = FieldMany::<E>("Err", &tally.second.values, tally.second.count);
+        InlineSum(
+            "Result",
+            Sum::times(<Result<T, E>>::size(), count),
+            (ok, err),
+        )
+        .enter(visitor)
+    }
+
+    #[inline(always)]
     fn tally(&self, tally: &mut Self::Tally) -> Result<(), CountError> {
-        count_own(&mut tally.own, <Result<T, E>>::size())?;
+        declared::<Result<T, E>>()?;
         match self {
             Ok(value) => {
-                count(&mut tally.ok, value)?;
+                count_own(&mut tally.first, value)?;
                 Ok(())
             }
             Err(value) => {
-                count(&mut tally.err, value)?;
+                count_own(&mut tally.second, value)?;
                 Ok(())
             }
         }
-    }
-}
-
-/// Values of `Either`, counted.
-#[derive(Drop)]
-pub struct EitherTally<P, Q> {
-    own: Sum,
-    left: FieldTally<P>,
-    right: FieldTally<Q>,
-}
-
-impl<P: Tally, Q: Tally> Tally for EitherTally<P, Q> {
-    ghost shape = { λ t. EntryAt Wide (codes "Either") t.own
-        (Beside (EntryAt Wide (codes "Left") t.left.own (P.shape t.left.value))
-        (EntryAt Wide (codes "Right") t.right.own (Q.shape t.right.value))) };
-
-    fn none() -> Self {
-        EitherTally {
-            own: Sum::none(),
-            left: FieldTally::none(),
-            right: FieldTally::none(),
-        }
-    }
-
-    fn enter(&self, visitor: &mut Visitor<'_>) -> Result<(), Refusal> {
-        let left = FieldSum("Left", &self.left);
-        let right = FieldSum("Right", &self.right);
-        InlineSum("Either", self.own, (left, right)).enter(visitor)
     }
 }
 
 impl<L: Tallied, R: Tallied> Tallied for Either<L, R> {
     type Tally = EitherTally<L::Tally, R::Tally>;
 
+    ghost shape = { λ t n. entries (codes "Either") ⟦<Either<L, R> as Described>⟧.size n
+        (Beside (entries (codes "Left") L.size t.first.count (L.shape t.first.values t.first.count))
+        (entries (codes "Right") R.size t.second.count (R.shape t.second.values t.second.count))) };
+
+    ghost bounded = { λ t n. le_refl _ };
+
+    fn none_counted() -> Self::Tally {
+        EitherTally {
+            first: OwnTally {
+                count: 0,
+                values: L::none_counted(),
+            },
+            second: OwnTally {
+                count: 0,
+                values: R::none_counted(),
+            },
+        }
+    }
+
+    fn show(tally: &Self::Tally, count: usize, visitor: &mut Visitor<'_>) -> Result<(), Refusal> {
+        let left = FieldMany::<L>("Left", &tally.first.values, tally.first.count);
+        let right = FieldMany::<R>("Right", &tally.second.values, tally.second.count);
+        InlineSum(
+            "Either",
+            Sum::times(<Either<L, R>>::size(), count),
+            (left, right),
+        )
+        .enter(visitor)
+    }
+
+    #[inline(always)]
     fn tally(&self, tally: &mut Self::Tally) -> Result<(), CountError> {
-        count_own(&mut tally.own, <Either<L, R>>::size())?;
+        declared::<Either<L, R>>()?;
         match self {
             Left(value) => {
-                count(&mut tally.left, value)?;
+                count_own(&mut tally.first, value)?;
                 Ok(())
             }
             Right(value) => {
-                count(&mut tally.right, value)?;
+                count_own(&mut tally.second, value)?;
                 Ok(())
             }
         }

@@ -1,18 +1,35 @@
 //! Parts of values that are counted first.
 #![tactic(auto)]
 
-ghost use Rattle.std.specs.Prelude.{IfOk, None};
+ghost use Rattle.std.specs.Prelude.{IfOk, length};
+ghost use Rattle.std.specs.Iterator.{IsFinite};
+ghost use Rattle.std.specs.Map.Iter.{deref};
 ghost use Rattle.allocative_graph.specs.Shows.{each_shows};
 ghost use Rattle.allocative.specs.Visited.{Entered};
-ghost use Rattle.allocative_tally.specs.Tallies.{Tallies};
+ghost use Rattle.allocative_tally.specs.Tallies.{TalliesEach, HoldsOfRun, FitsWord};
 
-use crate::tally::{CountError, Tallied, Tally};
+use crate::tally::{CountError, Tallied, all_fit};
 use allocative::{Allocative, Described, Each, Part, Refusal, Visitor};
 
 /// Counts what each item shows. It returns `Err` as `Tallied::tally` does.
 pub fn count_each<T: Tallied>(items: &[T], tally: &mut T::Tally) -> Result<(), CountError>
-    ensures { IfOk result (λ _. Tallies None (each_shows T.may_show items.now)
-        (T.Tally.shape tally.old) (T.Tally.shape tally.new)) }
+    ensures { IfOk result (λ _. TalliesEach T.size T.may_show items.now (T.shape tally.old) (T.shape tally.new)) }
+{
+    for item in items {
+        item.tally(tally)?;
+    }
+    Ok(())
+}
+
+/// Counts what each item of an iterator shows. It returns `Err` as `Tallied::tally` does.
+pub fn count_run<'a, T: Tallied + 'a, I: Iterator<Item = &'a T> + Drop>(
+    items: I,
+    tally: &mut T::Tally,
+) -> Result<(), CountError>
+    requires can { I.can_next items }
+    requires ends { IsFinite (I.remaining items) }
+    ensures { IfOk result (λ _. HoldsOfRun I.next_gives items deref
+        (λ xs. TalliesEach T.size T.may_show xs (T.shape tally.old) (T.shape tally.new))) }
 {
     for item in items {
         item.tally(tally)?;
@@ -33,9 +50,9 @@ impl<'a, T: Tallied> Part for Counted<'a, T> {
     ghost is_strict = { T.is_strict };
 
     fn enter(self, visitor: &mut Visitor<'_>) -> Result<(), Refusal> {
-        let mut tally = T::Tally::none();
+        let mut tally = T::none_counted();
         match self.0.tally(&mut tally) {
-            Ok(()) => tally.enter(visitor),
+            Ok(()) => T::show(&tally, 1, visitor),
             Err(_) => self.0.enter(visitor),
         }
     }
@@ -92,9 +109,9 @@ impl<'a, T: Tallied> Part for CountedEach<&'a Vec<T>> {
     ghost is_strict = { T.is_strict };
 
     fn enter(self, visitor: &mut Visitor<'_>) -> Result<(), Refusal> {
-        let mut tally = T::Tally::none();
-        match count_each(self.0, &mut tally) {
-            Ok(()) => tally.enter(visitor),
+        let mut tally = T::none_counted();
+        match count_all(self.0, &mut tally) {
+            Ok(()) => T::show(&tally, self.0.len(), visitor),
             Err(_) => Each(self.0).enter(visitor),
         }
     }
@@ -106,12 +123,22 @@ impl<'a, T: Tallied> Part for CountedEach<&'a [T]> {
     ghost is_strict = { T.is_strict };
 
     fn enter(self, visitor: &mut Visitor<'_>) -> Result<(), Refusal> {
-        let mut tally = T::Tally::none();
-        match count_each(self.0, &mut tally) {
-            Ok(()) => tally.enter(visitor),
+        let mut tally = T::none_counted();
+        match count_all(self.0, &mut tally) {
+            Ok(()) => T::show(&tally, self.0.len(), visitor),
             Err(_) => enter_each(self.0, visitor),
         }
     }
+}
+
+// Counts what each item shows, if the bytes of all items fit a word. It returns `Err` as `Tallied::tally` does.
+fn count_all<T: Tallied>(items: &[T], tally: &mut T::Tally) -> Result<(), CountError>
+    ensures each { IfOk result (λ _. TalliesEach T.size T.may_show items.now (T.shape tally.old) (T.shape tally.new)) }
+    ensures fits { IfOk result (λ _. FitsWord T.size (length items.now)) }
+{
+    all_fit(T::size(), items.len())?;
+    count_each(items, tally)?;
+    Ok(())
 }
 
 // What each item shows, one by one. It halves the slice, so its stack does not grow with the number of items.

@@ -1,133 +1,55 @@
-//! Entries of declared sizes: of fields, and of whole values.
-#![tactic(auto, using(crate::proofs::Fields::field_tallied))]
+//! Entries of declared sizes, and values with a number of their own.
+#![tactic(auto)]
 
-ghost use Rattle.std.specs.Prelude.{◌≡◌, ◌≤◌, ◌+◌, ◌^◌, ℕ, Some, IfOk, IfErr};
-ghost use Rattle.std.specs.Iterator.{IsFinite};
-ghost use Rattle.std.specs.Map.Iter.{deref};
-ghost use Rattle.allocative_described.specs.Sizes.{size_product};
-ghost use Rattle.allocative_tally.specs.Shapes.{Wide, EntryAt};
-ghost use Rattle.allocative_tally.specs.Tallies.{TalliesField};
-ghost use Rattle.allocative_tally.specs.Fields.{AddsSize, HasNothing, TalliesRun};
+ghost use Rattle.std.specs.Prelude.{IfOk};
+ghost use Rattle.allocative_tally.specs.Shapes.{entries};
+ghost use Rattle.allocative_tally.specs.Tallies.{TalliesOwn};
 ghost use Rattle.allocative.specs.Shows as shows;
 
 use crate::counted::Counted;
-use crate::tally::{CountError, Entries, InlineSum, Sum, Tallied, Tally};
+use crate::tally::{CountError, Entries, InlineSum, Sum, Tallied, added};
 use allocative::{Declared, Described, IntoKey, Part, Refusal, Visitor};
-use std::marker::PhantomData;
 
-/// The values of one field, counted: its entries, and what its values show inside them.
+/// What so many values show, by their tally.
 #[derive(Drop)]
-pub struct FieldTally<S> {
-    own: Sum,
-    value: S,
-}
+pub struct Many<'a, T: Tallied>(pub &'a T::Tally, pub usize);
 
-impl<S: Tally> FieldTally<S> {
-    /// Nothing counted.
-    pub fn none() -> Self
-        ensures { HasNothing result.own (S.shape result.value) }
-    {
-        FieldTally {
-            own: Sum::none(),
-            value: S::none(),
-        }
-    }
-}
-
-/// Counts one more value of a field, under the field's entry. It returns `Err` if the declared size is missing, or a
-/// count exceeds a word.
-#[inline(always)]
-pub fn count<T: Tallied>(field: &mut FieldTally<T::Tally>, value: &T) -> Result<(), CountError>
-    ensures { IfOk result (λ _. TalliesField T.size (T.may_show value.now)
-        field.old.own (T.Tally.shape field.old.value) field.new.own (T.Tally.shape field.new.value)) }
-{
-    count_own(&mut field.own, T::size())?;
-    value.tally(&mut field.value)?;
-    Ok(())
-}
-
-/// Counts one more entry of a declared size. If the size is missing or the bytes of all do not fit a word, it returns
-/// `Err`, and the sum stays as it was.
-#[inline(always)]
-pub fn count_own(sum: &mut Sum, size: Option<usize>) -> Result<(), CountError>
-    ensures ok { IfOk result (λ _. AddsSize size sum.old sum.new) }
-    ensures kept { IfErr result (λ _. sum.new ≡ sum.old) }
-    ensures exceeds { IfErr result (λ _. (n : ℕ) → size ≡ Some n → 2 ^ 64 ≤ sum.old.bytes + n) }
-{
-    let Some(bytes) = size else {
-        return Err(CountError);
-    };
-    sum.add(bytes)?;
-    Ok(())
-}
-
-/// Counts one more entry of the bytes of `count` items of a declared size. It returns `Err` as `count_own` does.
-#[inline(always)]
-pub fn count_bytes(sum: &mut Sum, size: Option<usize>, count: usize) -> Result<(), CountError>
-    ensures ok { IfOk result (λ _. AddsSize (size_product size (Some count)) sum.old sum.new) }
-    ensures kept { IfErr result (λ _. sum.new ≡ sum.old) }
-    ensures exceeds { IfErr result (λ _. (n : ℕ) → size_product size (Some count) ≡ Some n
-        → 2 ^ 64 ≤ sum.old.bytes + n) }
-{
-    let Some(item) = size else {
-        return Err(CountError);
-    };
-    count_own(sum, item.checked_mul(count))
-}
-
-/// Counts one more value of a field for each item that an iterator gives. It returns `Err` as `count` does.
-pub fn count_fields<'a, T: Tallied + 'a, I: Iterator<Item = &'a T> + Drop>(
-    items: I,
-    field: &mut FieldTally<T::Tally>,
-) -> Result<(), CountError>
-    requires can { I.can_next items }
-    requires ends { IsFinite (I.remaining items) }
-    ensures { IfOk result (λ _. TalliesRun I.next_gives items deref T.size T.may_show
-        field.old.own (T.Tally.shape field.old.value) field.new.own (T.Tally.shape field.new.value)) }
-{
-    for item in items {
-        count(field, item)?;
-    }
-    Ok(())
-}
-
-/// The entry of a field under a key, with what its values show inside it; no entry if none was counted.
-#[derive(Drop)]
-pub struct FieldSum<'a, K, S>(pub K, pub &'a FieldTally<S>);
-
-impl<'a, K: IntoKey, S: Tally> Entries for FieldSum<'a, K, S> {
-    ghost shape = { λ e. EntryAt Wide (K.key e.0) e.1.now.own (S.shape e.1.now.value) };
+impl<'a, T: Tallied> Entries for Many<'a, T> {
+    ghost shape = { λ e. T.shape e.0.now e.1 };
 
     fn enter(self, visitor: &mut Visitor<'_>) -> Result<(), Refusal> {
-        InlineSum(self.0, self.1.own, &self.1.value).enter(visitor)
+        T::show(self.0, self.1, visitor)
     }
 }
 
-/// Values that show an entry of a type's name, counted, with what another tally counts inside it.
-///
-/// `T` is any type of that name, as `Vec<()>` for each vector: with the values' own types, tallies of ten levels would
-/// be refused.
+/// A field of so many values: entries of their declared size, with what they show inside them.
 #[derive(Drop)]
-pub struct NamedTally<T, S> {
-    pub(crate) own: Sum,
-    pub(crate) inside: S,
-    name: PhantomData<T>,
+pub struct FieldMany<'a, T: Tallied>(pub &'static str, pub &'a T::Tally, pub usize);
+
+impl<'a, T: Tallied> Entries for FieldMany<'a, T> {
+    ghost shape = { λ e. entries (⟦<&'static str as IntoKey>⟧.key e.0) T.size e.2 (T.shape e.1.now e.2) };
+
+    fn enter(self, visitor: &mut Visitor<'_>) -> Result<(), Refusal> {
+        let sum = Sum::times(T::size(), self.2);
+        InlineSum(self.0, sum, Many::<T>(self.1, self.2)).enter(visitor)
+    }
 }
 
-impl<T: Described, S: Tally> Tally for NamedTally<T, S> {
-    ghost shape = { λ t. EntryAt Wide T.name t.own (S.shape t.inside) };
+/// Values that have a number of their own, as those of one variant: how many, and their tally.
+#[derive(Drop)]
+pub struct OwnTally<S> {
+    pub count: usize,
+    pub values: S,
+}
 
-    fn none() -> Self {
-        NamedTally {
-            own: Sum::none(),
-            inside: S::none(),
-            name: PhantomData,
-        }
-    }
-
-    fn enter(&self, visitor: &mut Visitor<'_>) -> Result<(), Refusal> {
-        InlineSum(T::name(), self.own, &self.inside).enter(visitor)
-    }
+/// Counts one more value of a number of its own. It returns `Err` as `Tallied::tally` does.
+#[inline(always)]
+pub fn count_own<T: Tallied>(own: &mut OwnTally<T::Tally>, value: &T) -> Result<(), CountError>
+    ensures { IfOk result (λ _. TalliesOwn T.size (T.may_show value.now)
+        own.old.count (T.shape own.old.values) own.new.count (T.shape own.new.values)) }
+{
+    own.count = added(own.count, 1)?;
+    value.tally(&mut own.values)
 }
 
 /// The field that `Field` enters, counted first.

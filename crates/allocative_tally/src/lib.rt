@@ -7,6 +7,7 @@ pub mod field;
 pub mod map;
 pub mod number;
 pub mod pack;
+pub mod places;
 pub mod pointer;
 pub mod profile;
 pub mod sequence;

@@ -1,69 +1,83 @@
 //! Maps, which show the fields `key` and `value` for each pair, inside an inline entry `data` of 8 bytes.
 #![tactic(auto)]
 
-ghost use Rattle.std.specs.Prelude.{◌≡◌, ◌&&◌, ◌≤◌, ◌<◌, ◌*◌, true, false, codes, IfOk, None, Some};
+ghost use Rattle.std.specs.Prelude.{◌≡◌, ◌&&◌, ◌≤◌, ◌<◌, ◌*◌, true, false, codes, IfOk, Some, length};
 ghost use Rattle.std.specs.Iterator.{IsFinite};
 ghost use Rattle.std.specs.Map.Iter.{deref_pair};
+ghost use Rattle.std.proofs.Common.{le_refl};
 ghost use Rattle.allocative_described.specs.Sizes.{size_sum};
 ghost use Rattle.allocative_graph.specs.Shows.{each_shows};
-ghost use Rattle.allocative.specs.Runs.{IsOfRun, pair_shows};
+ghost use Rattle.allocative.specs.Runs.{pair_shows};
 ghost use Rattle.allocative.specs.StdShows.{in_any_order};
-ghost use Rattle.allocative_tally.specs.Shapes.{Wide, Narrow, EntryAt, Beside};
-ghost use Rattle.allocative_tally.specs.Tallies.{Tallies, FitsData};
+ghost use Rattle.allocative_tally.specs.Shapes.{entries, pairs_shape, data_shape};
+ghost use Rattle.allocative_tally.specs.Tallies.{TalliesMany, HoldsOfRun, FitsWord, both_bounds};
+ghost use Rattle.allocative_tally.specs.Places.{FitsData};
 
-use crate::field::{FieldSum, FieldTally, NamedTally, count};
-use crate::tally::{CountError, Entries, InlineSum, NarrowSum, Sum, Tallied, Tally};
+use crate::field::FieldMany;
+use crate::places::{Buffers, Places};
+use crate::tally::{CountError, Entries, InlineSum, NarrowSum, Sum, Tallied, all_fit};
 use allocative::{Described, Pairs, Part, Refusal, Visitor};
 use std::collections::{BTreeMap, HashMap};
 use std::hash::Hash;
 
-/// Pairs of maps, counted.
+/// The fields of so many pairs, by the tallies of their keys and values.
 #[derive(Drop)]
-pub struct PairsTally<P, Q> {
-    key: FieldTally<P>,
-    value: FieldTally<Q>,
-}
+pub struct PairsMany<'a, K: Tallied, V: Tallied>(pub &'a (K::Tally, V::Tally), pub usize);
 
-impl<P: Tally, Q: Tally> Tally for PairsTally<P, Q> {
-    ghost shape = { λ t. Beside (EntryAt Wide (codes "key") t.key.own (P.shape t.key.value))
-        (EntryAt Wide (codes "value") t.value.own (Q.shape t.value.value)) };
+impl<'a, K: Tallied, V: Tallied> Entries for PairsMany<'a, K, V> {
+    ghost shape = { λ e. pairs_shape K.size V.size (K.shape e.0.now.0) (V.shape e.0.now.1) e.1 };
 
-    fn none() -> Self {
-        PairsTally {
-            key: FieldTally::none(),
-            value: FieldTally::none(),
-        }
-    }
-
-    fn enter(&self, visitor: &mut Visitor<'_>) -> Result<(), Refusal> {
-        let keys = FieldSum("key", &self.key);
-        let values = FieldSum("value", &self.value);
+    fn enter(self, visitor: &mut Visitor<'_>) -> Result<(), Refusal> {
+        let keys = FieldMany::<K>("key", &self.0.0, self.1);
+        let values = FieldMany::<V>("value", &self.0.1, self.1);
         (keys, values).enter(visitor)
     }
 }
 
-/// Counts each pair that an iterator gives. It returns `Err` as `count` does.
+/// Counts each pair that an iterator gives. It returns `Err` as `Tallied::tally` does.
 pub fn count_pairs<'a, K: Tallied + 'a, V: Tallied + 'a, I: Iterator<Item = (&'a K, &'a V)> + Drop>(
     pairs: I,
-    tally: &mut PairsTally<K::Tally, V::Tally>,
+    tally: &mut (K::Tally, V::Tally),
 ) -> Result<(), CountError>
     requires can { I.can_next pairs }
     requires ends { IsFinite (I.remaining pairs) }
-    ensures { IfOk result (λ _. Tallies None
-        (IsOfRun I.next_gives pairs deref_pair (each_shows (pair_shows K.size K.may_show V.size V.may_show)))
-        (⟦<PairsTally<K::Tally, V::Tally> as Tally>⟧.shape tally.old)
-        (⟦<PairsTally<K::Tally, V::Tally> as Tally>⟧.shape tally.new)) }
+    ensures { IfOk result (λ _. HoldsOfRun I.next_gives pairs deref_pair (λ es.
+        TalliesMany (both_bounds K.size V.size) (length es)
+        (each_shows (pair_shows K.size K.may_show V.size V.may_show) es)
+        (pairs_shape K.size V.size (K.shape tally.old.0) (V.shape tally.old.1))
+        (pairs_shape K.size V.size (K.shape tally.new.0) (V.shape tally.new.1)))) }
 {
     for pair in pairs {
         let (key, value) = pair;
-        count(&mut tally.key, key)?;
-        count(&mut tally.value, value)?;
+        key.tally(&mut tally.0)?;
+        value.tally(&mut tally.1)?;
     }
     Ok(())
 }
 
+// Counts each pair that an iterator gives, if the bytes of so many pairs fit a word. It returns `Err` as
+// `Tallied::tally` does.
+fn count_all<'a, K: Tallied + 'a, V: Tallied + 'a, I: Iterator<Item = (&'a K, &'a V)> + Drop>(
+    pairs: I,
+    count: usize,
+    tally: &mut (K::Tally, V::Tally),
+) -> Result<(), CountError>
+    requires can { I.can_next pairs }
+    requires ends { IsFinite (I.remaining pairs) }
+    ensures each { IfOk result (λ _. HoldsOfRun I.next_gives pairs deref_pair (λ es.
+        TalliesMany (both_bounds K.size V.size) (length es)
+        (each_shows (pair_shows K.size K.may_show V.size V.may_show) es)
+        (pairs_shape K.size V.size (K.shape tally.old.0) (V.shape tally.old.1))
+        (pairs_shape K.size V.size (K.shape tally.new.0) (V.shape tally.new.1)))) }
+    ensures fits { IfOk result (λ _. FitsWord (size_sum K.size V.size) count) }
+{
+    all_fit(pair_size::<K, V>(), count)?;
+    count_pairs(pairs, tally)?;
+    Ok(())
+}
+
 /// The declared size of a pair's key and value in bytes. `None` if a size is missing, or the sum exceeds a word.
-fn pair_size<K: Described, V: Described>() -> Option<usize>
+pub(crate) fn pair_size<K: Described, V: Described>() -> Option<usize>
     ensures { result ≡ size_sum K.size V.size }
 {
     K::size()?.checked_add(V::size()?)
@@ -80,67 +94,124 @@ pub(crate) fn fits_data(size: Option<usize>, count: usize) -> Result<bool, Count
 }
 
 /// Entries `data` of maps and sets, counted: those whose items have at most its 8 bytes, and those whose items have
-/// more.
+/// more. No place in them is unused.
 #[derive(Drop)]
 pub struct DataTally<S> {
-    pub(crate) small: Sum,
-    pub(crate) small_items: S,
-    pub(crate) large: Sum,
-    pub(crate) large_items: S,
+    pub(crate) small: Buffers<S>,
+    pub(crate) large: Buffers<S>,
 }
 
-impl<S: Tally> Tally for DataTally<S> {
-    ghost shape = { λ t. Beside (EntryAt Wide (codes "data") t.small (S.shape t.small_items))
-        (EntryAt Narrow (codes "data") t.large (S.shape t.large_items)) };
+/// Entries `data`, by how many there are, with entries inside those whose items have at most 8 bytes, and with others
+/// inside the rest.
+#[derive(Drop)]
+pub struct DataMany<P, Q>(pub usize, pub P, pub usize, pub Q);
 
-    fn none() -> Self {
-        DataTally {
-            small: Sum::none(),
-            small_items: S::none(),
-            large: Sum::none(),
-            large_items: S::none(),
-        }
-    }
+impl<P: Entries, Q: Entries> Entries for DataMany<P, Q> {
+    ghost shape = { λ e. data_shape e.0 (P.shape e.1) e.2 (Q.shape e.3) };
 
-    fn enter(&self, visitor: &mut Visitor<'_>) -> Result<(), Refusal> {
-        let small = InlineSum("data", self.small, &self.small_items);
-        let large = NarrowSum("data", self.large, &self.large_items);
+    fn enter(self, visitor: &mut Visitor<'_>) -> Result<(), Refusal> {
+        let small = InlineSum("data", Sum::times(Some(8), self.0), self.1);
+        let large = NarrowSum("data", Sum::times(Some(8), self.2), self.3);
         (small, large).enter(visitor)
     }
 }
 
 impl<K: Tallied + Eq + Hash, V: Tallied> Tallied for HashMap<K, V> {
-    type Tally = NamedTally<HashMap<(), ()>, DataTally<PairsTally<K::Tally, V::Tally>>>;
+    type Tally = DataTally<(K::Tally, V::Tally)>;
+
+    ghost shape = { λ t n. entries (codes "HashMap") (Some 48) n (data_shape t.small.places.buffers
+        (pairs_shape K.size V.size (K.shape t.small.values.0) (V.shape t.small.values.1) t.small.places.items)
+        t.large.places.buffers
+        (pairs_shape K.size V.size (K.shape t.large.values.0) (V.shape t.large.values.1) t.large.places.items)) };
+
+    ghost bounded = { λ t n. le_refl _ };
+
+    fn none_counted() -> Self::Tally {
+        DataTally {
+            small: Buffers {
+                places: Places::none(),
+                values: (K::none_counted(), V::none_counted()),
+            },
+            large: Buffers {
+                places: Places::none(),
+                values: (K::none_counted(), V::none_counted()),
+            },
+        }
+    }
+
+    fn show(tally: &Self::Tally, count: usize, visitor: &mut Visitor<'_>) -> Result<(), Refusal> {
+        let small = PairsMany::<K, V>(&tally.small.values, tally.small.places.items);
+        let large = PairsMany::<K, V>(&tally.large.values, tally.large.places.items);
+        let data = DataMany(
+            tally.small.places.buffers,
+            small,
+            tally.large.places.buffers,
+            large,
+        );
+        InlineSum("HashMap", Sum::times(Some(48), count), data).enter(visitor)
+    }
 
     fn tally(&self, tally: &mut Self::Tally) -> Result<(), CountError> {
-        tally.own.add(48)?;
-        let data = &mut tally.inside;
-        let is_small = fits_data(pair_size::<K, V>(), self.len())?;
+        let size = pair_size::<K, V>();
+        let count = self.len();
+        let is_small = fits_data(size, count)?;
         if is_small {
-            data.small.add(8)?;
-            count_pairs(self.iter(), &mut data.small_items)?;
+            tally.small.places.add(size, count, 0)?;
+            count_pairs(self.iter(), &mut tally.small.values)?;
             return Ok(());
         }
-        data.large.add(8)?;
-        count_pairs(self.iter(), &mut data.large_items)?;
+        tally.large.places.add(size, count, 0)?;
+        count_pairs(self.iter(), &mut tally.large.values)?;
         Ok(())
     }
 }
 
 impl<K: Tallied + Ord, V: Tallied> Tallied for BTreeMap<K, V> {
-    type Tally = NamedTally<BTreeMap<(), ()>, DataTally<PairsTally<K::Tally, V::Tally>>>;
+    type Tally = DataTally<(K::Tally, V::Tally)>;
+
+    ghost shape = { λ t n. entries (codes "BTreeMap") (Some 24) n (data_shape t.small.places.buffers
+        (pairs_shape K.size V.size (K.shape t.small.values.0) (V.shape t.small.values.1) t.small.places.items)
+        t.large.places.buffers
+        (pairs_shape K.size V.size (K.shape t.large.values.0) (V.shape t.large.values.1) t.large.places.items)) };
+
+    ghost bounded = { λ t n. le_refl _ };
+
+    fn none_counted() -> Self::Tally {
+        DataTally {
+            small: Buffers {
+                places: Places::none(),
+                values: (K::none_counted(), V::none_counted()),
+            },
+            large: Buffers {
+                places: Places::none(),
+                values: (K::none_counted(), V::none_counted()),
+            },
+        }
+    }
+
+    fn show(tally: &Self::Tally, count: usize, visitor: &mut Visitor<'_>) -> Result<(), Refusal> {
+        let small = PairsMany::<K, V>(&tally.small.values, tally.small.places.items);
+        let large = PairsMany::<K, V>(&tally.large.values, tally.large.places.items);
+        let data = DataMany(
+            tally.small.places.buffers,
+            small,
+            tally.large.places.buffers,
+            large,
+        );
+        InlineSum("BTreeMap", Sum::times(Some(24), count), data).enter(visitor)
+    }
 
     fn tally(&self, tally: &mut Self::Tally) -> Result<(), CountError> {
-        tally.own.add(24)?;
-        let data = &mut tally.inside;
-        let is_small = fits_data(pair_size::<K, V>(), self.len())?;
+        let size = pair_size::<K, V>();
+        let count = self.len();
+        let is_small = fits_data(size, count)?;
         if is_small {
-            data.small.add(8)?;
-            count_pairs(self.iter(), &mut data.small_items)?;
+            tally.small.places.add(size, count, 0)?;
+            count_pairs(self.iter(), &mut tally.small.values)?;
             return Ok(());
         }
-        data.large.add(8)?;
-        count_pairs(self.iter(), &mut data.large_items)?;
+        tally.large.places.add(size, count, 0)?;
+        count_pairs(self.iter(), &mut tally.large.values)?;
         Ok(())
     }
 }
@@ -155,9 +226,10 @@ impl<'a, K: Tallied + Ord, V: Tallied> Part for CountedPairs<&'a BTreeMap<K, V>>
     ghost is_strict = { K.is_strict && V.is_strict };
 
     fn enter(self, visitor: &mut Visitor<'_>) -> Result<(), Refusal> {
-        let mut tally = PairsTally::none();
-        match count_pairs(self.0.iter(), &mut tally) {
-            Ok(()) => Tally::enter(&tally, visitor),
+        let count = self.0.len();
+        let mut tally = (K::none_counted(), V::none_counted());
+        match count_all(self.0.iter(), count, &mut tally) {
+            Ok(()) => PairsMany::<K, V>(&tally, count).enter(visitor),
             Err(_) => Pairs(self.0).enter(visitor),
         }
     }
@@ -169,9 +241,10 @@ impl<'a, K: Tallied + Eq + Hash, V: Tallied> Part for CountedPairs<&'a HashMap<K
     ghost is_strict = { K.is_strict && V.is_strict };
 
     fn enter(self, visitor: &mut Visitor<'_>) -> Result<(), Refusal> {
-        let mut tally = PairsTally::none();
-        match count_pairs(self.0.iter(), &mut tally) {
-            Ok(()) => Tally::enter(&tally, visitor),
+        let count = self.0.len();
+        let mut tally = (K::none_counted(), V::none_counted());
+        match count_all(self.0.iter(), count, &mut tally) {
+            Ok(()) => PairsMany::<K, V>(&tally, count).enter(visitor),
             Err(_) => Pairs(self.0).enter(visitor),
         }
     }

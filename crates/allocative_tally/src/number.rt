@@ -1,12 +1,13 @@
 //! Numbers, times and addresses, which show one entry each.
-#![tactic(auto, using(crate::proofs::Fields::one_counted))]
+#![tactic(auto, using(crate::proofs::Fields::starting))]
 
 ghost use Rattle.allocative_graph.specs.Forest.{Forest};
 ghost use Rattle.allocative_graph.specs.Shows.{Field, Nothing};
+ghost use Rattle.std.proofs.Common.{le_refl};
+ghost use Rattle.allocative_tally.specs.Shapes.{NoEntry, entries};
 
-use crate::field::{NamedTally, count_own};
-use crate::tally::{CountError, Tallied};
-use allocative::{Allocative, Described};
+use crate::tally::{CountError, Entries, InlineSum, Sum, Tallied, declared};
+use allocative::{Allocative, Described, Refusal, Visitor};
 use std::net::{IpAddr, Ipv4Addr, Ipv6Addr};
 use std::num::{
     NonZeroI8, NonZeroI16, NonZeroI32, NonZeroI64, NonZeroIsize, NonZeroU8, NonZeroU16, NonZeroU32,
@@ -21,10 +22,21 @@ pub trait Leaf: Allocative + Described {
 }
 
 impl<T: Leaf> Tallied for T {
-    type Tally = NamedTally<T, ()>;
+    type Tally = ();
 
-    fn tally(&self, tally: &mut Self::Tally) -> Result<(), CountError> {
-        count_own(&mut tally.own, T::size())?;
+    ghost shape = { λ t n. entries T.name T.size n NoEntry };
+
+    ghost bounded = { λ t n. le_refl _ };
+
+    fn none_counted() -> () {}
+
+    fn show(_tally: &(), count: usize, visitor: &mut Visitor<'_>) -> Result<(), Refusal> {
+        InlineSum(T::name(), Sum::times(T::size(), count), ()).enter(visitor)
+    }
+
+    #[inline(always)]
+    fn tally(&self, _tally: &mut ()) -> Result<(), CountError> {
+        declared::<T>()?;
         Ok(())
     }
 }

@@ -1,178 +1,223 @@
 //! `IndexMap`, `IndexSet`, `SmallVec` and `Slab`.
-#![tactic(auto, using(crate::proofs::Rules::sequences))]
+#![tactic(auto)]
 
-ghost use Rattle.std.specs.Prelude.{codes, IfOk, None, Some};
+ghost use Rattle.std.specs.Prelude.{codes, IfOk, Some};
+ghost use Rattle.std.proofs.Common.{le_refl};
 ghost use Rattle.slab.specs.Slab.{values};
-ghost use Rattle.allocative_graph.specs.Shows.{each_shows};
 ghost use Rattle.allocative.specs.Bodies.{table_shows};
-ghost use Rattle.allocative.specs.PackShows.{slab_inside};
-ghost use Rattle.allocative_tally.specs.Shapes.{Wide, Unique as unique_width, EntryAt, Beside, NoEntry};
-ghost use Rattle.allocative_tally.specs.Tallies.{Tallies};
+ghost use Rattle.allocative_tally.specs.Shapes.{Unique as unique_width, EntryAt, Beside, NoEntry, entries, sum_times};
+ghost use Rattle.allocative_tally.specs.Shapes.{buffer_shape, bytes_times, pairs_shape, table_shape};
+ghost use Rattle.allocative_tally.specs.Tallies.{Tallies, TalliesEach};
+ghost use Rattle.allocative_tally.specs.Places.{buffer_of};
 
-use crate::field::{FieldSum, FieldTally, NamedTally, count_bytes, count_fields, count_own};
-use crate::map::{PairsTally, count_pairs};
-use crate::sequence::{BufferTally, are_shown_each, count_room};
-use crate::tally::{CountError, Entries, InlineSum, Sum, Tallied, Tally, UniqueSum};
+use crate::counted::{count_each, count_run};
+use crate::field::{FieldMany, OwnTally};
+use crate::map::{PairsMany, count_pairs};
+use crate::places::{Buffers, Places};
+use crate::sequence::{BuffersMany, are_shown_each, count_room};
+use crate::tally::{
+    CountError, Entries, InlineSum, Sum, Tallied, UniqueSum, added, bytes_of, declared,
+};
 use allocative::{Described, Refusal, Visitor, raw_table_alloc_size_for_len};
 use indexmap::{IndexMap, IndexSet};
 use slab::Slab;
 use smallvec::SmallVec;
 use std::hash::Hash;
 
-/// What containers in the order of insertion show inside their entries, counted.
+/// How many hash tables there are, and the bytes of their buckets.
+#[derive(Clone, Copy)]
+pub struct Tables {
+    count: usize,
+    buckets: usize,
+}
+
+/// Containers in the order of insertion, counted.
 #[derive(Drop)]
-pub struct IndexTally<P> {
-    pointer: Sum,
-    items: P,
-    unused: Sum,
-    table: Sum,
-    buckets: Sum,
+pub struct IndexTally<S> {
+    items: Buffers<S>,
+    tables: Tables,
 }
 
-impl<P: Tally> Tally for IndexTally<P> {
-    ghost shape = { λ t. Beside
-        (EntryAt unique_width (codes "data") t.pointer
-        (Beside (P.shape t.items) (EntryAt Wide (codes "unused_capacity") t.unused NoEntry)))
-        (EntryAt unique_width (codes "raw_table") t.table (EntryAt Wide (codes "alloc") t.buckets NoEntry)) };
-
-    fn none() -> Self {
-        IndexTally {
-            pointer: Sum::none(),
-            items: P::none(),
-            unused: Sum::none(),
-            table: Sum::none(),
-            buckets: Sum::none(),
-        }
-    }
-
-    fn enter(&self, visitor: &mut Visitor<'_>) -> Result<(), Refusal> {
-        let unused = InlineSum("unused_capacity", self.unused, ());
-        let buckets = InlineSum("alloc", self.buckets, ());
-        let data = UniqueSum("data", self.pointer, (&self.items, unused));
-        (data, UniqueSum("raw_table", self.table, buckets)).enter(visitor)
-    }
-}
-
-/// Values of sets in the order of insertion, counted.
+/// What containers in the order of insertion show inside their entries: by the places of their data and the size of
+/// one, the entries of their items, and the tables.
 #[derive(Drop)]
-pub struct ValuesTally<S> {
-    value: FieldTally<S>,
-}
+struct IndexMany<P>(Places, Option<usize>, P, Tables);
 
-impl<S: Tally> Tally for ValuesTally<S> {
-    ghost shape = { λ t. EntryAt Wide (codes "value") t.value.own (S.shape t.value.value) };
+impl<P: Entries> Entries for IndexMany<P> {
+    ghost shape = { λ e. Beside
+        (buffer_shape (codes "data") e.0.buffers (P.shape e.2) (bytes_times e.1 e.0.unused))
+        (table_shape e.3.count e.3.buckets) };
 
-    fn none() -> Self {
-        ValuesTally {
-            value: FieldTally::none(),
-        }
-    }
-
-    fn enter(&self, visitor: &mut Visitor<'_>) -> Result<(), Refusal> {
-        FieldSum("value", &self.value).enter(visitor)
+    fn enter(self, visitor: &mut Visitor<'_>) -> Result<(), Refusal> {
+        let IndexMany(places, size, items, tables) = self;
+        let unused = Sum::of(places.buffers, bytes_of(size, places.unused));
+        let inside = (items, InlineSum("unused_capacity", unused, ()));
+        let data = UniqueSum("data", Sum::times(Some(8), places.buffers), inside);
+        let buckets = InlineSum("alloc", Sum::of(tables.count, tables.buckets), ());
+        (
+            data,
+            UniqueSum("raw_table", Sum::times(Some(8), tables.count), buckets),
+        )
+            .enter(visitor)
     }
 }
 
 /// Counts the hash table of `count` items. It returns `Err` if a number exceeds a word.
-fn count_table(count: usize, table: &mut Sum, buckets: &mut Sum) -> Result<(), CountError>
+fn count_table(count: usize, tables: &mut Tables) -> Result<(), CountError>
     ensures { IfOk result (λ _. Tallies (Some 8) (table_shows count)
-        (EntryAt unique_width (codes "raw_table") table.old (EntryAt Wide (codes "alloc") buckets.old NoEntry))
-        (EntryAt unique_width (codes "raw_table") table.new (EntryAt Wide (codes "alloc") buckets.new NoEntry))) }
+        (table_shape tables.old.count tables.old.buckets) (table_shape tables.new.count tables.new.buckets)) }
 {
     if count == 0 {
         return Ok(());
     }
-    table.add(8)?;
-    count_own(buckets, raw_table_alloc_size_for_len::<u64>(count))?;
+    let Some(bytes) = raw_table_alloc_size_for_len::<u64>(count) else {
+        return Err(CountError);
+    };
+    let count = added(tables.count, 1)?;
+    let buckets = added(tables.buckets, bytes)?;
+    *tables = Tables { count, buckets };
     Ok(())
 }
 
 impl<K: Tallied + Eq + Hash, V: Tallied> Tallied for IndexMap<K, V> {
-    type Tally = NamedTally<IndexMap<(), ()>, IndexTally<PairsTally<K::Tally, V::Tally>>>;
+    type Tally = IndexTally<(K::Tally, V::Tally)>;
+
+    ghost shape = { λ t n. entries (codes "IndexMap") (Some 72) n (Beside (buffer_shape (codes "data") t.items.places.buffers
+        (pairs_shape K.size V.size (K.shape t.items.values.0) (V.shape t.items.values.1) t.items.places.items)
+        (bytes_times ⟦<(K, V) as Described>⟧.size t.items.places.unused))
+        (table_shape t.tables.count t.tables.buckets)) };
+
+    ghost bounded = { λ t n. le_refl _ };
+
+    fn none_counted() -> Self::Tally {
+        IndexTally {
+            items: Buffers {
+                places: Places::none(),
+                values: (K::none_counted(), V::none_counted()),
+            },
+            tables: Tables {
+                count: 0,
+                buckets: 0,
+            },
+        }
+    }
+
+    fn show(tally: &Self::Tally, count: usize, visitor: &mut Visitor<'_>) -> Result<(), Refusal> {
+        let places = tally.items.places;
+        let items = PairsMany::<K, V>(&tally.items.values, places.items);
+        let inside = IndexMany(places, <(K, V)>::size(), items, tally.tables);
+        InlineSum("IndexMap", Sum::times(Some(72), count), inside).enter(visitor)
+    }
 
     fn tally(&self, tally: &mut Self::Tally) -> Result<(), CountError> {
-        let inside = &mut tally.inside;
-        tally.own.add(72)?;
-        inside.pointer.add(8)?;
-        count_pairs(self.iter(), &mut inside.items)?;
-        count_bytes(
-            &mut inside.unused,
-            <(K, V)>::size(),
-            self.capacity() - self.len(),
-        )?;
-        count_table(self.len(), &mut inside.table, &mut inside.buckets)?;
+        let unused = self.capacity() - self.len();
+        tally
+            .items
+            .places
+            .add(<(K, V)>::size(), self.len(), unused)?;
+        count_pairs(self.iter(), &mut tally.items.values)?;
+        count_table(self.len(), &mut tally.tables)?;
         Ok(())
     }
 }
 
 impl<T: Tallied + Eq + Hash> Tallied for IndexSet<T> {
-    type Tally = NamedTally<IndexSet<()>, IndexTally<ValuesTally<T::Tally>>>;
+    type Tally = IndexTally<T::Tally>;
+
+    ghost shape = { λ t n. entries (codes "IndexSet") (Some 72) n (Beside (buffer_shape (codes "data") t.items.places.buffers
+        (entries (codes "value") T.size t.items.places.items (T.shape t.items.values t.items.places.items))
+        (bytes_times T.size t.items.places.unused))
+        (table_shape t.tables.count t.tables.buckets)) };
+
+    ghost bounded = { λ t n. le_refl _ };
+
+    fn none_counted() -> Self::Tally {
+        IndexTally {
+            items: Buffers {
+                places: Places::none(),
+                values: T::none_counted(),
+            },
+            tables: Tables {
+                count: 0,
+                buckets: 0,
+            },
+        }
+    }
+
+    fn show(tally: &Self::Tally, count: usize, visitor: &mut Visitor<'_>) -> Result<(), Refusal> {
+        let places = tally.items.places;
+        let items = FieldMany::<T>("value", &tally.items.values, places.items);
+        let inside = IndexMany(places, T::size(), items, tally.tables);
+        InlineSum("IndexSet", Sum::times(Some(72), count), inside).enter(visitor)
+    }
 
     fn tally(&self, tally: &mut Self::Tally) -> Result<(), CountError> {
-        let inside = &mut tally.inside;
-        tally.own.add(72)?;
-        inside.pointer.add(8)?;
-        count_fields(self.iter(), &mut inside.items.value)?;
-        count_bytes(&mut inside.unused, T::size(), self.capacity() - self.len())?;
-        count_table(self.len(), &mut inside.table, &mut inside.buckets)?;
+        let unused = self.capacity() - self.len();
+        tally.items.places.add(T::size(), self.len(), unused)?;
+        count_run(self.iter(), &mut tally.items.values)?;
+        count_table(self.len(), &mut tally.tables)?;
         Ok(())
     }
 }
 
-/// Small vectors, counted: those whose items are in place, and those whose items are in an allocation.
+/// Small vectors, counted: the items of those that have them in place, and the allocations of the others.
 #[derive(Drop)]
 pub struct SmallVecTally<S> {
-    own: Sum,
-    in_place: FieldTally<S>,
-    pointer: Sum,
-    spilled: FieldTally<S>,
-}
-
-impl<S: Tally> Tally for SmallVecTally<S> {
-    ghost shape = { λ t. EntryAt Wide (codes "SmallVec") t.own (Beside
-        (EntryAt Wide (codes "data") t.in_place.own (S.shape t.in_place.value))
-        (EntryAt unique_width (codes "ptr") t.pointer
-        (EntryAt Wide (codes "data") t.spilled.own (S.shape t.spilled.value)))) };
-
-    fn none() -> Self {
-        SmallVecTally {
-            own: Sum::none(),
-            in_place: FieldTally::none(),
-            pointer: Sum::none(),
-            spilled: FieldTally::none(),
-        }
-    }
-
-    fn enter(&self, visitor: &mut Visitor<'_>) -> Result<(), Refusal> {
-        let pointer = UniqueSum("ptr", self.pointer, FieldSum("data", &self.spilled));
-        let inside = (FieldSum("data", &self.in_place), pointer);
-        InlineSum("SmallVec", self.own, inside).enter(visitor)
-    }
+    in_place: OwnTally<S>,
+    spilled: Buffers<S>,
 }
 
 impl<T: Tallied, const N: usize> Tallied for SmallVec<T, N> {
     type Tally = SmallVecTally<T::Tally>;
 
+    ghost shape = { λ t n. entries (codes "SmallVec") ⟦<SmallVec<T, N> as Described>⟧.size n (Beside
+        (entries (codes "data") T.size t.in_place.count (T.shape t.in_place.values t.in_place.count))
+        (EntryAt unique_width (codes "ptr") (sum_times (Some 8) t.spilled.places.buffers)
+        (entries (codes "data") T.size t.spilled.places.items (T.shape t.spilled.values t.spilled.places.items)))) };
+
+    ghost bounded = { λ t n. le_refl _ };
+
+    fn none_counted() -> Self::Tally {
+        SmallVecTally {
+            in_place: OwnTally {
+                count: 0,
+                values: T::none_counted(),
+            },
+            spilled: Buffers {
+                places: Places::none(),
+                values: T::none_counted(),
+            },
+        }
+    }
+
+    fn show(tally: &Self::Tally, count: usize, visitor: &mut Visitor<'_>) -> Result<(), Refusal> {
+        let places = tally.spilled.places;
+        let in_place = FieldMany::<T>("data", &tally.in_place.values, tally.in_place.count);
+        let spilled = FieldMany::<T>("data", &tally.spilled.values, places.items);
+        let pointer = UniqueSum("ptr", Sum::times(Some(8), places.buffers), spilled);
+        let size = Sum::times(<SmallVec<T, N>>::size(), count);
+        InlineSum("SmallVec", size, (in_place, pointer)).enter(visitor)
+    }
+
     fn tally(&self, tally: &mut Self::Tally) -> Result<(), CountError> {
-        count_own(&mut tally.own, <SmallVec<T, N>>::size())?;
-        let items = self.as_slice().iter();
+        declared::<SmallVec<T, N>>()?;
         if self.spilled() {
-            tally.pointer.add(8)?;
-            count_fields(items, &mut tally.spilled)?;
+            tally.spilled.places.add(T::size(), self.len(), 0)?;
+            count_each(self.as_slice(), &mut tally.spilled.values)?;
             return Ok(());
         }
         // They have at most the bytes of the places, so they fit the entry.
         let count = self.len();
         prove!(count <= N);
-        count_fields(items, &mut tally.in_place)?;
+        tally.in_place.count = added(tally.in_place.count, count)?;
+        count_each(self.as_slice(), &mut tally.in_place.values)?;
         Ok(())
     }
 }
 
 /// Counts what each value of a slab shows, by rising key.
 fn count_values<T: Tallied>(slab: &Slab<T>, tally: &mut T::Tally) -> Result<(), CountError>
-    ensures { IfOk result (λ _. Tallies None (each_shows T.may_show (values slab.now))
-        (T.Tally.shape tally.old) (T.Tally.shape tally.new)) }
+    ensures { IfOk result (λ _. TalliesEach T.size T.may_show (values slab.now) (T.shape tally.old) (T.shape tally.new)) }
 {
     for (_key, value) in slab.iter() {
         value.tally(tally)?;
@@ -180,39 +225,35 @@ fn count_values<T: Tallied>(slab: &Slab<T>, tally: &mut T::Tally) -> Result<(), 
     Ok(())
 }
 
-/// Counts the buffer of a slab.
-fn count_slab<T: Tallied>(
-    slab: &Slab<T>,
-    tally: &mut BufferTally<T, T::Tally>,
-) -> Result<(), CountError>
-    ensures { IfOk result (λ _. Tallies (Some 8)
-        (slab_inside T.name T.size T.needs_drop T.may_show slab.now)
-        (⟦<BufferTally<T, T::Tally> as Tally>⟧.shape tally.old)
-        (⟦<BufferTally<T, T::Tally> as Tally>⟧.shape tally.new)) }
-{
-    let room = count_room::<T>(
-        slab.len(),
-        slab.capacity(),
-        &mut tally.pointer,
-        &mut tally.unused,
-    )?;
-    let Some(size) = room else {
-        return Ok(());
-    };
-    if are_shown_each::<T>(size) {
-        count_values(slab, &mut tally.item)?;
-        return Ok(());
-    }
-    count_bytes(&mut tally.slice, Some(size), slab.len())?;
-    Ok(())
-}
-
 impl<T: Tallied> Tallied for Slab<T> {
-    type Tally = NamedTally<Slab<()>, BufferTally<T, T::Tally>>;
+    type Tally = Buffers<T::Tally>;
+
+    ghost shape = { λ t n. entries (codes "Slab") (Some 40) n
+        (buffer_of T.name T.size T.needs_drop t.places (T.shape t.values)) };
+
+    ghost bounded = { λ t n. le_refl _ };
+
+    fn none_counted() -> Self::Tally {
+        Buffers {
+            places: Places::none(),
+            values: T::none_counted(),
+        }
+    }
+
+    fn show(tally: &Self::Tally, count: usize, visitor: &mut Visitor<'_>) -> Result<(), Refusal> {
+        let buffers = BuffersMany::<T>(tally);
+        InlineSum("Slab", Sum::times(Some(40), count), buffers).enter(visitor)
+    }
 
     fn tally(&self, tally: &mut Self::Tally) -> Result<(), CountError> {
-        tally.own.add(40)?;
-        count_slab(self, &mut tally.inside)?;
+        let is_there = count_room::<T>(self.len(), self.capacity(), &mut tally.places)?;
+        if !is_there {
+            return Ok(());
+        }
+        if are_shown_each::<T>() {
+            count_values(self, &mut tally.values)?;
+            return Ok(());
+        }
         Ok(())
     }
 }

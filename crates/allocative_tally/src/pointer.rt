@@ -1,44 +1,40 @@
 //! Boxes, which own what they point to.
-#![tactic(auto, using(crate::proofs::Sequences::box_counted))]
+#![tactic(auto)]
 
-ghost use Rattle.std.specs.Prelude.{codes};
-ghost use Rattle.allocative_tally.specs.Shapes.{Unique, Wide, EntryAt};
+ghost use Rattle.std.specs.Prelude.{codes, Some};
+ghost use Rattle.std.proofs.Common.{le_refl};
+ghost use Rattle.allocative_tally.specs.Shapes.{Unique, EntryAt, entries, sum_times};
 
-use crate::tally::{CountError, Entries, InlineSum, Sum, Tallied, Tally, UniqueSum};
-use allocative::{Refusal, Visitor};
+use crate::field::Many;
+use crate::places::{Buffers, Places};
+use crate::tally::{CountError, Entries, InlineSum, Sum, Tallied, UniqueSum};
+use allocative::{Described, Refusal, Visitor};
 
-/// Boxes, counted.
-#[derive(Drop)]
-pub struct BoxTally<S> {
-    own: Sum,
-    pointer: Sum,
-    value: S,
-}
+impl<T: Tallied> Tallied for Box<T> {
+    type Tally = Buffers<T::Tally>;
 
-impl<S: Tally> Tally for BoxTally<S> {
-    ghost shape = { λ t. EntryAt Wide (codes "Box") t.own (EntryAt Unique (codes "ptr") t.pointer (S.shape t.value)) };
+    ghost shape = { λ t n. entries (codes "Box") (Some 8) n
+        (EntryAt Unique (codes "ptr") (sum_times (Some 8) t.places.buffers) (T.shape t.values t.places.items)) };
 
-    fn none() -> Self {
-        BoxTally {
-            own: Sum::none(),
-            pointer: Sum::none(),
-            value: S::none(),
+    ghost bounded = { λ t n. le_refl _ };
+
+    fn none_counted() -> Self::Tally {
+        Buffers {
+            places: Places::none(),
+            values: T::none_counted(),
         }
     }
 
-    fn enter(&self, visitor: &mut Visitor<'_>) -> Result<(), Refusal> {
-        let pointer = UniqueSum("ptr", self.pointer, &self.value);
-        InlineSum("Box", self.own, pointer).enter(visitor)
+    fn show(tally: &Self::Tally, count: usize, visitor: &mut Visitor<'_>) -> Result<(), Refusal> {
+        let values = Many::<T>(&tally.values, tally.places.items);
+        let pointer = UniqueSum("ptr", Sum::times(Some(8), tally.places.buffers), values);
+        InlineSum("Box", Sum::times(Some(8), count), pointer).enter(visitor)
     }
-}
 
-impl<T: Tallied> Tallied for Box<T> {
-    type Tally = BoxTally<T::Tally>;
-
-    fn tally(&self, tally: &mut BoxTally<T::Tally>) -> Result<(), CountError> {
-        tally.own.add(8)?;
-        tally.pointer.add(8)?;
-        (**self).tally(&mut tally.value)?;
+    #[inline(always)]
+    fn tally(&self, tally: &mut Self::Tally) -> Result<(), CountError> {
+        tally.places.add(T::size(), 1, 0)?;
+        (**self).tally(&mut tally.values)?;
         Ok(())
     }
 }

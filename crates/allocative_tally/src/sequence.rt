@@ -1,207 +1,196 @@
 //! Vectors, deques and arrays.
-#![tactic(auto, using(crate::proofs::Rules::sequences))]
+#![tactic(auto)]
 
-ghost use Rattle.std.specs.Prelude.{◌≡◌, codes, IfOk, None, Some, length, vec_capacity};
-ghost use Rattle.std.specs.VecDeque.{deque_capacity};
-ghost use Rattle.allocative_graph.specs.Shows.{slice_shows, is_shown_each};
-ghost use Rattle.allocative.specs.Bodies.{buffer_shows, cut_shows};
-ghost use Rattle.allocative_tally.specs.Shapes.{Wide, EntryAt, Beside, NoEntry, buffer_shape, slice_shape};
-ghost use Rattle.allocative_tally.specs.Tallies.{Tallies};
-ghost use Rattle.allocative_tally.specs.Fields.{CountsRoom};
+ghost use Rattle.std.specs.Prelude.{◌≡◌, codes, IfOk, Some, length};
+ghost use Rattle.std.proofs.Common.{le_refl};
+ghost use Rattle.allocative_graph.specs.Shows.{slice_shows};
+ghost use Rattle.allocative.specs.Bodies.{are_shown_each as is_each};
+ghost use Rattle.allocative_tally.specs.Shapes.{entries, items_shape, bytes_times};
+ghost use Rattle.allocative_tally.specs.Places.{buffer_of, CountsRoom};
+ghost use Rattle.allocative_tally.specs.Tallies.{TalliesSlice};
 
 use crate::counted::count_each;
-use crate::field::{FieldSum, FieldTally, NamedTally, count_bytes, count_fields, count_own};
-use crate::tally::{CountError, Entries, InlineSum, Sum, Tallied, Tally, UniqueSum};
+use crate::field::{FieldMany, OwnTally};
+use crate::places::{Buffers, Places};
+use crate::tally::{
+    CountError, Entries, InlineSum, Sum, Tallied, UniqueSum, added, bytes_of, declared,
+};
 use allocative::{Described, Refusal, Visitor};
 use std::collections::VecDeque;
-use std::marker::PhantomData;
 
-/// Buffers of vectors, counted.
+/// Whether items of a type are shown one by one in a slice.
+#[inline(always)]
+pub fn are_shown_each<T: Described>() -> bool
+    ensures { result ≡ is_each T.needs_drop T.size }
+{
+    match T::size() {
+        None => false,
+        Some(size) => T::needs_drop() && size != 0,
+    }
+}
+
+/// The items of buffers: what they show, or one entry of their bytes.
 #[derive(Drop)]
-pub struct BufferTally<T, S> {
-    pub(crate) pointer: Sum,
-    pub(crate) slice: Sum,
-    pub(crate) unused: Sum,
-    pub(crate) item: S,
-    pub(crate) name: PhantomData<T>,
-}
+struct ItemsMany<'a, T: Tallied>(&'a Buffers<T::Tally>);
 
-impl<T: Described, S: Tally> Tally for BufferTally<T, S> {
-    ghost shape = { λ t. buffer_shape t.pointer (slice_shape T.name t.slice (S.shape t.item)) t.unused };
+impl<'a, T: Tallied> Entries for ItemsMany<'a, T> {
+    ghost shape = { λ e. items_shape (is_each T.needs_drop T.size) T.name e.0.now.places.buffers
+        (bytes_times T.size e.0.now.places.items) (T.shape e.0.now.values e.0.now.places.items) };
 
-    fn none() -> Self {
-        BufferTally {
-            pointer: Sum::none(),
-            slice: Sum::none(),
-            unused: Sum::none(),
-            item: S::none(),
-            name: PhantomData,
+    fn enter(self, visitor: &mut Visitor<'_>) -> Result<(), Refusal> {
+        let places = self.0.places;
+        if are_shown_each::<T>() {
+            return T::show(&self.0.values, places.items, visitor);
         }
-    }
-
-    fn enter(&self, visitor: &mut Visitor<'_>) -> Result<(), Refusal> {
-        let slice = InlineSum(T::name(), self.slice, ());
-        let unused = InlineSum("unused_capacity", self.unused, ());
-        UniqueSum("ptr", self.pointer, ((slice, &self.item), unused)).enter(visitor)
+        let slice = Sum::of(places.buffers, bytes_of(T::size(), places.items));
+        InlineSum(T::name(), slice, ()).enter(visitor)
     }
 }
 
-// Whether items of a declared size are shown one by one.
-#[inline(always)]
-pub(crate) fn are_shown_each<T: Described>(size: usize) -> bool
-    ensures { result ≡ is_shown_each T.needs_drop size }
-{
-    T::needs_drop() && size != 0
+/// Buffers, with their items and unused places inside them.
+#[derive(Drop)]
+pub struct BuffersMany<'a, T: Tallied>(pub &'a Buffers<T::Tally>);
+
+impl<'a, T: Tallied> Entries for BuffersMany<'a, T> {
+    ghost shape = { λ e. buffer_of T.name T.size T.needs_drop e.0.now.places (T.shape e.0.now.values) };
+
+    fn enter(self, visitor: &mut Visitor<'_>) -> Result<(), Refusal> {
+        let places = self.0.places;
+        let unused = Sum::of(places.buffers, bytes_of(T::size(), places.unused));
+        let inside = (
+            ItemsMany::<T>(self.0),
+            InlineSum("unused_capacity", unused, ()),
+        );
+        UniqueSum("ptr", Sum::times(Some(8), places.buffers), inside).enter(visitor)
+    }
 }
 
-/// Counts the items of a slice, whose declared size is `size`. It returns `Err` as `Tallied::tally` does.
+/// Counts the items of a slice. It returns `Err` as `Tallied::tally` does.
 #[inline(always)]
-pub fn count_slice<T: Tallied>(
-    items: &[T],
-    size: usize,
-    sum: &mut Sum,
-    tally: &mut T::Tally,
-) -> Result<(), CountError>
-    ensures { IfOk result (λ _. Tallies None
-        (slice_shows T.name (Some size) T.needs_drop T.may_show items.now)
-        (slice_shape T.name sum.old (T.Tally.shape tally.old)) (slice_shape T.name sum.new (T.Tally.shape tally.new))) }
+pub fn count_slice<T: Tallied>(items: &[T], tally: &mut T::Tally) -> Result<(), CountError>
+    ensures { IfOk result (λ _. TalliesSlice T.size (length items.now) T.needs_drop T.name
+        (slice_shows T.name T.size T.needs_drop T.may_show items.now) (T.shape tally.old) (T.shape tally.new)) }
 {
-    if are_shown_each::<T>(size) {
+    if are_shown_each::<T>() {
         count_each(items, tally)?;
         return Ok(());
     }
-    count_bytes(sum, Some(size), items.len())?;
     Ok(())
 }
 
-/// Counts the pointer and the unused places of a buffer of `count` items, and returns the declared size of an item;
-/// `None` if there is no buffer. It returns `Err` if the size is missing, or a count exceeds a word.
+/// Counts the places of a buffer, and returns whether there is one. It returns `Err` if the size is missing, or a count
+/// exceeds a word.
+#[tactic(auto, using(crate::proofs::Buffers::rooms))]
 #[inline(always)]
-pub(crate) fn count_room<T: Described>(
+pub fn count_room<T: Described>(
     count: usize,
     capacity: usize,
-    pointer: &mut Sum,
-    unused: &mut Sum,
-) -> Result<Option<usize>, CountError>
-    ensures { IfOk result
-        (CountsRoom T.size count capacity pointer.old unused.old pointer.new unused.new) }
+    places: &mut Places,
+) -> Result<bool, CountError>
+    ensures { IfOk result (CountsRoom T.size count capacity places.old places.new) }
 {
     let Some(size) = T::size() else {
         return Err(CountError);
     };
     if size == 0 {
-        return Ok(None);
+        return Ok(false);
     }
     if count.max(capacity) == 0 {
-        return Ok(None);
+        return Ok(false);
     }
-    pointer.add(8)?;
-    count_bytes(unused, Some(size), capacity.saturating_sub(count))?;
-    Ok(Some(size))
-}
-
-/// Counts the buffer of a vector. It returns `Err` as `Tallied::tally` does.
-#[inline(always)]
-pub fn count_buffer<T: Tallied>(
-    items: &Vec<T>,
-    tally: &mut BufferTally<T, T::Tally>,
-) -> Result<(), CountError>
-    ensures { IfOk result (λ _. Tallies (Some 8)
-        (buffer_shows T.size (slice_shows T.name T.size T.needs_drop T.may_show items.now.items)
-        (length items.now.items) (vec_capacity items.now))
-        (⟦<BufferTally<T, T::Tally> as Tally>⟧.shape tally.old)
-        (⟦<BufferTally<T, T::Tally> as Tally>⟧.shape tally.new)) }
-{
-    let room = count_room::<T>(
-        items.len(),
-        items.capacity(),
-        &mut tally.pointer,
-        &mut tally.unused,
-    )?;
-    let Some(size) = room else {
-        return Ok(());
-    };
-    count_slice(items.as_slice(), size, &mut tally.slice, &mut tally.item)?;
-    Ok(())
+    places.add(Some(size), count, capacity.saturating_sub(count))?;
+    Ok(true)
 }
 
 impl<T: Tallied> Tallied for Vec<T> {
-    type Tally = NamedTally<Vec<()>, BufferTally<T, T::Tally>>;
+    type Tally = Buffers<T::Tally>;
 
-    fn tally(&self, tally: &mut Self::Tally) -> Result<(), CountError> {
-        tally.own.add(24)?;
-        count_buffer(self, &mut tally.inside)?;
-        Ok(())
-    }
-}
+    ghost shape = { λ t n. entries (codes "Vec") (Some 24) n
+        (buffer_of T.name T.size T.needs_drop t.places (T.shape t.values)) };
 
-/// Counts the buffer of a deque. It returns `Err` as `Tallied::tally` does.
-#[inline(always)]
-pub fn count_ring<T: Tallied>(
-    ring: &VecDeque<T>,
-    tally: &mut BufferTally<T, T::Tally>,
-) -> Result<(), CountError>
-    ensures { IfOk result (λ _. Tallies (Some 8)
-        (buffer_shows T.size (cut_shows T.name T.size T.needs_drop T.may_show ring.now.items)
-        (length ring.now.items) (deque_capacity ring.now))
-        (⟦<BufferTally<T, T::Tally> as Tally>⟧.shape tally.old)
-        (⟦<BufferTally<T, T::Tally> as Tally>⟧.shape tally.new)) }
-{
-    let room = count_room::<T>(
-        ring.len(),
-        ring.capacity(),
-        &mut tally.pointer,
-        &mut tally.unused,
-    )?;
-    let Some(size) = room else {
-        return Ok(());
-    };
-    let (front, back) = ring.as_slices();
-    count_slice(front, size, &mut tally.slice, &mut tally.item)?;
-    count_slice(back, size, &mut tally.slice, &mut tally.item)?;
-    Ok(())
-}
+    ghost bounded = { λ t n. le_refl _ };
 
-impl<T: Tallied> Tallied for VecDeque<T> {
-    type Tally = NamedTally<VecDeque<()>, BufferTally<T, T::Tally>>;
-
-    fn tally(&self, tally: &mut Self::Tally) -> Result<(), CountError> {
-        tally.own.add(32)?;
-        count_ring(self, &mut tally.inside)?;
-        Ok(())
-    }
-}
-
-/// Arrays, counted: an entry of the item's name, with a field `data` for each item inside it.
-#[derive(Drop)]
-pub struct ArrayTally<T, S> {
-    own: Sum,
-    items: FieldTally<S>,
-    name: PhantomData<T>,
-}
-
-impl<T: Described, S: Tally> Tally for ArrayTally<T, S> {
-    ghost shape = { λ t. EntryAt Wide T.name t.own (EntryAt Wide (codes "data") t.items.own (S.shape t.items.value)) };
-
-    fn none() -> Self {
-        ArrayTally {
-            own: Sum::none(),
-            items: FieldTally::none(),
-            name: PhantomData,
+    fn none_counted() -> Self::Tally {
+        Buffers {
+            places: Places::none(),
+            values: T::none_counted(),
         }
     }
 
-    fn enter(&self, visitor: &mut Visitor<'_>) -> Result<(), Refusal> {
-        InlineSum(T::name(), self.own, FieldSum("data", &self.items)).enter(visitor)
+    fn show(tally: &Self::Tally, count: usize, visitor: &mut Visitor<'_>) -> Result<(), Refusal> {
+        let buffers = BuffersMany::<T>(tally);
+        InlineSum("Vec", Sum::times(Some(24), count), buffers).enter(visitor)
+    }
+
+    #[inline(always)]
+    fn tally(&self, tally: &mut Self::Tally) -> Result<(), CountError> {
+        let is_there = count_room::<T>(self.len(), self.capacity(), &mut tally.places)?;
+        if !is_there {
+            return Ok(());
+        }
+        count_slice(self.as_slice(), &mut tally.values)?;
+        Ok(())
+    }
+}
+
+impl<T: Tallied> Tallied for VecDeque<T> {
+    type Tally = Buffers<T::Tally>;
+
+    ghost shape = { λ t n. entries (codes "VecDeque") (Some 32) n
+        (buffer_of T.name T.size T.needs_drop t.places (T.shape t.values)) };
+
+    ghost bounded = { λ t n. le_refl _ };
+
+    fn none_counted() -> Self::Tally {
+        Buffers {
+            places: Places::none(),
+            values: T::none_counted(),
+        }
+    }
+
+    fn show(tally: &Self::Tally, count: usize, visitor: &mut Visitor<'_>) -> Result<(), Refusal> {
+        let buffers = BuffersMany::<T>(tally);
+        InlineSum("VecDeque", Sum::times(Some(32), count), buffers).enter(visitor)
+    }
+
+    #[inline(always)]
+    fn tally(&self, tally: &mut Self::Tally) -> Result<(), CountError> {
+        let is_there = count_room::<T>(self.len(), self.capacity(), &mut tally.places)?;
+        if !is_there {
+            return Ok(());
+        }
+        let (front, back) = self.as_slices();
+        count_slice(front, &mut tally.values)?;
+        count_slice(back, &mut tally.values)?;
+        Ok(())
     }
 }
 
 impl<T: Tallied, const N: usize> Tallied for [T; N] {
-    type Tally = ArrayTally<T, T::Tally>;
+    type Tally = OwnTally<T::Tally>;
 
+    ghost shape = { λ t n. entries T.name ⟦<[T; N] as Described>⟧.size n
+        (entries (codes "data") T.size t.count (T.shape t.values t.count)) };
+
+    ghost bounded = { λ t n. le_refl _ };
+
+    fn none_counted() -> Self::Tally {
+        OwnTally {
+            count: 0,
+            values: T::none_counted(),
+        }
+    }
+
+    fn show(tally: &Self::Tally, count: usize, visitor: &mut Visitor<'_>) -> Result<(), Refusal> {
+        let items = FieldMany::<T>("data", &tally.values, tally.count);
+        InlineSum(T::name(), Sum::times(<[T; N]>::size(), count), items).enter(visitor)
+    }
+
+    #[inline(always)]
     fn tally(&self, tally: &mut Self::Tally) -> Result<(), CountError> {
-        count_own(&mut tally.own, <[T; N]>::size())?;
-        count_fields(self.iter(), &mut tally.items)?;
+        declared::<[T; N]>()?;
+        tally.count = added(tally.count, N)?;
+        count_each(self, &mut tally.values)?;
         Ok(())
     }
 }

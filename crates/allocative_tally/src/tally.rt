@@ -1,10 +1,10 @@
-//! The traits of what counts, and of what can be counted.
+//! The trait of what can be counted, and the entries of what was counted.
 #![tactic(auto)]
 
-ghost use Rattle.std.specs.Prelude.{◌≡◌, ◌≤◌, ◌+◌, ◌^◌, true, false, IfOk, IfErr};
-ghost use Rattle.allocative_tally.specs.Shapes.{Shape, NoEntry, Beside, EntryAt};
-ghost use Rattle.allocative_tally.specs.Shapes.{Wide, Narrow, Unique as unique_width, IsNothing, shape_shows};
-ghost use Rattle.allocative_tally.specs.Tallies.{Tallies, AddsEntry, EntersShape};
+ghost use Rattle.std.specs.Prelude.{◌≡◌, ◌≤◌, ◌+◌, ℕ, true, IfOk};
+ghost use Rattle.allocative_tally.specs.Shapes.{Shape, NoEntry, Beside, EntryAt, Wide, Narrow, Unique as unique_width};
+ghost use Rattle.allocative_tally.specs.Shapes.{IsNothing, shape_shows, bytes_times, sum_of, sum_times, top_bytes};
+ghost use Rattle.allocative_tally.specs.Tallies.{TalliesNext, EntersShape, IsDeclared, FitsWord};
 
 use allocative::{Allocative, Described, Inside, IntoKey, Part, Refusal, Unique, Visitor};
 use thiserror::Error;
@@ -14,28 +14,30 @@ use thiserror::Error;
 #[error("a count exceeds a word, or a size is missing")]
 pub struct CountError;
 
-/// Counters of many values of one shape. They show one forest, that of all the values, merged.
-pub trait Tally: Drop {
-    ghost shape: { Self → Shape };
+/// A value that can be counted. The tally of many values has what their number does not say, so whoever holds a tally
+/// knows how many values were counted. They show one forest, that of all the values, merged.
+pub trait Tallied: Allocative + Described {
+    type Tally: Drop;
+
+    // What so many values show, by their tally.
+    ghost shape: { Self.Tally → ℕ → Shape };
 
     /// Nothing counted.
-    fn none() -> Self
-        ensures { IsNothing (shape result) };
+    fn none_counted() -> Self::Tally
+        ensures { IsNothing (Self.shape result 0) };
 
-    /// Enters what was counted, each path once.
-    fn enter(&self, visitor: &mut Visitor<'_>) -> Result<(), Refusal>
-        ensures { EntersShape (shape self.now) visitor.old visitor.new result };
-}
+    /// Shows what was counted of `count` values: enters each path once.
+    fn show(tally: &Self::Tally, count: usize, visitor: &mut Visitor<'_>) -> Result<(), Refusal>
+        ensures { EntersShape (Self.shape tally.now count) visitor.old visitor.new result };
 
-/// A value whose entries can be counted.
-pub trait Tallied: Allocative + Described {
-    type Tally: Tally;
-
-    /// Counts what the value shows. It returns `Err` if a declared size is missing or a count exceeds a word; the tally
-    /// is of no use then.
+    /// Counts what the value shows beyond its number. It returns `Err` if a declared size is missing or a count exceeds
+    /// a word; the tally is of no use then.
     fn tally(&self, tally: &mut Self::Tally) -> Result<(), CountError>
-        ensures { IfOk result (λ _. Tallies Self.size (Self.may_show self.now)
-            (Self.Tally.shape tally.old) (Self.Tally.shape tally.new)) };
+        ensures { IfOk result (λ _. TalliesNext Self.size (Self.may_show self.now)
+            (Self.shape tally.old) (Self.shape tally.new)) };
+
+    // So many values have at most their declared bytes at the top.
+    ghost bounded: { (t : Self.Tally) (n : ℕ) → top_bytes (Self.shape t n) ≤ bytes_times Self.size n };
 }
 
 /// The bytes of the entries of one place, and whether there is one.
@@ -46,37 +48,74 @@ pub struct Sum {
 }
 
 impl Sum {
-    /// No entry.
-    pub fn none() -> Sum
-        ensures there { result.is_there ≡ false }
-        ensures bytes { result.bytes ≡ 0 }
+    /// So many entries with some bytes together.
+    #[inline(always)]
+    pub fn of(count: usize, bytes: usize) -> Sum
+        ensures { result ≡ sum_of count bytes }
     {
-        Sum {
-            is_there: false,
-            bytes: 0,
-        }
+        let is_there = count != 0;
+        Sum { is_there, bytes }
     }
 
-    /// Adds one entry of some bytes. If the bytes of all do not fit a word, it returns `Err`, and the sum stays as it
-    /// was.
+    /// So many entries of a declared size.
     #[inline(always)]
-    pub fn add(&mut self, size: usize) -> Result<(), CountError>
-        ensures ok { IfOk result (λ _. AddsEntry size self.old self.new) }
-        ensures kept { IfErr result (λ _. self.new ≡ self.old) }
-        ensures exceeds { IfErr result (λ _. 2 ^ 64 ≤ self.old.bytes + size) }
+    pub fn times(size: Option<usize>, count: usize) -> Sum
+        ensures { result ≡ sum_times size count }
     {
-        let Some(bytes) = self.bytes.checked_add(size) else {
-            return Err(CountError);
-        };
-        self.bytes = bytes;
-        self.is_there = true;
-        Ok(())
+        Sum::of(count, bytes_of(size, count))
     }
+}
+
+/// The bytes of so many values of a declared size, at most the greatest word; 0 if the size is missing.
+#[inline(always)]
+pub fn bytes_of(size: Option<usize>, count: usize) -> usize
+    ensures { result ≡ bytes_times size count }
+{
+    match size {
+        None => 0,
+        Some(size) => size.saturating_mul(count),
+    }
+}
+
+/// Returns `Err` if a type's declared size is missing.
+#[inline(always)]
+pub fn declared<T: Described>() -> Result<(), CountError>
+    ensures { IfOk result (λ _. IsDeclared T.size) }
+{
+    let Some(_size) = T::size() else {
+        return Err(CountError);
+    };
+    Ok(())
+}
+
+/// Returns `Err` if a declared size is missing, or the bytes of so many values do not fit a word.
+#[inline(always)]
+pub fn all_fit(size: Option<usize>, count: usize) -> Result<(), CountError>
+    ensures { IfOk result (λ _. FitsWord size count) }
+{
+    let Some(bytes) = size else {
+        return Err(CountError);
+    };
+    let Some(_bytes) = bytes.checked_mul(count) else {
+        return Err(CountError);
+    };
+    Ok(())
+}
+
+/// The sum of two numbers; `Err` if it does not fit a word.
+#[inline(always)]
+pub fn added(number: usize, more: usize) -> Result<usize, CountError>
+    ensures { IfOk result (λ n. n ≡ number + more) }
+{
+    let Some(sum) = number.checked_add(more) else {
+        return Err(CountError);
+    };
+    Ok(sum)
 }
 
 /// What a tally shows, made of sums.
 ///
-/// A reference `&tally` is what the tally shows, `()` is no entry, and a tuple is its parts in order.
+/// `()` is no entry, and a tuple is its parts in order.
 pub trait Entries: Drop {
     ghost shape: { Self → Shape };
 
@@ -104,24 +143,6 @@ impl Entries for () {
 
     fn enter(self, visitor: &mut Visitor<'_>) -> Result<(), Refusal> {
         Part::enter((), visitor)
-    }
-}
-
-impl Tally for () {
-    ghost shape = { λ _. NoEntry };
-
-    fn none() -> Self {}
-
-    fn enter(&self, visitor: &mut Visitor<'_>) -> Result<(), Refusal> {
-        Entries::enter((), visitor)
-    }
-}
-
-impl<'a, S: Tally> Entries for &'a S {
-    ghost shape = { λ s. S.shape s.now };
-
-    fn enter(self, visitor: &mut Visitor<'_>) -> Result<(), Refusal> {
-        Tally::enter(self, visitor)
     }
 }
 

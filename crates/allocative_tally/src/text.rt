@@ -1,56 +1,52 @@
 //! Texts.
-#![tactic(auto, using(crate::proofs::Sequences::text_counted))]
+#![tactic(auto)]
 
-ghost use Rattle.std.specs.Prelude.{codes};
-ghost use Rattle.allocative_tally.specs.Shapes.{Unique, Wide, EntryAt, Beside, NoEntry};
+ghost use Rattle.std.specs.Prelude.{codes, Some};
+ghost use Rattle.std.proofs.Common.{le_refl};
+ghost use Rattle.allocative_tally.specs.Shapes.{Unique, Wide, EntryAt, Beside, NoEntry, entries, sum_of, sum_times};
+ghost use Rattle.allocative_tally.specs.Shapes.{unused_shape};
 
-use crate::tally::{CountError, Entries, InlineSum, Sum, Tallied, Tally, UniqueSum};
+use crate::tally::{CountError, Entries, InlineSum, Sum, Tallied, UniqueSum, added};
 use allocative::{Refusal, Visitor};
 
-/// Texts, counted.
+/// Texts, counted: the bytes of their buffers, and how many of these are used and unused.
 #[derive(Drop)]
 pub struct TextTally {
-    own: Sum,
-    pointer: Sum,
-    capacity: Sum,
-    used: Sum,
-    unused: Sum,
-}
-
-impl Tally for TextTally {
-    ghost shape = { λ t. EntryAt Wide (codes "String") t.own
-        (EntryAt Unique (codes "ptr") t.pointer
-        (EntryAt Wide (codes "capacity") t.capacity
-        (Beside (EntryAt Wide (codes "u8") t.used NoEntry)
-        (EntryAt Wide (codes "unused_capacity") t.unused NoEntry)))) };
-
-    fn none() -> Self {
-        TextTally {
-            own: Sum::none(),
-            pointer: Sum::none(),
-            capacity: Sum::none(),
-            used: Sum::none(),
-            unused: Sum::none(),
-        }
-    }
-
-    fn enter(&self, visitor: &mut Visitor<'_>) -> Result<(), Refusal> {
-        let used = InlineSum("u8", self.used, ());
-        let unused = InlineSum("unused_capacity", self.unused, ());
-        let capacity = InlineSum("capacity", self.capacity, (used, unused));
-        InlineSum("String", self.own, UniqueSum("ptr", self.pointer, capacity)).enter(visitor)
-    }
+    capacity: usize,
+    used: usize,
+    unused: usize,
 }
 
 impl Tallied for String {
     type Tally = TextTally;
 
+    ghost shape = { λ t n. entries (codes "String") (Some 24) n (EntryAt Unique (codes "ptr") (sum_times (Some 8) n)
+        (EntryAt Wide (codes "capacity") (sum_of n t.capacity)
+        (Beside (EntryAt Wide (codes "u8") (sum_of n t.used) NoEntry) (unused_shape n t.unused)))) };
+
+    ghost bounded = { λ t n. le_refl _ };
+
+    fn none_counted() -> TextTally {
+        TextTally {
+            capacity: 0,
+            used: 0,
+            unused: 0,
+        }
+    }
+
+    fn show(tally: &Self::Tally, count: usize, visitor: &mut Visitor<'_>) -> Result<(), Refusal> {
+        let used = InlineSum("u8", Sum::of(count, tally.used), ());
+        let unused = InlineSum("unused_capacity", Sum::of(count, tally.unused), ());
+        let capacity = InlineSum("capacity", Sum::of(count, tally.capacity), (used, unused));
+        let pointer = UniqueSum("ptr", Sum::times(Some(8), count), capacity);
+        InlineSum("String", Sum::times(Some(24), count), pointer).enter(visitor)
+    }
+
+    #[inline(always)]
     fn tally(&self, tally: &mut TextTally) -> Result<(), CountError> {
-        tally.own.add(24)?;
-        tally.pointer.add(8)?;
-        tally.capacity.add(self.capacity())?;
-        tally.used.add(self.len())?;
-        tally.unused.add(self.capacity() - self.len())?;
+        tally.capacity = added(tally.capacity, self.capacity())?;
+        tally.used = added(tally.used, self.len())?;
+        tally.unused = added(tally.unused, self.capacity() - self.len())?;
         Ok(())
     }
 }

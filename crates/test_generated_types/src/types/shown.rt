@@ -4,7 +4,8 @@
 ghost use Rattle.std.specs.Prelude.{codes, true, ◌&&◌};
 ghost use Rattle.allocative.specs.Shows as shows;
 ghost use Rattle.allocative.specs.Levels.{both, both_levels, box_of, btree_map_of, child, field, first, hash_map_of, opened, option_in, pair_in, plain, recursive, second, vec_in};
-ghost use Rattle.allocative_tally.specs.Shapes.{Beside, EntryAt, Wide};
+ghost use Rattle.std.proofs.Common.{le_refl};
+ghost use Rattle.allocative_tally.specs.Shapes.{Beside, entries};
 ghost use Rattle.test_generated_types.specs.declared.types.Job.{out-Job};
 ghost use Rattle.test_generated_types.specs.declared.types.Json.{Json-F, out-Json};
 ghost use Rattle.test_generated_types.specs.declared.types.Payload.{Payload-F, out-Payload};
@@ -15,8 +16,8 @@ use super::*;
 use allocative::{
     Allocative, And, Declared, Described, Field, Inside, Or, Part, Record, Refusal, Visitor, Whole,
 };
-use allocative_tally::field::{CountedField, FieldSum, FieldTally, count, count_own};
-use allocative_tally::tally::{CountError, Entries, InlineSum, Sum, Tallied, Tally};
+use allocative_tally::field::{CountedField, FieldMany, OwnTally, count_own};
+use allocative_tally::tally::{CountError, Entries, InlineSum, Sum, Tallied, added, declared};
 
 type FoundLayout<const N: usize> = Record<
     And<(u8, (u8, (u8, ([u32; N], (BTreeMap<u64, Vec<Event>>, ()))))), (f64, ((u64, u64), ()))>,
@@ -96,43 +97,42 @@ where
 /// Values of `Table`, counted.
 #[derive(Drop)]
 pub struct TableTally<S1, S2> {
-    own: Sum,
-    values: FieldTally<S1>,
-    last: FieldTally<S2>,
+    values: S1,
+    last: S2,
 }
 
-#[tactic(auto)]
-impl<S1: Tally, S2: Tally> Tally for TableTally<S1, S2> {
-    ghost shape = { λ t. EntryAt Wide (codes "Table") t.own
-        (Beside (EntryAt Wide (codes "values") t.values.own (S1.shape t.values.value))
-        (EntryAt Wide (codes "last") t.last.own (S2.shape t.last.value))) };
-
-    fn none() -> Self {
-        TableTally {
-            own: Sum::none(),
-            values: FieldTally::none(),
-            last: FieldTally::none(),
-        }
-    }
-
-    fn enter(&self, visitor: &mut Visitor<'_>) -> Result<(), Refusal> {
-        let values = FieldSum("values", &self.values);
-        let last = FieldSum("last", &self.last);
-        InlineSum("Table", self.own, (values, last)).enter(visitor)
-    }
-}
-
-#[tactic(auto)]
+#[tactic(auto, using(allocative_tally::proofs::Fields::starting))]
 impl<K: Tallied, V: Tallied> Tallied for Table<K, V>
 where
     K: Eq + Hash,
 {
     type Tally = TableTally<<HashMap<K, V> as Tallied>::Tally, <V as Tallied>::Tally>;
 
+    ghost shape = { λ t n. entries (codes "Table") ⟦<Table<K, V> as Described>⟧.size n
+        (Beside (entries (codes "values") ⟦<HashMap<K, V> as Described>⟧.size n (⟦<HashMap<K, V> as Tallied>⟧.shape t.values n))
+        (entries (codes "last") ⟦<V as Described>⟧.size n (⟦<V as Tallied>⟧.shape t.last n))) };
+
+    ghost bounded = { λ t n. le_refl _ };
+
+    fn none_counted() -> Self::Tally {
+        TableTally {
+            values: <HashMap<K, V> as Tallied>::none_counted(),
+            last: <V as Tallied>::none_counted(),
+        }
+    }
+
+    fn show(tally: &Self::Tally, count: usize, visitor: &mut Visitor<'_>) -> Result<(), Refusal> {
+        let values = FieldMany::<HashMap<K, V>>("values", &tally.values, count);
+        let last = FieldMany::<V>("last", &tally.last, count);
+        let size = Sum::times(<Table<K, V>>::size(), count);
+        InlineSum("Table", size, (values, last)).enter(visitor)
+    }
+
+    #[inline(always)]
     fn tally(&self, tally: &mut Self::Tally) -> Result<(), CountError> {
-        count_own(&mut tally.own, <Table<K, V>>::size())?;
-        count(&mut tally.values, &self.values)?;
-        count(&mut tally.last, &self.last)?;
+        declared::<Table<K, V>>()?;
+        Tallied::tally(&self.values, &mut tally.values)?;
+        Tallied::tally(&self.last, &mut tally.last)?;
         Ok(())
     }
 }
@@ -253,56 +253,67 @@ impl Allocative for Event {
 /// Values of `Event`, counted.
 #[derive(Drop)]
 pub struct EventTally {
-    own: Sum,
-    note_value: FieldTally<<String as Tallied>::Tally>,
-    sale_own: Sum,
-    sale_shelf: FieldTally<<u64 as Tallied>::Tally>,
-    sale_prices: FieldTally<<Vec<u64> as Tallied>::Tally>,
+    note_value: OwnTally<<String as Tallied>::Tally>,
+    sale_count: usize,
+    sale_shelf: <u64 as Tallied>::Tally,
+    sale_prices: <Vec<u64> as Tallied>::Tally,
 }
 
-#[tactic(auto)]
-impl Tally for EventTally {
-    ghost shape = { λ t. EntryAt Wide (codes "Event") t.own
-        (Beside (EntryAt Wide (codes "Note") t.note_value.own (⟦<<String as Tallied>::Tally as Tally>⟧.shape t.note_value.value))
-        (EntryAt Wide (codes "Sale") t.sale_own
-        (Beside (EntryAt Wide (codes "shelf") t.sale_shelf.own (⟦<<u64 as Tallied>::Tally as Tally>⟧.shape t.sale_shelf.value))
-        (EntryAt Wide (codes "prices") t.sale_prices.own (⟦<<Vec<u64> as Tallied>::Tally as Tally>⟧.shape t.sale_prices.value))))) };
-
-    fn none() -> Self {
-        EventTally {
-            own: Sum::none(),
-            note_value: FieldTally::none(),
-            sale_own: Sum::none(),
-            sale_shelf: FieldTally::none(),
-            sale_prices: FieldTally::none(),
-        }
-    }
-
-    fn enter(&self, visitor: &mut Visitor<'_>) -> Result<(), Refusal> {
-        let note_value = FieldSum("Note", &self.note_value);
-        let sale_shelf = FieldSum("shelf", &self.sale_shelf);
-        let sale_prices = FieldSum("prices", &self.sale_prices);
-        let sale_own = InlineSum("Sale", self.sale_own, (sale_shelf, sale_prices));
-        InlineSum("Event", self.own, (note_value, sale_own)).enter(visitor)
-    }
-}
-
-#[tactic(auto)]
+#[tactic(auto, using(allocative_tally::proofs::Fields::starting))]
 impl Tallied for Event {
     type Tally = EventTally;
 
+    ghost shape = { λ t n. entries (codes "Event") ⟦<Event as Described>⟧.size n
+        (Beside (entries (codes "Note") ⟦<String as Described>⟧.size t.note_value.count (⟦<String as Tallied>⟧.shape t.note_value.values t.note_value.count))
+        (entries (codes "Sale") ⟦<EventSaleFields as Described>⟧.size t.sale_count
+        (Beside (entries (codes "shelf") ⟦<u64 as Described>⟧.size t.sale_count (⟦<u64 as Tallied>⟧.shape t.sale_shelf t.sale_count))
+        (entries (codes "prices") ⟦<Vec<u64> as Described>⟧.size t.sale_count (⟦<Vec<u64> as Tallied>⟧.shape t.sale_prices t.sale_count))))) };
+
+    ghost bounded = { λ t n. le_refl _ };
+
+    fn none_counted() -> Self::Tally {
+        EventTally {
+            note_value: OwnTally {
+                count: 0,
+                values: <String as Tallied>::none_counted(),
+            },
+            sale_count: 0,
+            sale_shelf: <u64 as Tallied>::none_counted(),
+            sale_prices: <Vec<u64> as Tallied>::none_counted(),
+        }
+    }
+
+    fn show(tally: &Self::Tally, count: usize, visitor: &mut Visitor<'_>) -> Result<(), Refusal> {
+        let note_value = FieldMany::<String>(
+            "Note",
+            &tally.note_value.values,
+            tally.note_value.count,
+        );
+        let sale_shelf = FieldMany::<u64>("shelf", &tally.sale_shelf, tally.sale_count);
+        let sale_prices = FieldMany::<Vec<u64>>("prices", &tally.sale_prices, tally.sale_count);
+        let sale_count = InlineSum(
+            "Sale",
+            Sum::times(<EventSaleFields>::size(), tally.sale_count),
+            (sale_shelf, sale_prices),
+        );
+        let size = Sum::times(<Event>::size(), count);
+        InlineSum("Event", size, (note_value, sale_count)).enter(visitor)
+    }
+
+    #[inline(always)]
     fn tally(&self, tally: &mut Self::Tally) -> Result<(), CountError> {
-        count_own(&mut tally.own, <Event>::size())?;
+        declared::<Event>()?;
         match self {
             Event::Quiet => Ok(()),
             Event::Note(a) => {
-                count(&mut tally.note_value, a)?;
+                count_own(&mut tally.note_value, a)?;
                 Ok(())
             }
             Event::Sale { shelf, prices } => {
-                count_own(&mut tally.sale_own, <EventSaleFields>::size())?;
-                count(&mut tally.sale_shelf, shelf)?;
-                count(&mut tally.sale_prices, prices)?;
+                declared::<EventSaleFields>()?;
+                tally.sale_count = added(tally.sale_count, 1)?;
+                Tallied::tally(shelf, &mut tally.sale_shelf)?;
+                Tallied::tally(prices, &mut tally.sale_prices)?;
                 Ok(())
             }
         }
@@ -369,47 +380,59 @@ impl Allocative for Cart {
 /// Values of `Cart`, counted.
 #[derive(Drop)]
 pub struct CartTally {
-    own: Sum,
-    bought_items_own: Sum,
-    bought_items_count: FieldTally<<u64 as Tallied>::Tally>,
-    bought_items_names: FieldTally<<Vec<String> as Tallied>::Tally>,
+    bought_items_count_: usize,
+    bought_items_count: <u64 as Tallied>::Tally,
+    bought_items_names: <Vec<String> as Tallied>::Tally,
 }
 
-#[tactic(auto)]
-impl Tally for CartTally {
-    ghost shape = { λ t. EntryAt Wide (codes "Cart") t.own
-        (EntryAt Wide (codes "BoughtItems") t.bought_items_own
-        (Beside (EntryAt Wide (codes "count") t.bought_items_count.own (⟦<<u64 as Tallied>::Tally as Tally>⟧.shape t.bought_items_count.value))
-        (EntryAt Wide (codes "names") t.bought_items_names.own (⟦<<Vec<String> as Tallied>::Tally as Tally>⟧.shape t.bought_items_names.value)))) };
-
-    fn none() -> Self {
-        CartTally {
-            own: Sum::none(),
-            bought_items_own: Sum::none(),
-            bought_items_count: FieldTally::none(),
-            bought_items_names: FieldTally::none(),
-        }
-    }
-
-    fn enter(&self, visitor: &mut Visitor<'_>) -> Result<(), Refusal> {
-        let b = FieldSum("count", &self.bought_items_count);
-        let c = FieldSum("names", &self.bought_items_names);
-        let a = InlineSum("BoughtItems", self.bought_items_own, (b, c));
-        InlineSum("Cart", self.own, a).enter(visitor)
-    }
-}
-
-#[tactic(auto)]
+#[tactic(auto, using(allocative_tally::proofs::Fields::starting))]
 impl Tallied for Cart {
     type Tally = CartTally;
 
+    ghost shape = { λ t n. entries (codes "Cart") ⟦<Cart as Described>⟧.size n
+        (entries (codes "BoughtItems") ⟦<CartBoughtItemsFields as Described>⟧.size t.bought_items_count_
+        (Beside (entries (codes "count") ⟦<u64 as Described>⟧.size t.bought_items_count_ (⟦<u64 as Tallied>⟧.shape t.bought_items_count t.bought_items_count_))
+        (entries (codes "names") ⟦<Vec<String> as Described>⟧.size t.bought_items_count_ (⟦<Vec<String> as Tallied>⟧.shape t.bought_items_names t.bought_items_count_)))) };
+
+    ghost bounded = { λ t n. le_refl _ };
+
+    fn none_counted() -> Self::Tally {
+        CartTally {
+            bought_items_count_: 0,
+            bought_items_count: <u64 as Tallied>::none_counted(),
+            bought_items_names: <Vec<String> as Tallied>::none_counted(),
+        }
+    }
+
+    fn show(tally: &Self::Tally, count: usize, visitor: &mut Visitor<'_>) -> Result<(), Refusal> {
+        let b = FieldMany::<u64>(
+            "count",
+            &tally.bought_items_count,
+            tally.bought_items_count_,
+        );
+        let c = FieldMany::<Vec<String>>(
+            "names",
+            &tally.bought_items_names,
+            tally.bought_items_count_,
+        );
+        let a = InlineSum(
+            "BoughtItems",
+            Sum::times(<CartBoughtItemsFields>::size(), tally.bought_items_count_),
+            (b, c),
+        );
+        let size = Sum::times(<Cart>::size(), count);
+        InlineSum("Cart", size, a).enter(visitor)
+    }
+
+    #[inline(always)]
     fn tally(&self, tally: &mut Self::Tally) -> Result<(), CountError> {
-        count_own(&mut tally.own, <Cart>::size())?;
+        declared::<Cart>()?;
         match self {
-            Cart::BoughtItems { count: a, names: b } => {
-                count_own(&mut tally.bought_items_own, <CartBoughtItemsFields>::size())?;
-                count(&mut tally.bought_items_count, a)?;
-                count(&mut tally.bought_items_names, b)?;
+            Cart::BoughtItems { count, names } => {
+                declared::<CartBoughtItemsFields>()?;
+                tally.bought_items_count_ = added(tally.bought_items_count_, 1)?;
+                Tallied::tally(count, &mut tally.bought_items_count)?;
+                Tallied::tally(names, &mut tally.bought_items_names)?;
                 Ok(())
             }
         }

@@ -1,17 +1,17 @@
--- One more value is counted, and the run has all.
-use Rattle.std.proofs.Common.{refl, ℕ, ◌∙◌}
+-- of count_values: one more value is counted, and the run has all
+use Rattle.std.proofs.Common.{ℕ, ◌∙◌}
 use denote.Ref.{Bor}
 use Rattle.std.proofs.lemmas.List.{map-append}
 use Rattle.std.proofs.lemmas.Iterator.Consumers.{YieldsList-from_first, YieldsList-end}
 use Rattle.allocative.proofs.Runs.{values_from}
-use Rattle.allocative_tally.proofs.Counting.{tallies_none, tallies_more}
+use Rattle.allocative_tally.proofs.Many.{each_none, each_more}
 use Rattle.allocative_tally.proofs.pack.count_values.Goals as goal
 
 pub loop-key-init : goal.loop-key-init
-loop-key-init g c = tallies_none refl
+loop-key-init g c = each_none _
 
 pub loop-key-preserved : goal.loop-key-preserved
-loop-key-preserved g c = rw (map-append, map-append) (tallies_more _ _ _ c.loop-key.invariant c.in_ok-tally.ensures)
+loop-key-preserved g c = rw (map-append, map-append) (each_more _ _ _ c.loop-key.invariant c.in_ok-tally.ensures)
 
 pub returns : goal.returns
 returns g c =

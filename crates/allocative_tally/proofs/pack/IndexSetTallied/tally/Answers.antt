@@ -1,13 +1,18 @@
--- The set's values, the unused places and the table.
-use Rattle.std.proofs.Common.{◌≡◌, ◌-◌, arith, rules, codes}
+-- of the tally of `IndexSet`: its values, its unused places and its table
+use Rattle.std.proofs.Common.{◌≡◌, ◌-◌, arith, codes, le_refl, rules}
 use Rattle.std.proofs.lemmas.Iterator.Consumers.{YieldsList-from_rest}
 use Rattle.indexmap.specs.IndexSet.{spare}
-use Rattle.allocative_tally.proofs.Maps.{index_counted}
+use Rattle.allocative_tally.specs.Shapes.{entries}
+use Rattle.allocative_tally.proofs.Many.{of_run}
+use Rattle.allocative_tally.proofs.Fields.{holds_itself}
+use Rattle.allocative_tally.proofs.Buffers.{most_direct}
+use Rattle.allocative_tally.proofs.Items.{index_counted}
 use Rattle.allocative_tally.proofs.pack.IndexSetTallied.tally.Goals as goal
 
 pub returns : goal.returns
 returns g c =
     let unused : c.capacity.result - c.len.result ≡ spare c.args.self.now = omega arith in
-    index_counted c.args.self.now.keys (YieldsList-from_rest _ c.iter.ensures.rest) c.size.ensures unused
-    (search rules) c.in_ok-add.ensures.ok c.in_ok-add-2.ensures.ok (c.in_ok-count_fields.ensures.under (codes "value"))
-    c.in_ok-count_bytes.ensures.ok c.in_ok-count_table.ensures
+    index_counted holds_itself c.size.ensures (search rules) unused (search rules) c.in_ok-add.ensures
+    ((of_run (YieldsList-from_rest _ c.iter.ensures.rest) c.in_ok-count_run.ensures).fields (codes "value"))
+    (λ z i e. most_direct i (entries (codes "value") g.T.Described.size i (g.T.Tallied.shape c.args.tally.now.items.values i)) e
+    (le_refl _)) c.in_ok-count_table.ensures

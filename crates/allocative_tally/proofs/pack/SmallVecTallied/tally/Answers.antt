@@ -1,16 +1,14 @@
--- The items in an allocation, and the items in place.
+-- of the tally of `SmallVec`: the items in an allocation, or the items in place
 use Rattle.std.proofs.Common.{arith, rules}
-use Rattle.std.proofs.lemmas.Iterator.{YieldsList-from_slice}
-use Rattle.allocative_tally.proofs.Maps.{inline_counted, spilled_counted}
+use Rattle.allocative_tally.proofs.Items.{inline_counted, spilled_counted}
 use Rattle.allocative_tally.proofs.pack.SmallVecTallied.tally.Goals as goal
 
 pub returns-then-spilled : goal.returns-then-spilled
 returns-then-spilled g c =
-    spilled_counted g.row.N _ c.args.self.now (search rules) (YieldsList-from_slice c.args.self.now.items cc)
-    c.size.ensures c.in_ok-count_own.ensures.ok c.in_ok-add.ensures.ok c.in_ok-count_fields.ensures
+    spilled_counted g.row.N _ c.args.self.now (search rules) c.in_ok-declared.ensures (search rules)
+    (rw c.size.ensures at c.in_ok-add.ensures) (rw c.as_slice.ensures at c.in_ok-count_each.ensures)
 
 pub returns : goal.returns
 returns g c =
-    inline_counted g.row.N _ c.args.self.now (search rules) (omega arith)
-    (YieldsList-from_slice c.args.self.now.items cc) c.size.ensures c.in_ok-count_own.ensures.ok
-    c.in_ok-count_fields-2.ensures
+    inline_counted g.row.N _ c.args.self.now (search rules) (omega arith) c.in_ok-declared.ensures
+    (omega arith) (rw c.as_slice-2.ensures at c.in_ok-count_each-2.ensures)

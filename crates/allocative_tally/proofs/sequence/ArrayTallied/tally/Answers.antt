@@ -1,9 +1,8 @@
--- The array has its items' bytes.
-use Rattle.std.proofs.lemmas.Iterator.{YieldsList-from_slice}
-use Rattle.allocative_tally.proofs.Maps.{array_counted}
+-- of an array's tally: its entry, with a field for each item inside it
+use Rattle.std.proofs.Common.{arith}
+use Rattle.allocative_tally.proofs.Items.{array_counted}
 use Rattle.allocative_tally.proofs.sequence.ArrayTallied.tally.Goals as goal
 
 pub returns : goal.returns
-returns g c =
-    array_counted g.row.N c.args.self.now c.type_inv.self (YieldsList-from_slice c.args.self.now cc) c.size.ensures
-    c.in_ok-count_own.ensures.ok c.in_ok-count_fields.ensures
+returns g c = array_counted g.row.N c.args.self.now c.type_inv.self c.in_ok-declared.ensures (omega arith)
+    c.in_ok-count_each.ensures

@@ -1,21 +1,21 @@
--- The set's keys are counted with those of sets of its kind.
-use Rattle.std.proofs.Common.{◌∙◌, arith, codes, rules, sym}
+-- of the tally of `BTreeSet`: its keys are counted with those of sets of its kind
+use Rattle.std.proofs.Common.{arith, codes, le_refl, rules}
 use Rattle.std.proofs.lemmas.Iterator.Consumers.{YieldsList-from_rest}
-use Rattle.allocative_tally.proofs.Maps.{small_counted, large_counted, of_run, keys_direct}
+use Rattle.allocative_tally.specs.Shapes.{entries}
+use Rattle.allocative_tally.proofs.Many.{of_run}
+use Rattle.allocative_tally.proofs.Fields.{holds_itself}
+use Rattle.allocative_tally.proofs.Buffers.{most_direct}
+use Rattle.allocative_tally.proofs.Items.{small_counted, large_counted, keys_direct}
 use Rattle.allocative_tally.proofs.set.BTreeSetTallied.tally.Goals as goal
 
 pub returns-then-is_small : goal.returns-then-is_small
-returns-then-is_small g c = small_counted _ c.args.self.now.keys _ 24
-    (of_run (YieldsList-from_rest _ c.iter.ensures.rest)) (λ f x. x)
-    (rw c.if-is_small.true at c.in_ok-is_small.ensures) (search rules)
-    (λ f x. keys_direct _ _ _ _ c.args.self.now.keys f (sym c.size.ensures ∙ c.in_ok-is_small.ensures.is_size) x)
-    (omega arith) c.in_ok-add.ensures.ok c.in_ok-add-2.ensures.ok
-    (c.in_ok-count_fields.ensures.under (codes "key"))
+returns-then-is_small g c = small_counted 24 _ (omega arith) (omega arith) (λ f x. x) holds_itself c.size-size.ensures
+    (rw c.if-is_small.true at c.in_ok-is_small.ensures) (search rules) c.in_ok-add.ensures
+    ((of_run (YieldsList-from_rest _ c.iter.ensures.rest) c.in_ok-count_run.ensures).fields (codes "key"))
 
 pub returns : goal.returns
-returns g c = large_counted _ c.args.self.now.keys _ 24
-    (of_run (YieldsList-from_rest _ c.iter-2.ensures.rest)) (λ f x. x)
-    (rw c.if-is_small.false at c.in_ok-is_small.ensures) (search rules)
-    (λ f x. keys_direct _ _ _ _ c.args.self.now.keys f (sym c.size.ensures ∙ c.in_ok-is_small.ensures.is_size) x)
-    (omega arith) c.in_ok-add.ensures.ok c.in_ok-add-3.ensures.ok
-    (c.in_ok-count_fields-2.ensures.under (codes "key"))
+returns g c = large_counted 24 _ (omega arith) (omega arith) (λ f x. x) holds_itself c.size-size.ensures
+    (rw c.if-is_small.false at c.in_ok-is_small.ensures) (search rules) c.in_ok-add-2.ensures
+    ((of_run (YieldsList-from_rest _ c.iter-2.ensures.rest) c.in_ok-count_run-2.ensures).fields (codes "key"))
+    (λ z i e. most_direct i (entries (codes "key") g.K.Described.size i (g.K.Tallied.shape c.args.tally.now.large.values i)) e
+    (le_refl _)) (λ z f e x. keys_direct _ z _ _ c.args.self.now.keys f e x)

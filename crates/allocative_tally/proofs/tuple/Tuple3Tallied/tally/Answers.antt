@@ -1,9 +1,9 @@
--- The tuple's entry, and inside it each field.
-use Rattle.allocative_tally.proofs.Fields.{whole_counted, both_counted, field_counted, holding_tuples}
+-- of a tuple's tally: its entry, and inside it each field
+use Rattle.allocative_tally.proofs.Fields.{next_whole, next_both, next_field, holding_tuples}
 use Rattle.allocative_tally.proofs.tuple.Tuple3Tallied.tally.Goals as goal
 
 pub returns : goal.returns
-returns g c = whole_counted c.size.ensures c.in_ok-count_own.ensures.ok
-    (both_counted (field_counted c.in_ok-count.ensures)
-    (both_counted (field_counted c.in_ok-count-2.ensures)
-    (field_counted c.in_ok-count-3.ensures))) (search holding_tuples depth 6)
+returns g c = next_whole c.in_ok-declared.ensures
+    (next_both (next_field c.in_ok-tally.ensures)
+    (next_both (next_field c.in_ok-tally-2.ensures)
+    (next_field c.in_ok-tally-3.ensures))) (search holding_tuples depth 6)

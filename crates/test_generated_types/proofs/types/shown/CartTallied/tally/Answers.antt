@@ -1,9 +1,8 @@
 -- Written by bin/implement.
 use Rattle.test_generated_types.specs.declared.types.Cart.{Cart}
 use Rattle.test_generated_types.specs.declared.types.Cart.TheVariants.{BoughtItems}
-use Rattle.std.proofs.Common.{refl, rules, ◌≡◌}
-use Rattle.allocative_tally.proofs.Counting.{tallies_as}
-use Rattle.allocative_tally.proofs.Fields.{both_counted, field_counted, holding, whole_counted}
+use Rattle.std.proofs.Common.{arith, refl, rules, ◌≡◌}
+use Rattle.allocative_tally.proofs.Fields.{case_counted, holding, next_as, next_both, next_case, next_field}
 use Rattle.test_generated_types.proofs.types.shown.CartTallied.tally.Goals as goal
 
 variant-Cart : (x : Cart) → (a : _) × (b : _) × (x ≡ BoughtItems a b)
@@ -11,11 +10,11 @@ variant-Cart (BoughtItems a b) = (a, b, refl)
 
 pub returns : goal.returns
 returns c =
-    tallies_as (λ f. rw (variant-Cart c.args.self.now).2 (λ x. x))
-    (whole_counted c.size.ensures c.in_ok-count_own.ensures.ok
-    (whole_counted c.size-2.ensures c.in_ok-count_own-2.ensures.ok
-    (both_counted
-    (field_counted c.in_ok-count.ensures)
-    (field_counted c.in_ok-count-2.ensures))
+    next_as (λ f. rw (variant-Cart c.args.self.now).2 (λ x. x))
+    (next_case c.in_ok-declared.ensures
+    (case_counted c.in_ok-declared-2.ensures (omega arith)
+    (next_both
+    (next_field c.in_ok-tally-2.ensures)
+    (next_field c.in_ok-tally-3.ensures))
     (search (rules, holding)))
     (search (rules, holding)))

@@ -1,0 +1,266 @@
+-- How arrays, boxes, maps and the packs are counted.
+use Rattle.std.proofs.Common.{◌≡◌, ◌≤◌, ◌<◌, ◌+◌, ◌*◌, ◌^◌, ℕ, true, false, codes, Option, Some, None, List, []}
+use Rattle.std.proofs.Common.{◌∷◌, length, refl, sym, ap, subst, ◌∙◌, arith, inl, inr, le_refl, Bool, Result}
+use Rattle.std.proofs.lemmas.List.Sorted.{IsPermutation-refl}
+use Rattle.std.proofs.lemmas.Nat.{mul-le}
+use Rattle.smallvec.specs.SmallVec.{SmallVec, IsSpilled}
+use Rattle.allocative_described.specs.RawTable.{IsRawTableSize}
+use Rattle.allocative_described.specs.Sizes.{size_sum, checked, size_max, size_product, size_up}
+use Rattle.allocative_graph.specs.Owned.{direct}
+use Rattle.allocative_graph.proofs.Owned.{direct-following}
+use Rattle.allocative.specs.Runs.{field_of, pair_shows}
+use Rattle.allocative.specs.StdShows.{in_any_order}
+use Rattle.allocative.specs.Bodies.{data_shows}
+use Rattle.allocative.specs.PackShows.{index_data_shows, is_index_data, small_vec_inside, lies_inline, is_spilled}
+use Rattle.allocative.proofs.Common.{Key, Forest, Showing, Both, Inside, InsideAs, Field, sized, each_shows, table_shows}
+use Rattle.allocative.proofs.Common.{Refusal, Entered}
+use Rattle.allocative.specs.declared.visitor.Visitor.{Visitor}
+use Rattle.allocative_tally.specs.Shapes.{Shape, Unique, Wide, NoEntry, Beside, EntryAt, forest_of, entries}
+use Rattle.allocative_tally.specs.Shapes.{sum_of, sum_times, bytes_times, top_bytes, pairs_shape, data_shape, buffer_shape}
+use Rattle.allocative_tally.specs.Shapes.{table_shape, shape_shows, IsNothing}
+use Rattle.allocative_tally.specs.Tallies.{Tallies, TalliesNext, TalliesMany, TalliesEach, FitsWord, IsDeclared}
+use Rattle.allocative_tally.specs.Tallies.{IsWithin, both_bounds, size_times}
+use Rattle.allocative_tally.specs.Places.{AddsPlaces, FitsData}
+use Rattle.allocative_tally.specs.declared.places.Places.{Places}
+use Rattle.allocative_tally.proofs.Counting.{counted_field, counted_inline, counted_narrow, counted_unique, counted_leaf}
+use Rattle.allocative_tally.proofs.Counting.{tallies_none, tallies_both, tallies_as, first_counted, second_counted, fits_bytes}
+use Rattle.allocative_tally.proofs.Counting.{shape_direct, entry_direct}
+use Rattle.allocative_tally.proofs.Sizes.{HasRoom, room_checked, room_sum, not_greater, checked_is}
+use Rattle.allocative_tally.proofs.Fields.{Holds, holds_up, holds_second, holds_first_of, holds_second_of}
+use Rattle.allocative_tally.proofs.Fields.{holds_bytes, adds_of, one_more, next_case, tallies_within, starts_both}
+use Rattle.allocative_tally.proofs.Fields.{starts_entry}
+use Rattle.allocative_tally.proofs.Entering.{entered_counted, counts}
+use Rattle.allocative_tally.proofs.Buffers.{next_container, places_fit, pointer_counted, places_counted}
+use Rattle.allocative_tally.proofs.Buffers.{times_counted, most_direct}
+
+-- ---- arrays
+-- A size that has room for n items has room for at most n items.
+holds_items : (l n : ℕ) (w : Option ℕ) → l ≤ n → Holds (size_product (Some n) w) (size_times w l)
+holds_items l n None h = record { room = λ d i. tt }
+holds_items l n (Some s) h = record {
+  room = λ d i. room_checked (n * s) d (omega (arith, i, mul-le l s n s h (omega arith)));
+}
+
+-- The product of two sizes does not depend on their order.
+product_order : (n : ℕ) (w : Option ℕ) → size_product (Some n) w ≡ size_product w (Some n)
+product_order n None = refl
+product_order n (Some s) = ap checked (omega arith)
+
+-- An array is its own entry with a field for each item inside it.
+pub array_counted : {T : Type 0} {w : Option ℕ} {k : Key} {p : T → Showing} (n : ℕ) (xs : List T) {i j : ℕ}
+    {s t : ℕ → Shape} → length xs ≡ n → IsDeclared (size_product (Some n) w) → j ≡ i + n → TalliesEach w p xs s t →
+    TalliesNext (size_product (Some n) w) (Field k (size_product w (Some (length xs))) (data_shows w p xs))
+    (λ m. entries k (size_product (Some n) w) m (entries (codes "data") w i (s i)))
+    (λ m. entries k (size_product (Some n) w) m (entries (codes "data") w j (t j)))
+array_counted {w = w} n xs {i} {j} count declared more each =
+    rw (count, ← product_order n w) (next_case declared
+    ((each.fields (codes "data")).next i j (omega (arith, more, count))) (holds_items (length xs) n w (omega (arith, count))))
+
+-- ---- boxes
+-- A box's pointer is counted with the value inside it.
+pub box_counted : {size : Option ℕ} {old new : Places} {p : Showing} {s t : ℕ → Shape} → AddsPlaces size 1 0 old new →
+    ((i : ℕ) → top_bytes (s i) ≤ bytes_times size i) → TalliesNext size p s t →
+    Tallies (Some 8) (InsideAs true (codes "ptr") 8 p)
+    (EntryAt Unique (codes "ptr") (sum_times (Some 8) old.buffers) (s old.items))
+    (EntryAt Unique (codes "ptr") (sum_times (Some 8) new.buffers) (t new.items))
+box_counted {size} {old} {new} {p} {s} {t} a most value =
+    let one : Tallies (Some (a.bytes * 1)) p (s old.items) (t new.items) =
+    subst (λ (w : Option ℕ). Tallies w p (s old.items) (t new.items)) (a.sized ∙ ap Some (omega arith))
+    (subst (λ (i : ℕ). Tallies size p (s old.items) (t i)) (sym a.items) (value.next old.items)) in
+    pointer_counted (codes "ptr") a (most_direct old.items (s old.items) a.sized (most old.items)) one
+
+-- ---- small vectors
+-- The size of a small vector with n places.
+abbrev pub small_vec_size : ℕ → Option ℕ → ℕ → Option ℕ
+small_vec_size n w align = size_up (size_sum (Some 8) (size_max (Some 16) (size_product (Some n) w))) align
+
+-- A small vector whose items are in place has a field for each item inside its entry.
+pub inline_counted : {T : Type 0} {w : Option ℕ} {k : Key} {p : T → Showing} (n align : ℕ) (xs : SmallVec T)
+    {i j : ℕ} {s t : ℕ → Shape} {r : Shape} → ¬ IsSpilled n xs → length xs.items ≤ n →
+    IsDeclared (small_vec_size n w align) → j ≡ i + length xs.items → TalliesEach w p xs.items s t →
+    TalliesNext (small_vec_size n w align) (Field k (small_vec_size n w align) (small_vec_inside n w p xs))
+    (λ m. entries k (small_vec_size n w align) m (Beside (entries (codes "data") w i (s i)) r))
+    (λ m. entries k (small_vec_size n w align) m (Beside (entries (codes "data") w j (t j)) r))
+inline_counted {w = w} n align xs {i} {j} is room declared more each =
+    next_case declared (tallies_as (λ h x. lies_inline is x)
+    (first_counted ((each.fields (codes "data")).next i j more)))
+    (holds_up _ align (holds_second (Some 8) _ (holds_second_of (Some 16) (size_product (Some n) w)
+    (holds_items (length xs.items) n w room))))
+
+-- A small vector whose items are in an allocation has them inside a pointer.
+pub spilled_counted : {T : Type 0} {w : Option ℕ} {k : Key} {p : T → Showing} (n align : ℕ) (xs : SmallVec T)
+    {old new : Places} {s t : ℕ → Shape} {r : Shape} {l : ℕ} → IsSpilled n xs →
+    IsDeclared (small_vec_size n w align) → l ≡ length xs.items → AddsPlaces w l 0 old new →
+    TalliesEach w p xs.items s t →
+    TalliesNext (small_vec_size n w align) (Field k (small_vec_size n w align) (small_vec_inside n w p xs))
+    (λ m. entries k (small_vec_size n w align) m (Beside r (EntryAt Unique (codes "ptr") (sum_times (Some 8) old.buffers)
+    (entries (codes "data") w old.items (s old.items)))))
+    (λ m. entries k (small_vec_size n w align) m (Beside r (EntryAt Unique (codes "ptr") (sum_times (Some 8) new.buffers)
+    (entries (codes "data") w new.items (t new.items)))))
+spilled_counted {w = w} n align xs {old} {new} {s} {l = l} is declared count adds each =
+    let a : AddsPlaces w (length xs.items) 0 old new = rw count at adds in
+    next_case declared (tallies_as (λ h x. is_spilled is x) (second_counted (pointer_counted (codes "ptr") a
+    (most_direct old.items (entries (codes "data") w old.items (s old.items)) a.sized (le_refl _))
+    (times_counted (length xs.items) a.sized ((each.fields (codes "data")).next old.items new.items a.items)))))
+    (holds_up _ align (holds_second (Some 8) _ (holds_first_of (Some 16) (size_product (Some n) w)
+    (holds_bytes (omega arith)))))
+
+-- ---- the bytes of pairs
+-- A field has its declared size.
+field_direct : (k : Key) (n : ℕ) (p : Showing) (f : Forest) → Field k (Some n) p f → direct f ≡ n
+field_direct k n p f (sized (g, x, e)) = ap direct e ∙ omega arith
+
+-- Pairs have the bytes of both sizes each.
+pairs_direct : {K V : Type 0} (m n : ℕ) (p : K → Showing) (q : V → Showing) (es : List (K × V)) (f : Forest) →
+    each_shows (pair_shows (Some m) p (Some n) q) es f → direct f ≡ (m + n) * length es
+pairs_direct m n p q [] f e = ap direct e ∙ omega arith
+pairs_direct m n p q (e ∷ es) f (g, h, (a, b, x, y, i), z, j) =
+    let both = ap direct i ∙ direct-following a b in
+    let all = ap direct j ∙ direct-following g h in
+    omega (
+      arith,
+      both,
+      all,
+      field_direct (codes "key") m (p e.0) a x,
+      field_direct (codes "value") n (q e.1) b y,
+      pairs_direct m n p q es h z,
+    )
+
+-- The same, of a size of pairs.
+pub sized_direct : {K V : Type 0} (v w : Option ℕ) (n : ℕ) (p : K → Showing) (q : V → Showing) (es : List (K × V))
+    (f : Forest) → size_sum v w ≡ Some n → each_shows (pair_shows v p w q) es f → direct f ≡ n * length es
+sized_direct None w n p q es f e x = cc
+sized_direct (Some m) None n p q es f e x = cc
+sized_direct (Some m) (Some k) n p q es f e x =
+    pairs_direct m k p q es f x ∙ ap (λ s. s * length es) (checked_is (m + k) n e)
+
+-- Keys have the bytes of their size each.
+pub keys_direct : {K : Type 0} (w : Option ℕ) (n : ℕ) (k : Key) (p : K → Showing) (xs : List K) (f : Forest) →
+    w ≡ Some n → each_shows (field_of k w p) xs f → direct f ≡ n * length xs
+keys_direct None n k p xs f e x = cc
+keys_direct (Some m) n k p [] f e x = ap direct x ∙ omega arith
+keys_direct (Some m) n k p (y ∷ ys) f e (g, h, x, z, j) =
+    let same : m ≡ n = cc in
+    omega (
+      arith,
+      ap direct j ∙ direct-following g h,
+      field_direct k m (p y) g x,
+      same,
+      keys_direct (Some m) n k p ys h e z,
+    )
+
+-- A size that has room for a bound has room for so many times the bound.
+pub items_within : {size w : Option ℕ} {z : ℕ} (l : ℕ) {p : Showing} {s t : Shape} → Holds size w → size ≡ Some z →
+    Tallies (size_times w l) p s t → Tallies (Some (z * l)) p s t
+items_within {w = w} {z} l holds e c =
+    let y = not_greater w z (subst (λ (v : Option ℕ). HasRoom v w) e holds.room) in
+    tallies_within (Some (z * l)) (holds_bytes (mul-le y.0 l z l y.2 (omega arith)))
+    (times_counted l y.1 c)
+
+-- The pair of two sizes has room for both.
+pub holds_pair : (v w : Option ℕ) → Holds (size_sum v w) (both_bounds v w)
+holds_pair v w = record { room = room_sum v w }
+
+-- The size of a tuple of two has room for both.
+pub holds_tuple : (v w : Option ℕ) (align : ℕ) → Holds (size_up (size_sum v w) align) (both_bounds v w)
+holds_tuple v w align = holds_up (size_sum v w) align (holds_pair v w)
+
+-- Pairs have at most the bytes of a size that has room for both at the top.
+pub pairs_most : {size : Option ℕ} (v w : Option ℕ) {z : ℕ} (i : ℕ) (s t : ℕ → Shape) → Holds size (both_bounds v w) →
+    size ≡ Some z → direct (forest_of (pairs_shape v w s t i)) ≤ z * i
+pairs_most {size} v w {z} i s t holds e =
+    let y = not_greater (both_bounds v w) z (subst (λ (x : Option ℕ). HasRoom x (both_bounds v w)) e holds.room) in
+    omega (arith, shape_direct (pairs_shape v w s t i), both v w y.0 y.1, mul-le y.0 i z i y.2 (omega arith))
+  where
+    both : (v w : Option ℕ) (y : ℕ) → both_bounds v w ≡ Some y → bytes_times v i + bytes_times w i ≤ y * i
+    both None w y e = cc
+    both (Some m) None y e = cc
+    both (Some m) (Some n) y e = let same : (m + n) * i ≡ y * i = ap (λ (x : ℕ). x * i) (cc) in omega (arith, same)
+
+-- ---- the entry `data`
+-- What is shown inside an entry of 8 bytes can be shown otherwise.
+inside_as : (k : Key) {p q : Showing} → ((f : Forest) → p f → q f) → (h : Forest) → Inside k 8 p h → Inside k 8 q h
+inside_as k up h (f, x, e) = (f, up f x, e)
+
+-- Items that have at most 8 bytes were counted.
+pub small_counted : {found size w : Option ℕ} {m l : ℕ} (n b : ℕ) {k : Key} {q u : Showing} {old new : Places}
+    {s t : ℕ → Shape} {r : Shape} → 8 ≤ n → n < 2 ^ 64 → ((f : Forest) → q f → u f) → Holds size w → found ≡ size →
+    (fits : FitsData found m true) → m ≡ l → AddsPlaces found m 0 old new → TalliesMany w l q s t →
+    TalliesNext (Some n) (Field k (Some n) (Inside (codes "data") 8 u))
+    (λ i. entries k (Some n) i (data_shape old.buffers (s old.items) b r))
+    (λ i. entries k (Some n) i (data_shape new.buffers (t new.items) b r))
+small_counted {l = l} n b {old = old} {new} room bound up holds e fits same a items =
+    let more : new.items ≡ old.items + l = omega (arith, a.items, same) in
+    let least : fits.item * l ≤ 8 = omega (arith, fits.if_fits refl, ap (λ (i : ℕ). fits.item * i) same) in
+    next_container n room bound (first_counted (tallies_as (inside_as (codes "data") up)
+    (counted_inline (one_more (Some 8) old.buffers new.buffers refl a.buffers)
+    (items_within l holds (sym e ∙ fits.is_size) (items.next old.items new.items more)) (fits_bytes least))))
+
+-- Items that have at least 8 bytes were counted.
+pub large_counted : {found size w : Option ℕ} {m l : ℕ} (n b : ℕ) {k : Key} {q u : Showing} {old new : Places}
+    {s t : ℕ → Shape} {r : Shape} → 8 ≤ n → n < 2 ^ 64 → ((f : Forest) → q f → u f) → Holds size w → found ≡ size →
+    (fits : FitsData found m false) → m ≡ l → (a : AddsPlaces found m 0 old new) → TalliesMany w l q s t →
+    ((z i : ℕ) → size ≡ Some z → direct (forest_of (s i)) ≤ z * i) →
+    ((z : ℕ) (f : Forest) → size ≡ Some z → q f → direct f ≡ z * l) →
+    TalliesNext (Some n) (Field k (Some n) (Inside (codes "data") 8 u))
+    (λ i. entries k (Some n) i (data_shape b r old.buffers (s old.items)))
+    (λ i. entries k (Some n) i (data_shape b r new.buffers (t new.items)))
+large_counted {m = m} {l} n b {old = old} {new} room bound up holds e fits same a items most bytes =
+    let more : new.items ≡ old.items + l = omega (arith, a.items, same) in
+    let z = a.bytes in
+    let is_size = sym e ∙ a.sized in
+    let all = items_within l holds is_size (items.next old.items new.items more) in
+    let before = most z old.items is_size in
+    let item : fits.item ≡ z = let i = sym fits.is_size ∙ a.sized in cc in
+    let least : 8 ≤ z * l = omega (arith, fits.if_more refl, ap (λ (i : ℕ). i * m) item, ap (λ (i : ℕ). z * i) same) in
+    next_container n room bound (second_counted (tallies_as (inside_as (codes "data") up)
+    (counted_narrow (one_more (Some 8) old.buffers new.buffers refl a.buffers) all
+    (λ r. omega (arith, before, all.within, places_fit a, ap (λ (i : ℕ). z * i) same))
+    (λ f x. omega (arith, least, bytes z f is_size x)))))
+
+-- The pairs in their own order are the pairs in some order.
+pub own_order : {T : Type 0} (p : T → Showing) (xs : List T) (f : Forest) → each_shows p xs f → in_any_order p xs f
+own_order p xs f x = (xs, IsPermutation-refl xs, x)
+
+-- ---- containers in the order of insertion
+-- No items have no hash table.
+pub no_table_counted : {n : ℕ} {s : Shape} → n ≡ 0 → Tallies (Some 8) (table_shows n) s s
+no_table_counted e = tallies_none (inl (e, refl))
+
+-- The hash table of some items is a unique entry with the table's bytes inside it.
+pub table_counted : (a a' c c' : ℕ) {n b : ℕ} {bytes : Option ℕ} → 0 < n → IsRawTableSize (Some 8) n bytes → bytes ≡ Some b →
+    a' ≡ a + 1 → c' ≡ c + b → c' < 2 ^ 64 → Tallies (Some 8) (table_shows n) (table_shape a c) (table_shape a' c')
+table_counted a a' c c' {b = b} {bytes} some is size more buckets fits =
+    let inside = counted_field {k = codes "alloc"} size (counted_leaf (adds_of a a' (omega (arith, more)) buckets)) in
+    let before = entry_direct Wide (codes "alloc") (sum_of a c) NoEntry in
+    let within : direct inside.counted ≤ b = subst (IsWithin (direct inside.counted)) size inside.within in
+    tallies_as (λ h x. inr (some, (bytes, is, x))) (counted_unique (one_more (Some 8) a a' refl more) inside
+    (λ r. omega (arith, before, within, buckets, fits)))
+
+-- A container in the order of insertion is its own entry, with its items, its unused places and its table inside it.
+pub index_counted : {found size w : Option ℕ} {m l u places n : ℕ} {k : Key} {p : Showing} {old new : Places}
+    {s t : ℕ → Shape} {r r' : Shape} → Holds size w → found ≡ size → m ≡ l → u ≡ places → n ≡ l →
+    AddsPlaces found m u old new → TalliesMany w l p s t →
+    ((z i : ℕ) → size ≡ Some z → direct (forest_of (s i)) ≤ z * i) → Tallies (Some 8) (table_shows n) r r' →
+    TalliesNext (Some 72) (Field k (Some 72) (Both (index_data_shows size p places) (table_shows l)))
+    (λ i. entries k (Some 72) i
+    (Beside (buffer_shape (codes "data") old.buffers (s old.items) (bytes_times size old.unused)) r))
+    (λ i. entries k (Some 72) i
+    (Beside (buffer_shape (codes "data") new.buffers (t new.items) (bytes_times size new.unused)) r'))
+index_counted {size = size} {l = l} {places = places} {old = old} {new} holds e same unused count adds items most table =
+    let a : AddsPlaces size l places old new = rw (e, same, unused) at adds in
+    next_container 72 (omega arith) (omega arith) (tallies_both (tallies_as (λ h x. is_index_data x)
+    (places_counted (codes "data") a (most a.bytes old.items a.sized)
+    (items_within l holds a.sized (items.next old.items new.items a.items)))) (rw count at table))
+
+-- ---- what is entered
+-- Pairs that were counted from nothing, and entered, were entered as each of them shows.
+pub entered_pairs : {x : Bool} {n l : ℕ} {q u : Showing} (v w : Option ℕ) (s s' t t' : ℕ → Shape) {a b : Visitor}
+    {r : Result (Unit {0}) Refusal} → ((f : Forest) → q f → u f) → IsNothing (s 0) → IsNothing (t 0) →
+    FitsWord (size_sum v w) n → n ≡ l → TalliesMany (both_bounds v w) l q (pairs_shape v w s t) (pairs_shape v w s' t') →
+    Entered true (shape_shows (pairs_shape v w s' t' n)) a b r → Entered x u a b r
+entered_pairs {n = n} {l} v w s s' t t' up none_s none_t room same items entered =
+    let none = starts_both _ _ (starts_entry (codes "key") (s 0) v none_s) (starts_entry (codes "value") (t 0) w none_t) in
+    let counted = items_within l (holds_pair v w) room.sized (items.next 0 n (omega (arith, same))) in
+    entered_counted (counts none (tallies_as up counted) refl
+    (omega (arith, room.fits, ap (λ (i : ℕ). room.bytes * i) same))) entered

@@ -1,0 +1,22 @@
+-- of count_run: one more item is counted, and the run ends
+use Rattle.std.proofs.Common.{map}
+use Rattle.std.proofs.lemmas.List.{map-append}
+use Rattle.std.specs.Map.Iter.{deref}
+use Rattle.allocative_tally.proofs.Many.{each_none, each_more}
+use Rattle.allocative_tally.proofs.counted.count_run.Goals as goal
+
+pub loop-item-init : goal.loop-item-init
+loop-item-init g c = each_none _
+
+pub loop-item-preserved : goal.loop-item-preserved
+loop-item-preserved g c = rw map-append (each_more _ (map deref c.loop-item.yielded) (deref c.in-Some.item)
+    c.loop-item.invariant c.in_ok-tally.ensures)
+
+pub returns : goal.returns
+returns g c =
+    let l = c.loop-item in
+    rw (← c.into_iter-item-iterator.ensures.into_iter_gives) (record {
+      given = l.yielded;
+      drained = (c.next.new.self, (l.item-iterator, l.yielded_by, c.in-None.ensures.steps));
+      holds = l.invariant;
+    })

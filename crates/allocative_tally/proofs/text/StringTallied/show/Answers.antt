@@ -1,0 +1,6 @@
+-- of what enters texts: the entries of the sums
+use Rattle.allocative_tally.proofs.text.StringTallied.show.Goals as goal
+
+pub returns : goal.returns
+returns c =
+    rw (c.of.ensures, c.of-2.ensures, c.of-3.ensures, c.times.ensures, c.times-2.ensures) at c.enter.ensures

@@ -1,0 +1,63 @@
+//! Numbers of buffers, of their items and of their unused places.
+#![tactic(auto)]
+
+ghost use Rattle.std.specs.Prelude.{◌≡◌, IfOk};
+ghost use Rattle.allocative_tally.specs.Places.{no_places, AddsPlaces};
+
+use crate::tally::{CountError, added};
+
+/// How many buffers there are, how many items are in them, and how many places in them are unused.
+#[derive(Clone, Copy)]
+pub struct Places {
+    pub(crate) buffers: usize,
+    pub(crate) items: usize,
+    pub(crate) unused: usize,
+}
+
+impl Places {
+    /// No buffer.
+    pub fn none() -> Places
+        ensures { result ≡ no_places }
+    {
+        Places {
+            buffers: 0,
+            items: 0,
+            unused: 0,
+        }
+    }
+
+    /// Adds a buffer of so many items and unused places, of a declared size each. It returns `Err` if the size is
+    /// missing, or the bytes of all places do not fit a word.
+    #[inline(always)]
+    pub fn add(
+        &mut self,
+        size: Option<usize>,
+        items: usize,
+        unused: usize,
+    ) -> Result<(), CountError>
+        ensures { IfOk result (λ _. AddsPlaces size items unused self.old self.new) }
+    {
+        let Some(place) = size else {
+            return Err(CountError);
+        };
+        let buffers = added(self.buffers, 1)?;
+        let items = added(self.items, items)?;
+        let unused = added(self.unused, unused)?;
+        let Some(_bytes) = added(items, unused)?.checked_mul(place) else {
+            return Err(CountError);
+        };
+        *self = Places {
+            buffers,
+            items,
+            unused,
+        };
+        Ok(())
+    }
+}
+
+/// Values in buffers, counted: the numbers of the buffers, and the tally of the items.
+#[derive(Drop)]
+pub struct Buffers<S> {
+    pub(crate) places: Places,
+    pub(crate) values: S,
+}
