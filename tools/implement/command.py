@@ -53,7 +53,7 @@ def arguments(words: list[str]) -> argparse.Namespace:
         parser.add_argument(flag, action="store_true", help=what)
     chosen = parser.parse_args(words)
     if chosen.in_place and chosen.module:
-        parser.error("--in-place: a module in braces cannot have the imports of clauses; leave out --in-place")
+        parser.error("--in-place does not go with --module: a module in braces cannot have the imports of clauses")
     return chosen
 
 

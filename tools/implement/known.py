@@ -121,8 +121,13 @@ class Scope:
             if self.is_of_library(kind):
                 return ""
             if len(path) == 1:
-                return f"`{kind.text}` has no implementation that is seen here"
+                return f"`{kind.text}` is neither declared nor imported in this file"
         return self.outside(path)
+
+    def is_unknown(self, kind: Type) -> bool:
+        """Whether a type is named that the module neither declares nor imports."""
+        is_alone = len(kind.path) == 1 and len(self.path(kind)) == 1
+        return is_alone and self.own(kind) is None and kind.name[0].isupper() and not self.is_of_library(kind)
 
     def is_of_library(self, kind: Type) -> bool:
         """Whether a type is one of those that the library implements."""
@@ -147,7 +152,8 @@ class Scope:
         """Why the checker refuses a field of a type, also if it is not shown, or nothing."""
         kind = self.real(kind)
         if kind.form == "other" and kind.text.startswith(FUNCTIONS):
-            return f"`{kind.text}` is a function pointer, and the checker proves no implementation for a type with one"
+            what = "is a function pointer, which the checker refuses in a type that is shown"
+            return f"`{kind.text}` {what}: put it into a struct of your own, and show that by its size"
         if kind.name == "SmallVec" and any(part.name in definition.names("type") for part in kind.all()):
             return f"the checker does not bound the size of `{kind.text}` over a type parameter: write a `Vec`"
         asked = kind.parts[0].all() if kind.name in ASKED and kind.parts else ()

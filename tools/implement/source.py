@@ -147,7 +147,7 @@ class Source:
         shown = {name for name in types if "Allocative" in self.module.implemented.get(name, ())}
         for name in names:
             if name not in types:
-                self.fault(0, f"{name}: no struct or enum of this name stands here")
+                self.fault(0, f"{name}: the file has no struct or enum of this name")
             elif name in shown:
                 what = "it has `impl Allocative` already: remove that or the name"
                 self.fault(types[name].at, f"{name}: {what}")
@@ -161,14 +161,14 @@ class Source:
         bounds = definition.where + "".join(each.bounds for each in definition.parameters)
         is_const = definition.names("const") and not definition.names("lifetime")
         faults = {
-            "the written text uses this name: rename the type, or write its implementations by hand": name in self.reserved,
+            "the text that is written uses this name: rename the type, or write its implementations by hand": name in self.reserved,
             "Rattle has no bound `?Sized`: remove it": "?" in bounds,
-            "a const parameter, whose `Described` the checker does not prove: write the number": is_const,
+            "the checker proves no size of a type with a const parameter: write the number in its place": is_const,
         }
         for what in (what for what, is_fault in faults.items() if is_fault):
             self.fault(at, f"{name}: {what}")
         if not (definition.derives | self.module.implemented.get(name, set())) & {"Drop", "Copy"}:
-            self.fault(at, f"{name}: what is shown is `Drop`: write `#[derive(Drop)]` above it")
+            self.fault(at, f"{name}: it is not `Drop`: write `#[derive(Drop)]` above it")
         variants = []
         for variant in definition.variants:
             of_what = f"{name}::{variant.name}" if definition.is_enum else name
@@ -216,6 +216,8 @@ class Source:
         size = size_advice(member, counted)
         for kind in self.scope.real(member.type).all():
             path, known = self.scope.path(kind) if kind.path else (), foreign.of(self.scope, kind)
+            if self.scope.is_unknown(kind):
+                return f"add the `use` of `{kind.name}`, or {size}"
             if known:
                 return f"put the `{known.name}` into a struct of your own, or {size}"
             if path[:1] == ("std",) and path[-1] in ("Rc", "Arc") and kind.parts and not is_unsized(kind.parts[0]):
@@ -344,7 +346,7 @@ def crate_of(path: str) -> tuple[str, list[str]]:
     """The folder of the crate of a file, and the module that the file is."""
     parts = os.path.realpath(path).removesuffix(".rt").split(os.sep)
     if "src" not in parts[:-1]:
-        raise Fault(None, "the file does not stand in the folder src of a crate")
+        raise Fault(None, "the file is not in the folder src of a crate")
     at = len(parts) - 2 - parts[-2::-1].index("src")
     inside = parts[at + 1 :]
     return os.sep.join(parts[:at]), [] if inside in (["lib"], ["main"]) else inside
@@ -353,9 +355,11 @@ def crate_of(path: str) -> tuple[str, list[str]]:
 def size_advice(member: Member, counted: list[Counted] | None) -> str:
     """What to write above a field that cannot be shown, from what counts for it."""
     size, kind = counted[0].size if counted else None, member.type.text
-    what = f"N`, where N is what `size_of::<{kind}>()` gives in Rust" if size is None else f"{size}`"
-    skip = ", or `// allocative: skip`" if counted is not None else ""
-    return f"write above it `// allocative: size {what}, for one entry of so many bytes{skip}"
+    skip = ", or `// allocative: skip`, for none" if counted is not None else ""
+    if size is None:
+        what = f"N`, where N is what `size_of::<{kind}>()` gives in Rust, for one entry of N bytes"
+        return f"write above it `// allocative: size {what}{skip}"
+    return f"write above it `// allocative: size {size}`, for one entry of {size} bytes{skip}"
 
 
 def pieces_of(text: str) -> list[tuple[int, int]]:

@@ -419,7 +419,7 @@ class Writer:
         """Refuses the fields that an enum that holds itself cannot have."""
         for member in self.definition.members:
             if not member.is_whole:
-                what = "of an enum that holds itself is not shown whole: put it into a struct"
+                what = "of an enum that holds itself is not shown whole: put it into a struct of your own"
                 raise Fault(member.at, f"the field {member.name} {what}")
 
     def refuse_large(self) -> None:

@@ -430,7 +430,7 @@ class CommandTest(unittest.TestCase):
         self.assertEqual(run(self.put("src/placed.rt", written.replace("u64", "u32", 1)), "--check")[0], 1)
         nowhere = f"{written}\n#[derive(Copy2)]\npub struct Nowhere;\n"
         told = run(self.put("src/placed.rt", nowhere), "--in-place")[2]
-        self.assertIn(f"placed.rt:{nowhere.count(chr(10))}: Nowhere: what is shown", told)
+        self.assertIn(f"placed.rt:{nowhere.count(chr(10))}: Nowhere: it is not `Drop`", told)
         self.assertEqual(run(self.put("src/placed.rt", nowhere.replace("Copy2", "Drop")), "--in-place")[0], 0)
         self.assertTrue(self.get("src/placed.rt").endswith(f"{NOWHERE}// allocative: end\n"))
         self.assertEqual(self.get("src/placed.rt").count("use allocative::{"), 2)
