@@ -7,8 +7,8 @@ use Rattle.allocative.proofs.Common.{without_size, without_room, with_room, buff
 use Rattle.allocative.proofs.Common.{CanTake, Visitor, Entered, Means}
 use Rattle.std.proofs.lemmas.Bool.{false≢true}
 use Rattle.std.proofs.lemmas.Bool.Decides.{nat_tests}
-use Rattle.allocative_described.specs.RawTable.{IsRawTableSize}
-use Rattle.allocative_described.proofs.Buckets.{raw_table_size_same}
+use Rattle.allocative_described.specs.Sizes.{IsRawTableSize}
+use Rattle.allocative_described.proofs.Sizes.{raw_table_size_same}
 use Rattle.allocative.specs.Bodies.{buffer_entry, is_text, text_shows}
 use Rattle.allocative.proofs.Strict.{declared_nothing, declared_entry, entry_fits, only_if_full_as}
 use Rattle.allocative.proofs.Visits.{adds_weaker}

@@ -9,7 +9,7 @@ pub use Rattle.allocative_graph.specs.Collector.{Takes, begin, enter, enter_firs
 pub use Rattle.allocative_graph.specs.Collector.{leave, close_entry, nothing_held, nothing_owned, count_entry, entry_bytes, plus}
 pub use Rattle.allocative_graph.specs.Collector.{visitors}
 pub use Rattle.allocative_graph.specs.Forest.{Again, Empty, First, Forest, entry_of, followed_by}
-pub use Rattle.allocative_graph.specs.Held.{ShowsNoContent, held}
+pub use Rattle.allocative_graph.specs.Owned.{ShowsNoContent, held}
 pub use Rattle.allocative_graph.specs.Identity.{Identity}
 pub use Rattle.allocative_graph.specs.Path.{Key}
 pub use Rattle.allocative_graph.specs.Shows.{Both, Field, Inside, InsideAs, Unique, IsField, Nothing, Shared}

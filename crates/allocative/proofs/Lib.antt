@@ -20,6 +20,6 @@ pub mod Entering
 pub mod ByHand
 -- Lemmas of the crate below about graphs and their text are exported again.
 pub use Rattle.allocative_graph.proofs.Basics
-pub use Rattle.allocative_graph.proofs.Below
-pub use Rattle.allocative_graph.proofs.Merge
+pub use Rattle.allocative_graph.proofs.Sums
+pub use Rattle.allocative_graph.proofs.Showings
 pub use Rattle.allocative_graph.proofs.Text as WrittenText

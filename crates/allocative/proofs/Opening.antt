@@ -5,7 +5,7 @@ use Rattle.allocative.proofs.Common.{count_entry, entry_bytes, ExceedsSum, State
 use Rattle.allocative.proofs.Common.{is_entered, RefusesSized, OpensShared, stays_shared, is_refused_shared}
 use Rattle.allocative.proofs.Common.{is_too_large_shared, counts, enters_first, enters_again, Done}
 use Rattle.allocative.proofs.Common.{one, Makes, made_none, made, entry_refused}
-use Rattle.allocative_collectors.specs.Meets.{MeetsAs}
+use Rattle.allocative_collectors.specs.Places.{MeetsAs}
 use Rattle.allocative_graph.specs.Collector.{enter, leave, outer_of}
 use Rattle.allocative_graph.specs.Sums.{bytes_entered}
 use Rattle.allocative_graph.specs.Visits.{HasRoom, Refuses}

@@ -24,8 +24,8 @@ use Rattle.allocative_graph.proofs.Plus.{figure_after-zero, figure_after-none}
 use Rattle.allocative_graph.proofs.Plus.{is_graph-plus, is_graph-leave, is_graph-begin}
 use Rattle.allocative.proofs.Showing.{each_and_one}
 use Rattle.allocative_graph.proofs.Reach.{all_is_meaning, reaches_exactly}
-use Rattle.allocative_graph.proofs.OneMeaning.{one_sums}
-use Rattle.allocative_graph.proofs.Merge.{whole_following, graphs_add}
+use Rattle.allocative_graph.proofs.Showings.{one_sums}
+use Rattle.allocative_graph.proofs.Showings.{whole_following, graphs_add}
 use Rattle.std.proofs.lemmas.List.{take_more}
 
 -- If no visitor was open, exactly one is open after a root visitor was opened.

@@ -19,8 +19,8 @@ use Rattle.allocative_graph.specs.Forest.{Inline, Unique, Bag, own_behind, conte
 use Rattle.allocative_graph.specs.Sums.{Sums, bytes_entered, add}
 use Rattle.allocative_graph.specs.Collector.{entries_at, plus_live}
 use Rattle.allocative_graph.specs.Visits.{HasRoom, Refuses}
-use Rattle.allocative_graph.proofs.Below.{bytes_entered-add}
-use Rattle.allocative_graph.proofs.Following.{own-following, contents-following}
+use Rattle.allocative_graph.proofs.Sums.{bytes_entered-add}
+use Rattle.allocative_graph.proofs.Showings.{own-following, contents-following}
 use Rattle.allocative_graph.proofs.Plus.{plus-nothing, plus-following, takes_nothing, takes_both, inside_entry}
 use Rattle.allocative_graph.proofs.Plus.{takes_entry, inside_first, takes_shared, counted_again, forest_bytes-again}
 use Rattle.allocative_graph.proofs.Plus.{forest_bytes-following, forest_bytes-entry, is_graph-plus, is_graph-enter}

@@ -21,7 +21,6 @@ pub mod SizeOf
 pub mod InTwo
 -- The definitions of the crates below are exported again.
 pub use Rattle.allocative_described.specs.Sizes
-pub use Rattle.allocative_described.specs.RawTable
 pub use Rattle.allocative_graph.specs.Path
 pub use Rattle.allocative_graph.specs.Format
 pub use Rattle.allocative_graph.specs.Identity
@@ -29,14 +28,12 @@ pub use Rattle.allocative_graph.specs.Forest
 pub use Rattle.allocative_graph.specs.Meaning
 pub use Rattle.allocative_graph.specs.Sums
 pub use Rattle.allocative_graph.specs.Graph
-pub use Rattle.allocative_graph.specs.Held
+pub use Rattle.allocative_graph.specs.Owned
 pub use Rattle.allocative_graph.specs.Collector
 pub use Rattle.allocative_graph.specs.Shows
 pub use Rattle.allocative_graph.specs.Visits
-pub use Rattle.allocative_graph.specs.Report
 pub use Rattle.allocative_graph.specs.Rows
-pub use Rattle.allocative_graph.specs.Many
 pub use Rattle.allocative_graph.specs.Laws
 pub use Rattle.allocative_graph.specs.WorkedExamples
 pub use Rattle.allocative_graph.specs.declared.refusal.Refusal
-pub use Rattle.allocative_graph.specs.declared.flamegraph.rows.Row
+pub use Rattle.allocative_graph.specs.declared.flamegraph.Row

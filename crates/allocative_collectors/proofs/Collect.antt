@@ -3,11 +3,11 @@
 use Rattle.std.proofs.Common.{◌≡◌, ℕ, pred, ◌+◌, ◌^◌, ◌<◌, Bool, true, false, cond, not, ◌||◌, ◌&&◌, ◌==◌, List, []}
 use Rattle.std.proofs.Common.{◌∷◌, ◌++◌, map, reverse, length, refl, sym, ap, ◌∙◌, arith, length-append}
 use Rattle.allocative_collectors.proofs.Common.{contains, Key, Path, Live, go, leave_live, enter_live, Listed, path_at}
-use Rattle.allocative_collectors.proofs.Common.{map_of, live, IsPlaced}
+use Rattle.allocative_collectors.proofs.Common.{map_of, live, IsPlaced, map-append, length-map, nil_from_length}
+use Rattle.allocative_collectors.proofs.Common.{nat_tests}
 use Rattle.std.specs.List.{list_any}
 use Rattle.std.specs.FinSet.{from_list, insert, same_set, contains-from_list, contains-insert}
-use Rattle.std.proofs.lemmas.List.{map-append, reverse-append, length-map, length-reverse, nil_from_length}
-use Rattle.std.proofs.lemmas.Bool.Decides.{nat_tests}
+use Rattle.std.proofs.lemmas.List.{reverse-append, length-reverse}
 use Rattle.allocative_graph.specs.Identity.{Identity, identity_cmp, is_same_identity}
 use Rattle.allocative_graph.specs.Forest.{Entry}
 use Rattle.allocative_graph.specs.Sums as bag
@@ -15,7 +15,7 @@ use Rattle.allocative_graph.specs.Collector.{last_of, without_last}
 use Rattle.allocative_graph.proofs.Basics.{identity_total, identity_antisymmetric, same_identity_turned}
 use Rattle.allocative_collectors.specs.Places.{to_root, outside, back_from, back_at, AddedAt}
 use Rattle.allocative_collectors.proofs.Entries.{total_entered, length_entered, path_entered, map_of-entered, mark_of}
-use Rattle.allocative_graph.proofs.Below.{bytes_entered-add}
+use Rattle.allocative_graph.proofs.Sums.{bytes_entered-add}
 use Rattle.allocative_collectors.proofs.Keys.{map_same}
 
 -- ---- the identities

@@ -11,12 +11,24 @@ pub use Rattle.allocative_graph.specs.Path.{Key, Path, is_one_below, is_same_pat
 pub use Rattle.allocative_graph.specs.Sums.{Sums, below, bytes_entered}
 pub use Rattle.allocative_graph.specs.declared.refusal.Refusal.{Refusal}
 pub use Rattle.allocative_graph.specs.declared.refusal.Refusal.TheVariants.{Memory, Open, TooLarge}
-pub use Rattle.allocative_collectors.specs.Finishing.{size_at_place}
+pub use Rattle.allocative_collectors.specs.Warned.{size_at_place, is_std_data, is_std_entry, warning_of, warning_lines}
+pub use Rattle.allocative_collectors.specs.Warned.{MakesGraph, MakesPart, is_short, rows_behind}
 pub use Rattle.allocative_collectors.specs.Listed.{IsEntered, Listed, Sum, put, map_of, path_at, root_sum, row, sum_at}
-pub use Rattle.allocative_collectors.specs.Nodes.{IsTree, shape, sums_of}
+pub use Rattle.allocative_collectors.specs.Nodes.{IsTree, shape, sums_of, HasKey, IsArena, IsChild, IsKeyGap, KeysRise}
+pub use Rattle.allocative_collectors.specs.Nodes.{Shape, StandsIn, at, bytes_at, children_at, key_at, key_in, keys_at}
+pub use Rattle.allocative_collectors.specs.Nodes.{keys_of, leaf, no_shape, parent_at, sums, before, chunk_at, flat}
+pub use Rattle.allocative_collectors.specs.Nodes.{numbers, numbers_in}
 pub use Rattle.allocative_collectors.specs.Places.{IsPlaced, live}
-pub use Rattle.allocative_collectors.specs.Shapes.{HasKey, IsArena, IsChild, IsKeyGap, KeysRise, Shape, StandsIn, at}
-pub use Rattle.allocative_collectors.specs.Shapes.{bytes_at, children_at, key_at, key_in, keys_at, keys_of, leaf}
-pub use Rattle.allocative_collectors.specs.Shapes.{no_shape, parent_at, sums}
-pub use Rattle.allocative_collectors.specs.Warned.{is_std_data, is_std_entry, warning_of, warning_lines}
 pub use Rattle.allocative_collectors.specs.declared.output.WarnedPath.{WarnedPath}
+pub use Rattle.allocative_collectors.specs.declared.children.Children.{Children}
+pub use Rattle.allocative_collectors.specs.declared.children.Chunk.{Chunk}
+pub use Rattle.allocative_graph.specs.Rows.{ComesLast}
+pub use Rattle.std.proofs.lemmas.Bool.{cases_eq, cases_lt, cases_order, cond-false, cond-true, false_from_ne_true}
+pub use Rattle.std.proofs.lemmas.Bool.Decides.{nat_tests}
+pub use Rattle.std.proofs.lemmas.Cmp.{tied_itself}
+pub use Rattle.std.proofs.lemmas.Fn.{always_returns_same}
+pub use Rattle.std.proofs.lemmas.Grind.{common_steps, flat_map-append}
+pub use Rattle.std.proofs.lemmas.List.{get_or-map, get_or_append_left, get_or_default, get_or_push, length-map}
+pub use Rattle.std.proofs.lemmas.List.{length_push, map-append, nil_from_length, same_from_push}
+pub use Rattle.std.proofs.lemmas.List.Sums.{sum_by-cons}
+pub use Rattle.std.specs.Cmp.{tied_then}

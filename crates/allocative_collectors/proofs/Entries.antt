@@ -3,22 +3,19 @@ use Rattle.std.proofs.Common.{◌≡◌, ℕ, zero, suc, ◌+◌, ◌<◌, ◌�
 use Rattle.std.proofs.Common.{refl, ap, ◌∙◌, arith, ◌≢◌, ◌-◌, true, cond, map, Option, Some, None, sym, sum_by}
 use Rattle.allocative_collectors.proofs.Common.{Key, Path, Sum, Listed, put, path_at, IsEntered, Sums, get, path_cmp}
 use Rattle.allocative_collectors.proofs.Common.{is_same_path, is_one_below, graph, sum_at, row, map_of, size_at_place}
+use Rattle.allocative_collectors.proofs.Common.{sum_by-cons, nat_tests, cond-true, cond-false}
 use Rattle.std.proofs.Math.Bool.{or-false}
-use Rattle.std.proofs.lemmas.List.Sums.{sum_by-cons}
 use Rattle.allocative_collectors.specs.Listed.{total, rows, raise}
 use Rattle.std.specs.FinMap.{from_entries, get-from_entries, insert, find}
 use Rattle.std.specs.Option.{option_map}
-use Rattle.std.proofs.lemmas.Bool.Decides.{nat_tests}
-use Rattle.std.proofs.lemmas.Bool.{cond-true, cond-false}
 use Rattle.allocative_graph.specs.Forest.{Mark, Entry, AsInline, AsUnique}
 use Rattle.allocative_graph.specs.Sums.{Node, together, is_unique_mark}
 use Rattle.allocative_graph.specs.Sums as bag
 use Rattle.allocative_graph.specs.Graph.{remaining}
 use Rattle.allocative_graph.proofs.Basics.{path_total, same_path}
-use Rattle.allocative_graph.proofs.Lookups.{get-add, same_sums}
+use Rattle.allocative_graph.proofs.Sums.{get-add, same_sums, below-add}
 use Rattle.allocative_graph.proofs.Computed.{entries-empty}
-use Rattle.allocative_graph.proofs.Below.{below-add}
-use Rattle.allocative_graph.proofs.Merge.{get-graph, get-graph-root}
+use Rattle.allocative_graph.proofs.Showings.{get-graph, get-graph-root}
 use Rattle.allocative_collectors.proofs.Keys.{same_path-same, same_path-apart}
 
 -- One more entry adds its bytes to the total.

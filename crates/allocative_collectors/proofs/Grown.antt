@@ -1,16 +1,19 @@
--- An arena with one more node, which has no entry yet.
+-- An arena with one more node, which has no entry yet, and with one more entry at a node.
 use Rattle.std.proofs.Common.{◌≡◌, ◌≢◌, ℕ, ◌+◌, ◌-◌, ◌<◌, ◌≤◌, List, [], ◌∷◌, ◌++◌, length, get_or, set, take, drop}
 use Rattle.std.proofs.Common.{refl, sym, ap, subst, ◌∙◌, arith, inl, inr, get_or-set_same, get_or-set_other, length-set}
+use Rattle.std.proofs.Common.{Bool}
 use Rattle.allocative_collectors.proofs.Common.{key_at, Less, ordering_reverse, Key, key_cmp, Shape, leaf, no_shape, at}
 use Rattle.allocative_collectors.proofs.Common.{children_at, keys_of, keys_at, key_in, parent_at, KeysRise, StandsIn}
-use Rattle.allocative_collectors.proofs.Common.{IsChild, IsArena, IsKeyGap}
+use Rattle.allocative_collectors.proofs.Common.{IsChild, IsArena, IsKeyGap, put, path_at, sums, bytes_at, length-map}
+use Rattle.allocative_collectors.proofs.Common.{get_or_append_left, get_or_push, length_push, cases_order, cases_eq}
 use Rattle.std.specs.List.{All, insert}
 use Rattle.std.proofs.lemmas.List.Elements.{All-append, All-cons, All-drop, All-take, All-weaker}
-use Rattle.std.proofs.lemmas.List.{length-map, get_or_append_left, get_or_push, length_push}
 use Rattle.std.proofs.lemmas.List.Edits.{length-insert, get_or-insert_below, get_or-insert_at}
-use Rattle.std.proofs.lemmas.Bool.{cases_order, cases_eq}
-use Rattle.allocative_collectors.proofs.Keys.{map_same, keys_of-insert, insert_above, stands_insert, pushed}
-use Rattle.allocative_collectors.proofs.Keys.{key_total}
+use Rattle.allocative_collectors.proofs.Keys.{map_same, keys_of-insert, insert_above, stands_insert, pushed, key_total}
+use Rattle.allocative_collectors.proofs.Keys.{touched}
+use Rattle.std.proofs.lemmas.List.Sums.{get_or-le-sum_by}
+use Rattle.allocative_collectors.specs.Listed.{total}
+use Rattle.allocative_collectors.proofs.Labels.{raise_shape, grow_raise, total-grow}
 
 -- the nodes with a new one under p, whose key is k
 abbrev pub grown : List Shape → ℕ → Key → List Shape
@@ -132,3 +135,50 @@ module _ (ns : List Shape) {cs : List (List ℕ)} (ok : IsArena ns cs) (p : ℕ)
         (subst KeysRise (sym keys_parent) (rise_insert (keys_at ns cs p) k g gap (ok.rise p)))
         (λ q ne. subst KeysRise (sym (keys_stood q)) (ok.rise q));
   }
+
+-- ---- one more entry at a node
+-- the arena after an entry of n bytes at node i
+abbrev pub raised : List Shape → ℕ → ℕ → Bool → List Shape
+raised ns i n u = set ns i (raise_shape n u (at ns i))
+
+-- The bytes of a node are at most the total of the sums.
+pub bytes_le_total : (ns : List Shape) (i : ℕ) → i < length ns → bytes_at ns i ≤ total (sums ns)
+bytes_le_total ns i h = rw (total-grow [] ns) (get_or-le-sum_by (λ (n : Shape). n.bytes) ns i no_shape h)
+
+module _ (ns : List Shape) {cs : List (List ℕ)} (ok : IsArena ns cs) (i : ℕ) (pos : 0 < i) (hi : i < length ns) (n : ℕ)
+    (u : Bool) where
+  abbrev marked : List Shape
+  marked = raised ns i n u
+
+  length_raised : length marked ≡ length ns
+  length_raised = length-set ns i (raise_shape n u (at ns i))
+
+  -- what depends neither on the bytes nor on the mark is unchanged
+  as_before : {X : Type 0} (f : Shape → X) → ((m : Shape) → f (raise_shape n u m) ≡ f m) → (j : ℕ) →
+      f (at marked j) ≡ f (at ns j)
+  as_before f same j = touched f ns i _ (same (at ns i)) j
+
+  parent_kept : (j : ℕ) → parent_at marked j ≡ parent_at ns j
+  parent_kept = as_before (λ m. m.parent) (λ m. refl)
+
+  keys_kept : (j : ℕ) → keys_at marked cs j ≡ keys_at ns cs j
+  keys_kept j = map_same (key_at marked) (key_at ns) (children_at cs j)
+      (λ a h. as_before (λ m. m.key) (λ m. refl) (get_or (children_at cs j) a 0))
+
+  pub arena_raised : IsArena (raised ns i n u) cs
+  arena_raised = record {
+    rooted = omega (arith, length_raised, ok.rooted);
+    root_empty = ap (λ (m : Shape). m.bytes) (get_or-set_other ns i 0 _ no_shape (λ e. omega arith)) ∙ ok.root_empty;
+    root_parent = parent_kept 0 ∙ ok.root_parent;
+    parents = λ j pj hj. rw (parent_kept j) (ok.parents j pj (omega (arith, length_raised)));
+    lists = omega (arith, length_raised, ok.lists);
+    listed = λ p j c. ok.listed p j
+        (record { not_root = c.not_root; in_range = omega (arith, length_raised, c.in_range); parent = sym (parent_kept j) ∙ c.parent });
+    children = λ p. All-weaker (IsChild ns p) (IsChild marked p)
+        (λ j old. record { not_root = old.not_root; in_range = omega (arith, length_raised, old.in_range); parent = parent_kept j ∙ old.parent }) (children_at cs p) (ok.children p);
+    rise = λ p. subst KeysRise (sym (keys_kept p)) (ok.rise p);
+  }
+
+  -- the bytes are added at the node's place
+  pub sums_raised : sums (raised ns i n u) ≡ put i (path_at (sums ns) i) n u (sums ns)
+  sums_raised = grow_raise [] ns i (path_at (sums ns) i) n u hi

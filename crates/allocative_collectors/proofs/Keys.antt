@@ -1,24 +1,15 @@
 -- Keys are in a total order, in which only equal ones tie; tests and equations of paths; the keys of numbered nodes.
-use Rattle.std.proofs.Common.{◌≡◌, true, false, ◌&&◌, refl, sym, subst, ℕ, zero, suc, set, inl, inr, ◌+◌, ◌-◌, ◌<◌, ◌≤◌}
+use Rattle.std.proofs.Common.{◌≡◌, true, false, refl, sym, subst, ℕ, zero, suc, set, inl, inr, ◌+◌, ◌-◌, ◌<◌, ◌≤◌}
 use Rattle.std.proofs.Common.{List, [], ◌∷◌, ◌++◌, length, map, get_or, drop, take, ◌∙◌, arith}
-use Rattle.allocative_collectors.proofs.Common.{Ordering, Less, Equal, Greater, is_eq, ordering_then, Key, Path}
-use Rattle.allocative_collectors.proofs.Common.{key_cmp, is_same_path, Shape, at, children_at, key_at, keys_of, StandsIn}
-use Rattle.std.specs.Cmp.{IsTotalOrder}
-use Rattle.std.specs.FinMap.{nat_cmp-IsAntisymmetric, slice_cmp-IsAntisymmetric}
-use Rattle.std.proofs.lemmas.Cmp.{nat_cmp_total, lists_total, tied_itself}
-use Rattle.std.proofs.lemmas.Bool.{false_from_ne_true, cases_lt}
+use Rattle.allocative_collectors.proofs.Common.{Less, Equal, Key, Path}
+use Rattle.allocative_collectors.proofs.Common.{key_cmp, is_same_path, Shape, at, children_at, key_at, keys_of}
+use Rattle.allocative_collectors.proofs.Common.{StandsIn, tied_itself, false_from_ne_true, cases_lt, map-append}
+pub use Rattle.std.specs.Cmp.Lexicographic.{nat_list_cmp_total as key_total}
+pub use Rattle.std.proofs.lemmas.Map.Lookups.{exact_bytes as key_same}
 use Rattle.allocative_graph.proofs.Basics.{same_path, same_path_itself}
 use Rattle.std.specs.List.{insert}
-use Rattle.std.proofs.lemmas.List.{map-append, take-map, drop-map}
+use Rattle.std.proofs.lemmas.List.{take-map, drop-map}
 use Rattle.std.proofs.lemmas.List.Edits.{length-insert, get_or-insert_below, get_or-insert_above}
-
--- The order of keys is total.
-pub key_total : IsTotalOrder key_cmp
-key_total = lists_total nat_cmp_total
-
--- If two keys tie, they are equal.
-pub key_same : (k l : Key) → key_cmp k l ≡ Equal → k ≡ l
-key_same = slice_cmp-IsAntisymmetric nat_cmp-IsAntisymmetric
 
 -- If two paths are equal, the test for the same path holds.
 pub same_path-same : (p q : Path) → p ≡ q → is_same_path p q ≡ true
@@ -34,12 +25,6 @@ key_not_before k l e less =
     let tied : key_cmp k k ≡ Equal = tied_itself key_total k in
     let before : key_cmp k k ≡ Less = subst (λ x. key_cmp k x ≡ Less) (sym e) less in
     cc
-
--- two comparisons, one after another, tie exactly if both do
-pub tied : (o r : Ordering) → (is_eq o && is_eq r) ≡ is_eq (ordering_then o r)
-tied Less r = refl
-tied Equal r = refl
-tied Greater r = refl
 
 -- two functions that agree at the numbers of a list
 pub map_same : {X : Type 0} (f g : ℕ → X) (xs : List ℕ) →

@@ -3,13 +3,11 @@ use Rattle.std.proofs.Common.{◌≡◌, ℕ, zero, suc, ◌+◌, ◌<◌, ◌||
 use Rattle.std.proofs.Common.{append_assoc, append-nil, sum_by, refl, sym, ap, ◌∙◌, arith, inl, inr}
 use Rattle.allocative_collectors.proofs.Common.{Key, Path, Sum, Listed, root_sum, put, path_at, Shape, at, sums}
 use Rattle.allocative_collectors.proofs.Common.{bytes_at, children_at, key_at, key_in, keys_at, parent_at, IsArena}
-use Rattle.allocative_collectors.proofs.Common.{IsChild, KeysRise}
-use Rattle.std.proofs.lemmas.List.{length-map, get_or_append_left, get_or-map, length_push, same_from_push}
-use Rattle.std.proofs.lemmas.List.Sums.{sum_by-cons}
-use Rattle.std.proofs.lemmas.Bool.{cases_order}
+use Rattle.allocative_collectors.proofs.Common.{IsChild, KeysRise, length-map, get_or_append_left, get_or-map}
+use Rattle.allocative_collectors.proofs.Common.{length_push, same_from_push, sum_by-cons, cases_order}
 use Rattle.allocative_collectors.specs.Listed.{total}
 use Rattle.allocative_collectors.proofs.Keys.{key_not_before}
-use Rattle.allocative_collectors.specs.Shapes.{grow, path_from, sum_from}
+use Rattle.allocative_collectors.specs.Nodes.{grow, path_from, sum_from}
 
 abbrev pub unique_at : List Shape → ℕ → Bool
 unique_at ns i = let n = at ns i in n.is_unique

@@ -1,12 +1,9 @@
 pub mod Common
 pub mod Keys
 pub mod Labels
-pub mod Grown
-pub mod Raised
-pub mod Child
-pub mod Searched
-pub mod Chunks
-pub mod NodeReads
 pub mod Made
 pub mod Collect
 pub mod Entries
+pub mod Grown
+pub mod Chunks
+pub mod NodeReads

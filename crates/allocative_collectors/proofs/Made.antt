@@ -7,36 +7,32 @@ use Rattle.std.proofs.Common.{zero-add}
 use Rattle.allocative_collectors.proofs.Common.{Ordering, Less, is_eq, is_lt, ordering_then, Key, Path, key_cmp}
 use Rattle.allocative_collectors.proofs.Common.{path_cmp, key_in, KeysRise, is_same_path, is_one_below, Sums, Graph}
 use Rattle.allocative_collectors.proofs.Common.{graph, sum_of, under, default, add_self, get, entries, shape, sums_of}
-use Rattle.allocative_collectors.proofs.Common.{IsTree, Listed, row, sum_at, path_at, map_of, below, bytes_entered, sums}
-use Rattle.allocative_collectors.proofs.Common.{children_at, keys_at, IsArena, Shape, size_at_place, ordering_reverse}
+use Rattle.allocative_collectors.proofs.Common.{IsTree, Listed, row, sum_at, path_at, map_of, below, bytes_entered}
+use Rattle.allocative_collectors.proofs.Common.{sums, children_at, keys_at, IsArena, Shape, size_at_place}
+use Rattle.allocative_collectors.proofs.Common.{ordering_reverse, tied_itself, cases_eq, cond-true, cond-false}
+use Rattle.allocative_collectors.proofs.Common.{false_from_ne_true, MakesPart, MakesGraph, rows_behind, is_short}
+use Rattle.allocative_collectors.proofs.Common.{tied_then, flat_map-append, sum_by-cons, ComesLast, numbers, Children}
 use Rattle.std.specs.FinMap.{FinMap, entries_sorted, find, get-entries, get-insert}
 use Rattle.std.specs.FinMap.Entries.{is_sorted, below_all, is_sorted-where_key, find-where_key, same_entries}
 use Rattle.std.specs.List.{filter}
-use Rattle.std.proofs.lemmas.Cmp.{tied_itself}
-use Rattle.std.proofs.lemmas.Bool.{and_parts, or_cases, or_left, or_right, cases_Bool, cases_eq, cond-true, cond-false}
-use Rattle.std.proofs.lemmas.Bool.{false_from_ne_true, cond_both}
+use Rattle.std.proofs.lemmas.Bool.{and_parts, or_cases, or_left, or_right, cases_Bool, cond_both}
+use Rattle.std.proofs.Math.Facts.{and_yes}
 use Rattle.std.proofs.Math.Bool.{and-true, and-or_distrib_left}
 use Rattle.allocative_graph.proofs.Basics.{path_total, path_antisymmetric, same_path, is_eq-Equal}
-use Rattle.allocative_collectors.specs.Finishing.{behind, MakesPart, MakesGraph, rows_behind, is_short}
-use Rattle.allocative_collectors.proofs.Keys.{key_total, key_same, tied, key_not_before}
-use Rattle.std.proofs.lemmas.Grind.{flat_map-append}
+use Rattle.allocative_collectors.specs.Warned.{behind}
+use Rattle.allocative_collectors.proofs.Keys.{key_total, key_same, key_not_before}
 use Rattle.std.proofs.lemmas.List.Filters.{sum_by-filter_both}
-use Rattle.std.proofs.lemmas.List.Sums.{sum_by-cons, sum_by-append, sum_by-le-sum_by}
+use Rattle.std.proofs.lemmas.List.Sums.{sum_by-append, sum_by-le-sum_by}
 use Rattle.allocative_graph.specs.Graph.{total, remaining, warned, size_at, Warned}
-use Rattle.allocative_graph.specs.Many.{ComesLast}
 use Rattle.allocative_graph.specs.Sums.{Node}
-use Rattle.allocative_graph.proofs.Listing.{entries-from_entries-sorted}
-use Rattle.allocative_graph.proofs.Merge.{get-sum_of}
+use Rattle.allocative_graph.proofs.Showings.{get-sum_of}
 use Rattle.allocative_graph.proofs.Graphs.{sizes_together, get-under, get-under-root, get-default, total-sum_of}
-use Rattle.allocative_graph.proofs.Graphs.{total-under, total-add_at}
+use Rattle.allocative_graph.proofs.Graphs.{total-under, total-add_at, total-default}
 use Rattle.std.specs.Option.{is_some}
-use Rattle.allocative_collectors.specs.Chunked.{numbers}
-use Rattle.allocative_collectors.specs.declared.children.Children.{Children}
 use Rattle.allocative_collectors.specs.declared.tree.Node as nodes
 use Rattle.allocative_collectors.proofs.Entries.{IsListing, graph_hit, graph_none, get_at, get_none, nothing_left}
 use Rattle.allocative_collectors.proofs.Labels.{length_sums, step}
-use Rattle.allocative_collectors.proofs.Child.{on_way}
-use Rattle.allocative_collectors.proofs.NodeReads.{length_nodes, in_shapes, child_seen, listing}
+use Rattle.allocative_collectors.proofs.NodeReads.{on_way, length_nodes, in_shapes, child_seen, listing}
 
 -- ---- keys
 abbrev same_key : Key → Key → Bool
@@ -96,7 +92,7 @@ behind_own [] ks [] = refl
 behind_own [] ks (l ∷ q) = refl
 behind_own (k ∷ p) ks [] = refl
 behind_own (k ∷ p) ks (l ∷ q) = ap (λ (b : Bool). same_key l k && b) (behind_own p ks q)
-    ∙ tied (key_cmp l k) (path_cmp q p)
+    ∙ tied_then (key_cmp l k) (path_cmp q p)
 
 -- one child more
 behind_more : (p : Path) (ks : List Key) (j : ℕ) (q : Path) →
@@ -125,11 +121,6 @@ module _ (ks : List Key) (rise : KeysRise ks) (j : ℕ) (hj : j < length ks) whe
       rw (same_key_is l k x.0, same_key_is m k y.0, tied_itself key_total k) (passed_before p a b x.1 y.1)
 
 -- ---- rows in the order of paths
--- If `a && b` holds, both a and b hold.
-both_parts : (a b : Bool) → T (a && b) → T a × T b
-both_parts true b h = (tt, h)
-both_parts false b h = absurd h
-
 -- If p comes before q, q does not come before p.
 not_before : (p q : Path) → path_cmp p q ≡ Less → T (is_lt (path_cmp q p)) → ⊥
 not_before p q less h = subst (λ (o : Ordering). T (is_lt o)) (path_total.antisymm q p ∙ ap ordering_reverse less) h
@@ -154,7 +145,7 @@ module _ {X : Type 0} where
       kept t es ≡ []
   none_kept t u p [] before h below = refl
   none_kept t u p (e ∷ es) before h below =
-      let parts = both_parts (is_lt (path_cmp p e.0)) _ below in
+      let parts = and_yes (is_lt (path_cmp p e.0)) _ below in
       rw (false_from_ne_true (t e.0) (λ hit. not_before e.0 p (before e.0 p hit h) parts.0))
       (none_kept t u p es before h parts.1)
 
@@ -165,7 +156,7 @@ module _ {X : Type 0} where
       → kept v es ≡ kept t es ++ kept u es
   kept_both t u v both before [] s = refl
   kept_both t u v both before (e ∷ es) s =
-      let parts = both_parts (below_all path_cmp e.0 es) _ s in
+      let parts = and_yes (below_all path_cmp e.0 es) _ s in
       let rest = kept_both t u v both before es parts.1 in
       elim (cases_Bool (t e.0)) [
         | inl hit ↦
@@ -205,10 +196,6 @@ module _ {X : Type 0} (m : FinMap path_cmp X) (p : Path) (ks : List Key) where
       ]))
 
 -- ---- sizes
--- The graph that has only the root has a total of 0.
-pub total-default : total default ≡ 0
-total-default = ap (sum_by (λ e. e.1)) (entries-from_entries-sorted (([], 0) ∷ []) tt)
-
 abbrev size_in : Listed → Path × Node → ℕ
 size_in s e = remaining (map_of s) e.0 e.1
 

@@ -1,13 +1,13 @@
 -- A flame graph's collector as its parts: a tree, the identities met, and the places of its visitors.
 use Rattle.std.specs.Prelude.{◌≡◌, ℕ, ◌+◌, ◌<◌, ◌^◌, Bool, cond, [], ◌∷◌, ◌++◌, List, map, reverse, length, slice_index}
-use Rattle.std.specs.Prelude.{◌≤◌, ◌⊎◌}
-use Rattle.std.specs.FinSet.{from_list}
+use Rattle.std.specs.Prelude.{◌≤◌, ◌⊎◌, true, false}
+use Rattle.std.specs.FinSet.{from_list, contains}
 use Rattle.allocative_graph.specs.declared.refusal.Refusal.{Refusal}
 use Rattle.allocative_graph.specs.declared.refusal.Refusal.TheVariants.{Memory, TooLarge}
 use Rattle.allocative_graph.specs.Identity.{Identity}
 use Rattle.allocative_graph.specs.Path.{Key, Path}
 use Rattle.allocative_graph.specs.Sums.{bytes_entered}
-use Rattle.allocative_graph.specs.Collector.{Live}
+use Rattle.allocative_graph.specs.Collector.{Live, enter_first, enter_again}
 use Rattle.allocative_collectors.specs.Listed.{Listed, path_at, total, map_of, IsEntered}
 
 -- The path that a root visitor goes back to, if one is open.
@@ -60,3 +60,10 @@ pub record AddedAt (old new : Listed) (at : ℕ) (k : Key) (n : ℕ) (u : Bool) 
 -- room, or e is Memory and it does not.
 abbrev pub TellsWhy : ℕ → ℕ → Refusal → Type 0
 TellsWhy room n e = ((e ≡ TooLarge) × (room < n)) ⊎ ((e ≡ Memory) × (n ≤ room))
+
+-- ---- whether an identity is met for the first time
+-- `is_first` says whether c has not met i. Then d is c with a pointer to i and a visitor at its content, otherwise
+-- with the pointer alone.
+abbrev pub MeetsAs : Key → ℕ → Identity → Live → Bool → Live → Type 0
+MeetsAs k n i c true d = (contains c.met i ≡ false) × (d ≡ enter_first k n i c)
+MeetsAs k n i c false d = (contains c.met i ≡ true) × (d ≡ enter_again k n i c)

@@ -1,14 +1,14 @@
 //! The numbers of a node's children, in an order that the caller keeps.
 ghost use Rattle.std.specs.Prelude.{◌≡◌, ◌-◌, ◌<◌, ◌≤◌, [], ◌∷◌, ◌++◌, length, IfOk, IfSome, OnOk, OnErr, IsTrue, slice_index_or, slice_get, Some};
 ghost use Rattle.std.specs.List.{insert};
-ghost use Rattle.allocative_collectors.specs.Chunked.{numbers, numbers_in, flat, IsOneList, IsPlace, IsPlaceIn, place_in, flat_place};
+ghost use Rattle.allocative_collectors.specs.Nodes.{numbers, numbers_in, flat, IsOneList, IsPlace, IsPlaceIn, place_in, flat_place};
 
 use std::alloc::{AllocError, Global};
 
-/// How many numbers are one list at most.
+/// The longest list that is not split.
 pub(crate) const LONGEST_LIST: usize = 512;
 
-/// How many numbers are one chunk at most. The chunk that a list becomes has more until a number is put in it.
+/// The longest chunk that is not split. The chunk that a list becomes is longer until a number is put in it.
 const LONGEST_CHUNK: usize = 256;
 
 /// Numbers in an order that the caller keeps.
@@ -31,7 +31,7 @@ pub(crate) enum Children {
 pub(crate) struct Chunk {
     pub(crate) first: u32,
     pub(crate) rest: Vec<u32>,
-    /// The start of the first number's key. It is a guess, as those of the others are.
+    /// The start of the first number's key. A guess, as are those of the others; callers check them.
     pub(crate) start: u64,
     /// The starts of the others' keys, from the first one on, as far as they are known.
     pub(crate) starts: Vec<u64>,
@@ -65,19 +65,19 @@ impl Children {
         }
     }
 
-    /// All numbers. Those in chunks are copied into `room`, which is empty. The only error is that memory runs out.
-    pub(crate) fn list<'a>(&'a self, room: &'a mut Vec<u32>) -> Result<&'a [u32], AllocError>
-        requires { room.old.items ≡ [] }
+    /// All numbers. Those in chunks are copied into `copies`, which is empty. The only error is that memory runs out.
+    pub(crate) fn list<'a>(&'a self, copies: &'a mut Vec<u32>) -> Result<&'a [u32], AllocError>
+        requires { copies.old.items ≡ [] }
         ensures { IfOk result (λ list. list.now ≡ numbers self.now) }
     {
         let Children::Many(chunks) = self else {
             return Ok(self.as_list());
         };
         for chunk in chunks.as_slice() {
-            room.push(chunk.first)?;
-            room.extend_from_slice(chunk.rest.as_slice())?;
+            copies.push(chunk.first)?;
+            copies.extend_from_slice(chunk.rest.as_slice())?;
         }
-        Ok(room.as_slice())
+        Ok(copies.as_slice())
     }
 
     /// Puts a number at a place, with its key. The only error is that memory runs out, and then the numbers are as they

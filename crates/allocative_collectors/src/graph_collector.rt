@@ -4,7 +4,7 @@ ghost use Rattle.allocative_graph.specs.Sums.{bytes_entered};
 ghost use Rattle.allocative_graph.specs.Collector.{OfGraph, no_entries, enter_live, leave_live, go, IsClosed, IsAtRoot};
 ghost use Rattle.allocative_graph.specs.Graph.{total as graph_total};
 ghost use Rattle.allocative_graph.specs.Visits.{Refuses, IsProfile};
-ghost use Rattle.allocative_collectors.specs.Meets.{MeetsAs};
+ghost use Rattle.allocative_collectors.specs.Places.{MeetsAs};
 
 use crate::output::FlameGraphOutput;
 use crate::tree::Tree;

@@ -7,11 +7,8 @@ ghost use Rattle.allocative_graph.specs.Path.{key_cmp, texts};
 ghost use Rattle.allocative_graph.specs.Visits.{IsProfile};
 ghost use Rattle.allocative_collectors.specs.Listed.{root_sum, put, total, path_at, map_of, IsEntered, IsAbove};
 ghost use Rattle.allocative_collectors.specs.Places.{AddedAt, TellsWhy};
-ghost use Rattle.allocative_collectors.specs.Finishing.{size_at_place, is_short, MakesGraph, MakesGraphAlone};
-ghost use Rattle.allocative_collectors.specs.Shapes.{leaf, bytes_at, keys_of, key_at, KeysRise, HasKey, IsKeyGap};
-ghost use Rattle.allocative_collectors.specs.Chunked.{numbers, numbers_in, flat, IsPlace, IsPlaceIn, place_in, flat_place};
-ghost use Rattle.allocative_collectors.specs.Nodes.{shape, IsTree};
-ghost use Rattle.allocative_collectors.specs.Warned.{warning_of};
+ghost use Rattle.allocative_collectors.specs.Warned.{size_at_place, is_short, MakesGraph, MakesGraphAlone, warning_of};
+ghost use Rattle.allocative_collectors.specs.Nodes.{leaf, bytes_at, keys_of, key_at, KeysRise, HasKey, IsKeyGap, numbers, numbers_in, flat, IsPlace, IsPlaceIn, place_in, flat_place, shape, IsTree};
 
 use crate::children::{Children, Chunk, LONGEST_LIST, Place, last_in, one_chunk, start_of};
 use crate::output::{FlameGraphOutput, WarnedPath};
@@ -26,12 +23,12 @@ use std::marker::Model;
 #[derive(Drop)]
 struct Node {
     key: Key,
-    /// The number of the node one key above. That of the root is no number of a node, so it is nobody's child.
+    /// The number of the node one key above, or `usize::MAX` for the root.
     parent: usize,
     bytes: usize,
     /// The child that was entered last.
     last: u32,
-    /// The child that is expected next. It is a guess, and is tested before it is used.
+    /// The child that is expected next. A guess; callers check it.
     next: u32,
     /// The child of the same parent that was entered after this one.
     follower: u32,
@@ -192,8 +189,8 @@ impl Tree {
             (map warning_of warned.old.items) (map warning_of warned.new.items) graph.new) }
         ensures err { IfErr result (λ e. e ≡ Refusal.Memory) }
     {
-        let mut room = Vec::new(self.alloc);
-        let children = self.children[at].list(&mut room)?;
+        let mut copies = Vec::new(self.alloc);
+        let children = self.children[at].list(&mut copies)?;
         let size_below = bytes_of(&self.nodes, children);
         *graph = FlameGraph::with_capacity(self.alloc, children.len())?;
         graph.add_self(self.size(at, size_below))?;
@@ -449,7 +446,7 @@ fn find_in_chunks(nodes: &[Node], chunks: &[Chunk], key: &Key) -> Result<u32, Pl
     }
 }
 
-/// The place where the starts of the keys say that a key is or belongs. Nothing rests on it.
+/// The place where the starts of the keys say that a key is or belongs. A guess; callers check it.
 fn guess_place(nodes: &[Node], chunks: &[Chunk], key: &Key) -> Place {
     let start = start_of(key.as_str());
     let after = chunks.partition_point(|chunk: &Chunk| -> bool {
@@ -468,7 +465,7 @@ fn guess_place(nodes: &[Node], chunks: &[Chunk], key: &Key) -> Place {
     }
 }
 
-/// The index of that place in its chunk, whose first key comes before. Nothing rests on it.
+/// The index of that place in its chunk, whose first key comes before. A guess; callers check it.
 fn guess_index(nodes: &[Node], chunk: &Chunk, key: &Key, start: u64) -> usize {
     let mut low = 0;
     let mut high = chunk.rest.len();
@@ -487,7 +484,7 @@ fn guess_index(nodes: &[Node], chunk: &Chunk, key: &Key, start: u64) -> usize {
     low + 1
 }
 
-/// What a search finds if it ends at this place. None says nothing.
+/// What a search finds if it ends at this place. None if it may end elsewhere.
 fn find_at(nodes: &[Node], chunks: &[Chunk], key: &Key, place: Place) -> Option<Result<u32, Place>>
     requires rise { KeysRise (keys_of (map shape nodes.now) (flat chunks.now)) }
     ensures found { IfSome result (λ end. IfOk end

@@ -39,6 +39,7 @@ pub trait Described {
 
 /// A law: rounding a number up to an alignment gives the least multiple of the alignment that is not
 /// below the number.
+#[tactic(auto, using(crate::proofs::Sizes::least_multiple))]
 pub fn up_law()
     ensures { UpLaw }
 {}

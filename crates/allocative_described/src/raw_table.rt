@@ -1,9 +1,7 @@
 //! The size of a hash map's table.
 
 ghost use Rattle.std.specs.Prelude.{◌≡◌, ℕ, ◌≤◌};
-ghost use Rattle.allocative_described.specs.Sizes.{checked};
-ghost use Rattle.allocative_described.specs.RawTable.{IsRawTableSize, RawTableLaw};
-ghost use Rattle.allocative_described.specs.RawTable.{IsBucketCount, IsLeastPowerOfTwo};
+ghost use Rattle.allocative_described.specs.Sizes.{checked, IsRawTableSize, RawTableLaw, IsBucketCount, IsLeastPowerOfTwo};
 
 use crate::described::{Described, size_product, size_sum};
 

@@ -1,18 +1,21 @@
--- Small facts about tests, lists, paths and identities.
+-- Small facts about tests, lists, orders and identities, and the entries of a map.
 use Rattle.std.proofs.Common.{◌≡◌, Bool, true, false, ◌||◌, IsTrue, inl, inr, List, [], ◌∷◌, ◌++◌, map, refl, ◌∙◌}
-use Rattle.std.proofs.Common.{Ordering, Equal}
+use Rattle.std.proofs.Common.{Ordering, Equal, ◌↔◌, ap, sym, subst, true≢false, append-nil, Less, Greater, T}
 use Rattle.allocative_graph.proofs.Common.{list_any, AllByRecursion, is_eq, nat_list_cmp_total, IsAntisymmetric}
 use Rattle.allocative_graph.proofs.Common.{nat_cmp-IsAntisymmetric, slice_cmp-IsAntisymmetric, Path, path_cmp}
 use Rattle.allocative_graph.proofs.Common.{is_same_path, Identity, identity_cmp, is_same_identity, list_any-append}
-use Rattle.std.specs.Cmp.{IsTotalOrder, Equal-is}
+use Rattle.allocative_graph.proofs.Common.{is_lt, ordering_then, slice_cmp, Key, key_cmp, get, entries, from_entries}
+use Rattle.allocative_graph.proofs.Common.{get-from_sorted, get-from_entries, entries-from_sorted, same_map, find}
+use Rattle.allocative_graph.proofs.Common.{is_sorted, IsTotalOrder, Equal-is, tied_itself, nat_cmp, eq_by_cmp_equiv}
 use Rattle.std.proofs.lemmas.List.Elements.{All-append, All-from_recursion, All-weaker, recursion_from_All}
 use Rattle.std.proofs.lemmas.Map.Lookups.{exact_pairs}
-use Rattle.std.specs.Ordering.{nat_cmp}
 use Rattle.std.specs.Cmp.Lexicographic.{lists_total}
-use Rattle.std.proofs.lemmas.Cmp.{nat_cmp_total, on_total, then_total, eq_by_cmp_equiv}
+use Rattle.std.proofs.lemmas.Cmp.{nat_cmp_total, on_total, then_total}
 pub use mathlib.Core.Bool.{or_comm, or-false, and_assoc, and-true}
 pub use Rattle.std.specs.Cmp.{both_ways}
 pub use Rattle.std.proofs.lemmas.Bool.{and_parts, or_cases, or_left, or_right, or_parts, false_from_ne_true}
+use Rattle.allocative_graph.specs.Path.{ComesBefore, longer, parts}
+use Rattle.std.specs.FinMap.{FinMap, from_sorted}
 
 -- ---- tests
 -- What holds of both answers of a test holds of the test.
@@ -100,3 +103,49 @@ same_identity_itself i = (eq_by_cmp_equiv identity_total).refl i
 -- The test `is_same_identity` does not depend on which of the two identities is first.
 pub same_identity_turned : (i j : Identity) → is_same_identity i j ≡ is_same_identity j i
 same_identity_turned i j = (eq_by_cmp_equiv identity_total).symm i j
+
+-- ---- a prefix comes first; otherwise the first items that differ decide
+module _ {X : Type 0} (R : X → X → Ordering) (same : IsAntisymmetric R) (itself : (x : X) → R x x ≡ Equal) where
+  before-cons : (x : X) (p q : List X) → ComesBefore R p q → ComesBefore R (x ∷ p) (x ∷ q)
+  before-cons x p q (longer k r e) = longer k r (λ i. x ∷ e i)
+  before-cons x p q (parts c k l r s d e h) = parts (x ∷ c) k l r s (λ i. x ∷ d i) (λ i. x ∷ e i) h
+
+  to_before : (p q : List X) → slice_cmp R p q ≡ Less → ComesBefore R p q
+  to_before [] [] h = absurd (true≢false (sym (ap is_lt h)))
+  to_before [] (y ∷ q) h = longer y q refl
+  to_before (x ∷ p) [] h = absurd (true≢false (sym (ap is_lt h)))
+  to_before (x ∷ p) (y ∷ q) h = by (R x y) refl h (to_before p q)
+    where
+      by : (o : Ordering) → R x y ≡ o → ordering_then o (slice_cmp R p q) ≡ Less →
+          (slice_cmp R p q ≡ Less → ComesBefore R p q) → ComesBefore R (x ∷ p) (y ∷ q)
+      by Less e g rest = parts [] x y p q refl refl e
+      by Equal e g rest = subst (λ z. ComesBefore R (x ∷ p) (z ∷ q)) (same x y e) (before-cons x p q (rest g))
+      by Greater e g rest = absurd (true≢false (sym (ap is_lt g)))
+
+  after_common : (c p q : List X) → slice_cmp R (c ++ p) (c ++ q) ≡ slice_cmp R p q
+  after_common [] p q = refl
+  after_common (x ∷ c) p q = ap (λ o. ordering_then o (slice_cmp R (c ++ p) (c ++ q))) (itself x) ∙ after_common c p q
+
+  from_before : (p q : List X) → ComesBefore R p q → slice_cmp R p q ≡ Less
+  from_before p q (longer k r e) = (λ i. slice_cmp R (sym (append-nil p) i) (e i)) ∙ after_common p [] (k ∷ r)
+  from_before p q (parts c k l r s d e h) =
+      (λ i. slice_cmp R (d i) (e i)) ∙ after_common c (k ∷ r) (l ∷ s) ∙ ap (λ o. ordering_then o (slice_cmp R r s)) h
+
+  pub order : (p q : List X) → (slice_cmp R p q ≡ Less) ↔ ComesBefore R p q
+  order p q = (to_before p q, from_before p q)
+
+-- A key compared with itself is equal.
+pub key_itself : (k : Key) → key_cmp k k ≡ Equal
+key_itself = tied_itself nat_list_cmp_total
+
+-- ---- the entries of a map made from a sorted list
+-- If a map has at each path what a sorted list has there, its entries are that list.
+pub entries_are : {X : Type 0} (m : FinMap path_cmp X) (es : List (Path × X)) → T (is_sorted path_cmp es) →
+    ((q : Path) → get m q ≡ find path_cmp q es) → entries m ≡ es
+entries_are m es h same = ap entries (same_map path_total path_antisymmetric m (from_sorted es)
+    (λ q. same q ∙ sym (get-from_sorted path_cmp es q h))) ∙ entries-from_sorted path_cmp es h
+
+-- The entries of a map made from a sorted list are that list.
+pub entries-from_entries-sorted : {X : Type 0} (es : List (Path × X)) → T (is_sorted path_cmp es) →
+    entries (from_entries {R = path_cmp} es) ≡ es
+entries-from_entries-sorted es h = entries_are (from_entries es) es h (get-from_entries path_total es)

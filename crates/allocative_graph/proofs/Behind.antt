@@ -1,22 +1,18 @@
--- What a graph has at a path and below it, by the children of its root.
+-- What a graph has at a path and below it, by the children of its root, and the rows of a node.
 use Rattle.std.proofs.Common.{sum_by, ◌&&◌, ◌≡◌, ℕ, zero, suc, ◌+◌, ◌<◌, true, false, cond, List, [], ◌∷◌, ◌++◌, Option}
-use Rattle.std.proofs.Common.{Some, None, IfNone, length, get_or, refl, sym, ap, subst, subst₂, ◌∙◌, arith}
-use Rattle.std.proofs.Common.{add-zero, zero-add}
-use Rattle.std.proofs.Common.{⊎_elim, Ordering}
-use Rattle.allocative_graph.proofs.Common.{is_some, unwrap_or, eq_by_cmp, is_eq, Less}
-use Rattle.allocative_graph.proofs.Common.{nat_list_cmp_total, get, entries, len, len-entries, len-child, Child, Key}
-use Rattle.allocative_graph.proofs.Common.{Path, key_cmp, Graph, IsTree, IsBehind, HasNothing, begins, total_at, node}
-use Rattle.allocative_graph.proofs.Common.{IsNode, rows_of, rows_of_child, entries-node, size_under, InOrder, IsFound}
-use Rattle.allocative_graph.proofs.Common.{IsChildGap, AllAbove, sum_by-cons}
-use Rattle.allocative_graph.proofs.Common.{tied_itself}
-use Rattle.std.proofs.lemmas.List.Folds.{fold_stays, length-flat_map-take}
+use Rattle.std.proofs.Common.{Some, None, IfNone, length, get_or, refl, sym, ap, subst, subst₂, ◌∙◌, arith, add-zero}
+use Rattle.std.proofs.Common.{zero-add, ⊎_elim, Ordering, map, take, append_assoc, append-nil}
+use Rattle.allocative_graph.proofs.Common.{is_some, unwrap_or, eq_by_cmp, is_eq, Less, nat_list_cmp_total, get, entries}
+use Rattle.allocative_graph.proofs.Common.{len, len-entries, len-child, Child, Key, Path, key_cmp, Graph, IsTree}
+use Rattle.allocative_graph.proofs.Common.{IsBehind, HasNothing, begins, total_at, node, IsNode, rows_of, rows_of_child}
+use Rattle.allocative_graph.proofs.Common.{entries-node, size_under, InOrder, IsFound, IsChildGap, AllAbove}
+use Rattle.allocative_graph.proofs.Common.{sum_by-cons, tied_itself, total, Figures, figures_behind, under_rows}
+use Rattle.allocative_graph.proofs.Common.{map-append, eq_by_cmp_equiv}
 use Rattle.std.specs.List.Sorted.{IsStrictlySortedBy}
+use Rattle.std.proofs.lemmas.List.Folds.{fold_stays, length-flat_map-take}
 use Rattle.std.proofs.lemmas.Bool.{cases_lt}
-use Rattle.std.proofs.lemmas.Cmp.{eq_by_cmp_equiv}
-use Rattle.allocative_graph.proofs.ChildOrder.{rises}
-use Rattle.allocative_graph.proofs.ChildRows.{rows-cons}
-use Rattle.allocative_graph.proofs.ChildSizes.{Lacks, lacks-above, size_under-lacks}
-use Rattle.allocative_graph.proofs.ChildLookup.{get-under}
+use Rattle.allocative_graph.proofs.Children.{rises, rows-cons, Lacks, lacks-above, size_under-lacks, get-under}
+use Rattle.allocative_graph.proofs.Children.{rows-more}
 
 -- Keys that compare as other than equal differ, whichever comes first.
 other_than : {o : Ordering} (l k : Key) → key_cmp l k ≡ o → eq_by_cmp key_cmp k l ≡ is_eq o
@@ -139,3 +135,45 @@ none_implies P Q f (Some x) h = h
 pub smaller_child : (n : ℕ) (cs : List Child) (i : ℕ) (d : Child) → InOrder cs → i < length cs →
     len (get_or cs i d).graph < len (node n cs)
 smaller_child n cs i d o h = omega (arith, ap length (entries-node n cs o), len-entries (node n cs), length-flat_map-take rows_of_child cs i d h, len-child (get_or cs i d))
+
+-- ---- the rows of a node: its own, and then those of its children, one child after another
+-- The figures of some paths with their sizes, with some keys before them. The bytes of each path and of all below it
+-- are those that t has.
+abbrev pub figured : (Path → ℕ) → Path → List (Path × ℕ) → List Figures
+figured t ks rs = map (λ e. record { path = ks ++ e.0; self_size = e.1; total_size = t e.0 }) rs
+
+-- Putting a key before the paths is the same as adding it at the end of the keys before them.
+figured-under : (t u : Path → ℕ) (ks : Path) (k : Key) (rs : List (Path × ℕ)) → ((q : Path) → t (k ∷ q) ≡ u q) →
+    figured u (ks ++ k ∷ []) rs ≡ figured t ks (under_rows k rs)
+figured-under t u ks k [] h = refl
+figured-under t u ks k (r ∷ rs) h = rw (append_assoc ks (k ∷ []) r.0, ← h r.0, figured-under t u ks k rs h)
+
+-- The rows of one child more.
+pub child_read : (n : ℕ) (cs : List Child) (i : ℕ) (d : Child) (ks : Path) → InOrder cs → i < length cs
+    → figured (total_at (node n cs)) ks (rows_of (take i cs))
+    ++ figures_behind (ks ++ (get_or cs i d).key ∷ []) (get_or cs i d).graph
+    ≡ figured (total_at (node n cs)) ks (rows_of (take (i + 1) cs))
+child_read n cs i d ks o w =
+    let c : Child = get_or cs i d in
+    rw (rows-more cs i d w, map-append {B = Figures} (λ (e : Path × ℕ). record { path = ks ++ e.0; self_size = e.1; total_size = total_at (node n cs) e.0 }) (rows_of (take i cs)) (rows_of_child c))
+    (ap (λ fs. figured (total_at (node n cs)) ks (rows_of (take i cs)) ++ fs)
+    (figured-under _ _ ks c.key (entries c.graph) (λ q. total_at-child n cs i d q o w)))
+
+-- The figures after one child more was read. The graph of the node is g.
+pub rows_pushed : {n s : ℕ} {cs ds : List Child} {g : Graph} {i : ℕ} {d : Child} {qs : Path} {was now : List Figures}
+    (ks : Path) (start : List Figures) → node n cs ≡ g → IsNode cs s n → ds ≡ cs → i < length ds → d ≡ get_or ds i d
+    → was ≡ start ++ figured (total_at g) ks (rows_of (take i ds)) → qs ≡ ks ++ d.key ∷ [] →
+    now ≡ was ++ figures_behind qs d.graph → now ≡ start ++ figured (total_at g) ks (rows_of (take (i + 1) ds))
+rows_pushed {n = n} {ds = ds} {g = g} {i = i} {d = d} ks start view h same w at was_is behind now_is =
+    let read = child_read n ds i d ks (subst InOrder (sym same) h.children.sorted) w in
+    rw (now_is, was_is, behind, at) (append_assoc start _ _ ∙ ap (λ (fs : List Figures). start ++ fs)
+    (rw (ap (node n) same ∙ view) at read))
+
+-- The rows of a node are its own and then those of its children.
+pub node_read : (n : ℕ) (cs : List Child) (ks : Path) → InOrder cs
+    → (record { path = ks; self_size = n; total_size = total (node n cs) } ∷ [])
+    ++ figured (total_at (node n cs)) ks (rows_of cs) ≡ figures_behind ks (node n cs)
+node_read n cs ks o =
+    ap (λ (p : Path). record { path = p; self_size = n; total_size = total (node n cs) } ∷ figured
+    (total_at (node n cs)) ks (rows_of cs)) (sym (append-nil ks))
+    ∙ ap (figured (total_at (node n cs)) ks) (sym (entries-node n cs o))

@@ -7,9 +7,9 @@ pub use Rattle.std.proofs.lemmas.List.Elements.{All-from_recursion}
 pub use Rattle.std.proofs.lemmas.List.Folds.{fold-map, list_any-append}
 pub use Rattle.std.proofs.lemmas.List.Sorted.{IsPermutation-refl, IsPermutation-sym, list_any-IsPermutation}
 pub use Rattle.std.proofs.lemmas.List.Sorted.{sum_by-IsPermutation}
-pub use Rattle.std.proofs.lemmas.List.Sums.{sum_by-cons}
+pub use Rattle.std.proofs.lemmas.List.Sums.{sum_by-cons, fold-append, sum_by-append, sum_by_push}
 pub use lib.Chars.{codes}
-pub use Rattle.std.specs.Cmp.{tied_itself}
+pub use Rattle.std.specs.Cmp.{tied_itself, Equal-is, IsTotalOrder, tied_then}
 pub use Rattle.std.specs.Cmp.Lexicographic.{nat_list_cmp_total, slice_cmp}
 pub use Rattle.std.specs.FinMap.{IsAntisymmetric, contains_key, empty, entries, entries-from_sorted, entries-insert}
 pub use Rattle.std.specs.FinMap.{entries_sorted, from_entries, get, get-entries, get-from_entries, get-from_sorted}
@@ -17,10 +17,10 @@ pub use Rattle.std.specs.FinMap.{get-insert, insert, keys, len, len-entries, nat
 pub use Rattle.std.specs.FinMap.{same_map, slice_cmp-IsAntisymmetric}
 pub use Rattle.std.specs.FinMap.Entries.{below_all, find, is_sorted, put}
 pub use Rattle.std.specs.FinSet.{contains, contains-empty, contains-insert}
-pub use Rattle.std.specs.List.{AllByRecursion, list_any, slice_split}
+pub use Rattle.std.specs.List.{AllByRecursion, list_any, slice_split, All}
 pub use Rattle.std.specs.List.Sorted.{IsPermutation}
 pub use Rattle.std.specs.Option.{is_some, option_map, unwrap_or}
-pub use Rattle.std.specs.Ordering.{eq_by_cmp, is_eq, is_lt, ordering_reverse, ordering_then}
+pub use Rattle.std.specs.Ordering.{eq_by_cmp, is_eq, is_lt, ordering_reverse, ordering_then, nat_cmp}
 pub use Rattle.std.specs.Prelude.{⊤}
 pub use Rattle.std.specs.Str.Lines.{lines, lines_of_parts}
 pub use Rattle.std.specs.Vec.{vec_capacity}
@@ -28,28 +28,25 @@ pub use Rattle.std.specs.declared.cmp.Ordering.TheVariants.{Equal, Greater, Less
 pub use Rattle.allocative_graph.specs.Collector.{entries_at}
 pub use Rattle.allocative_graph.specs.Forest.{Again, AsInline, AsShared, AsUnique, Bag, Empty, Entry, First, Fits}
 pub use Rattle.allocative_graph.specs.Forest.{Forest, Inline, Unique, all, content_entries, contents, followed_by}
-pub use Rattle.allocative_graph.specs.Forest.{insert_all, met_after, own, own_behind, content_identities}
+pub use Rattle.allocative_graph.specs.Forest.{insert_all, met_after, own, own_behind, content_identities, Mark}
 pub use Rattle.allocative_graph.specs.Graph.{CanBeAdded, Graph, HasNothing, HasPlainKeys, HasWords, IsBehind, IsTree}
 pub use Rattle.allocative_graph.specs.Graph.{Lacks, add_self, begins, default, graph, is_root, joined, remaining}
 pub use Rattle.allocative_graph.specs.Graph.{size_at, sizes, sum_of, text, text_of_entries, total, total_at, under}
 pub use Rattle.allocative_graph.specs.Graph.{warnings}
 pub use Rattle.allocative_graph.specs.Identity.{Identities, Identity, identity_cmp, is_same_identity}
-pub use Rattle.allocative_graph.specs.Many.{sum_of_all, total_of}
+pub use Rattle.allocative_graph.specs.Rows.{sum_of_all, total_of, AreChildren, Figures, figures_behind, keys_of, node}
+pub use Rattle.allocative_graph.specs.Rows.{rows_of, rows_of_child, under_rows, row_figures}
 pub use Rattle.allocative_graph.specs.Meaning.{IsMeaning, IsWhole, Reached, content_of, has_mark, inside, is_among}
 pub use Rattle.allocative_graph.specs.Meaning.{is_mark_of, marked}
 pub use Rattle.allocative_graph.specs.Path.{Key, Path, is_one_below, is_same_path, key_cmp, path_cmp}
-pub use Rattle.allocative_graph.specs.Read.{AreStacks, IsCut, IsFault, IsNumber, IsRead, IsStack, IsWrong, SaysStacks, Stack}
-pub use Rattle.allocative_graph.specs.Read.{all_bytes, bytes_at, is_path_of, number_of, line_stack}
-pub use Rattle.allocative_graph.specs.Rows.{AreChildren, Figures, figures_behind, keys_of, node, rows_of}
-pub use Rattle.allocative_graph.specs.Rows.{rows_of_child, under_rows}
-pub use Rattle.allocative_graph.specs.Representation.Children.{AddsUp, AddsUpInPart, AllAbove, InOrder}
-pub use Rattle.allocative_graph.specs.Representation.Children.{IsChildGap, IsFound, size_under, Added, Merged}
-pub use Rattle.allocative_graph.specs.Representation.Children.{child_of_path}
-pub use Rattle.allocative_graph.specs.Representation.Node.{IsNode}
+pub use Rattle.allocative_graph.specs.Read.{AreStacks, IsCut, IsFault, IsNumber, IsRead, IsStack, IsWrong, SaysStacks}
+pub use Rattle.allocative_graph.specs.Read.{Stack, all_bytes, bytes_at, is_path_of, number_of, line_stack}
+pub use Rattle.allocative_graph.specs.Representation.Children.{AddsUp, AddsUpInPart, AllAbove, InOrder, IsChildGap}
+pub use Rattle.allocative_graph.specs.Representation.Children.{IsFound, size_under, Added, Merged, child_of_path}
+pub use Rattle.allocative_graph.specs.Representation.Children.{IsNode, IsSumByPath, joined_on, line_from, lines_from}
+pub use Rattle.allocative_graph.specs.Representation.Children.{graph_of_path, one_stack, sum_of_stacks, MergesFirst}
 pub use Rattle.allocative_graph.specs.Representation.NodeRows.{both, entries-node, first, len-child, node_sorted}
 pub use Rattle.allocative_graph.specs.Representation.NodeRows.{second}
-pub use Rattle.allocative_graph.specs.Representation.PathRows.{IsSumByPath, joined_on, line_from, lines_from}
-pub use Rattle.allocative_graph.specs.Representation.PathRows.{graph_of_path, one_stack, sum_of_stacks}
 pub use Rattle.allocative_graph.specs.Sums.{Node, Sums, add, add_all, below, bytes_in, is_entered_in, is_unique_in}
 pub use Rattle.allocative_graph.specs.Sums.{node_of, sums_of, together}
 pub use Rattle.allocative_graph.specs.declared.flamegraph.Child.{Child}
@@ -57,3 +54,6 @@ pub use Rattle.allocative_graph.specs.declared.read.Line.{Line}
 pub use Rattle.allocative_graph.specs.declared.read.LineFault.{LineFault}
 pub use Rattle.allocative_graph.specs.declared.read.LineFault.TheVariants.{NoSpace}
 pub use Rattle.allocative_graph.specs.declared.read.TheConstants.{LEVELS}
+pub use Rattle.std.proofs.lemmas.Cmp.{eq_by_cmp_equiv}
+pub use Rattle.std.proofs.lemmas.List.Filters.{sum_by-filter_both}
+pub use Rattle.std.proofs.lemmas.Map.Lookups.{exact_bytes}

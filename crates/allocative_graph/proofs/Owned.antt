@@ -5,18 +5,15 @@ use Rattle.allocative_graph.proofs.Common.{sum_by-cons, map-append, AsInline, As
 use Rattle.allocative_graph.proofs.Common.{contains_key, Key, Path, is_same_path, is_one_below, Forest, Empty, Inline}
 use Rattle.allocative_graph.proofs.Common.{Unique, First, Again, own, own_behind, followed_by, bytes_in, is_entered_in}
 use Rattle.allocative_graph.proofs.Common.{is_unique_in, sums_of, below, Node, remaining, option_map, Graph, graph}
-use Rattle.allocative_graph.proofs.Common.{default, size_at, total, Entry}
-use Rattle.std.proofs.lemmas.List.Sums.{sum_by-append}
-use Rattle.allocative_graph.specs.Forest.{Mark}
+use Rattle.allocative_graph.proofs.Common.{default, size_at, total, Entry, sum_by-append, Mark}
 use Rattle.allocative_graph.specs.Owned.{direct, owned, Owner, owners_behind, owns_all, EachAt, AreAlike, Reordered}
 use Rattle.allocative_graph.specs.Owned.{exchanged, within, beside, in_turn}
 use Rattle.allocative_graph.proofs.Basics.{path_total, same_path, same_path_itself}
-use Rattle.allocative_graph.proofs.Closed.{one_below_child, one_below_self}
-use Rattle.allocative_graph.proofs.Below.{below_in, below-sums_of}
-use Rattle.allocative_graph.proofs.Lookups.{get-sums_of, bytes_none}
-use Rattle.allocative_graph.proofs.Merge.{get-graph, get-graph-root}
+use Rattle.allocative_graph.proofs.Sums.{one_below_child, one_below_self, below_in, below-sums_of, get-sums_of}
+use Rattle.allocative_graph.proofs.Sums.{bytes_none}
+use Rattle.allocative_graph.proofs.Showings.{get-graph, get-graph-root}
 use Rattle.allocative_graph.proofs.Graphs.{add_at, total-add_at, same_graph, in_graph, get-default, size_at-default}
-use Rattle.allocative_graph.proofs.Gathered.{total-default}
+use Rattle.allocative_graph.proofs.Graphs.{total-default}
 
 -- ---- one after another
 -- The direct bytes of two forests one after another add up.

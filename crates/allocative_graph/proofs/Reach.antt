@@ -3,16 +3,15 @@ use Rattle.std.proofs.Common.{◌≡◌, false, ◌||◌, IsTrue, List, [], ◌�
 use Rattle.std.proofs.Common.{true≢false, IsPermutation, unwrap_or, Bool, arith}
 use Rattle.allocative_graph.proofs.Common.{⊤, AllByRecursion, contains, contains-insert, contains-empty, Path}
 use Rattle.allocative_graph.proofs.Common.{Identities, Identity, identity_cmp, is_same_identity, Forest, Empty, Inline}
-use Rattle.allocative_graph.proofs.Common.{Unique, First, Again, Bag, Entry, own, own_behind, contents, all, content_identities}
-use Rattle.allocative_graph.proofs.Common.{insert_all, met_after, Fits, is_mark_of, has_mark, is_among, Reached, marked}
-use Rattle.allocative_graph.proofs.Common.{inside, IsMeaning, content_of, IsWhole, IsPermutation-refl, list_any}
-use Rattle.allocative_graph.proofs.Common.{list_any-append, map-append}
-use Rattle.std.specs.List.{Contains, IsDistinct}
+use Rattle.allocative_graph.proofs.Common.{Unique, First, Again, Bag, Entry, own, own_behind, contents, all}
+use Rattle.allocative_graph.proofs.Common.{content_identities, insert_all, met_after, Fits, is_mark_of, has_mark}
+use Rattle.allocative_graph.proofs.Common.{is_among, Reached, marked, inside, IsMeaning, content_of, IsWhole}
+use Rattle.allocative_graph.proofs.Common.{IsPermutation-refl, list_any, list_any-append, map-append, eq_by_cmp_equiv}
+use Rattle.allocative_graph.proofs.Common.{fold-append}
+use Rattle.std.specs.List.{IsDistinct, Contains}
 use Rattle.std.specs.Map.{lookup}
 use Rattle.std.specs.FinSet.{insert, empty}
-use Rattle.std.proofs.lemmas.Cmp.{eq_by_cmp_equiv}
 use Rattle.std.proofs.lemmas.List.Elements.{All-contains_itself, All-weaker, recursion_from_All}
-use Rattle.std.proofs.lemmas.List.Sums.{fold-append}
 use Rattle.std.proofs.lemmas.Map.Views.{lookup-from_Contains}
 use Rattle.allocative_graph.specs.Meaning.{ReachesExactly}
 use Rattle.allocative_graph.proofs.Basics.{or_both, or_left, or_right, or_parts, or-false, any_left, any_right}

@@ -1,26 +1,189 @@
--- A text determines the sizes, and a text of a graph that is read is the graph again.
-use Rattle.std.proofs.Common.{◌≡◌, ◌≢◌, ℕ, ◌+◌, ◌-◌, ◌^◌, ◌<◌, ◌≤◌, ◌==◌, Bool, false, cond, not, List, [], ◌∷◌, ◌++◌}
-use Rattle.std.proofs.Common.{map, flat_map, length, length-append, take, get_or, Some, None, refl, ap, sym, ◌∙◌, subst}
-use Rattle.std.proofs.Common.{true≢false, arith, decimal, ne_eqb, if◌then◌else◌}
-use Rattle.allocative_graph.proofs.Common.{AllByRecursion, list_any, slice_split, lines, lines_of_parts, get, entries}
-use Rattle.allocative_graph.proofs.Common.{LEVELS, LineFault, Key, Path, is_same_path, Graph, text, joined, begins}
-use Rattle.allocative_graph.proofs.Common.{size_at, Lacks, HasPlainKeys, HasWords, Stack, IsStack, IsCut, IsNumber}
-use Rattle.allocative_graph.proofs.Common.{AreStacks, SaysStacks, IsFault, IsRead, number_of, bytes_at, is_path_of}
-use Rattle.allocative_graph.proofs.Common.{all_bytes, All-from_recursion, fold-map, sum_by-cons}
-use Rattle.std.specs.List.{All}
+-- The lines of a text that is read, and what they say of its graph: the text of a graph that is read is the graph again.
+use Rattle.std.proofs.Common.{◌≡◌, ◌≢◌, ℕ, suc, ◌+◌, ◌^◌, ◌<◌, ◌≤◌, ◌==◌, true, false, List, [], ◌∷◌, ◌++◌, length}
+use Rattle.std.proofs.Common.{get_or, take, drop, None, Some, refl, ap, sym, ◌∙◌, subst, arith, Bor, eqb-true}
+use Rattle.std.proofs.Common.{take-append-drop, Bool, map, subst₂, append-nil, drop-cons, ◌-◌, cond, not, flat_map}
+use Rattle.std.proofs.Common.{length-append, true≢false, decimal, ne_eqb, if◌then◌else◌, filter, append_assoc}
+use Rattle.allocative_graph.proofs.Common.{LEVELS, LineFault, NoSpace, Lacks, Stack, IsStack, IsNumber, IsCut, IsWrong}
+use Rattle.allocative_graph.proofs.Common.{number_of, nil_from_length, slice_split, lines, lines_of_parts, Line}
+use Rattle.allocative_graph.proofs.Common.{AreStacks, IsFault, map_push, length-map, line_stack, AllByRecursion}
+use Rattle.allocative_graph.proofs.Common.{list_any, get, entries, Key, Path, is_same_path, Graph, text, joined, begins}
+use Rattle.allocative_graph.proofs.Common.{size_at, HasPlainKeys, HasWords, SaysStacks, IsRead, bytes_at, is_path_of}
+use Rattle.allocative_graph.proofs.Common.{all_bytes, All-from_recursion, fold-map, sum_by-cons, eq_by_cmp, key_cmp}
+use Rattle.allocative_graph.proofs.Common.{codes, All, sum_by-filter_both}
+use Rattle.std.specs.Str.Pattern.{RFindsChar}
+use Rattle.std.proofs.lemmas.Bool.{eqb-false}
+use Rattle.std.proofs.lemmas.List.Elements.{All-from_get_or, recursion_from_All, All-weaker, All-filter}
+use Rattle.std.specs.Str.Parse.{IsNumeral, without_leading_plus}
+use Rattle.std.proofs.lemmas.Str.Parse.{digit_at, without_leading_plus_none}
+use Rattle.std.proofs.lemmas.Str.Pattern.{NoCharPasses-char, drop_at_char}
+use Rattle.allocative_graph.specs.declared.read.LineFault.TheVariants.{NoPath, NoNumber, TooLarge, TooDeep}
+use Rattle.allocative_graph.specs.Read.{keys_of, Exceeds, CanBeRead}
+use Rattle.allocative_graph.proofs.Text.{lacks_not, last_split, texts, Plain, Sized, Good, is_shown, full, body}
+use Rattle.allocative_graph.proofs.Text.{written_entries, good_entries, size_shown, shown_lines, full_body, body_lacks}
+use Rattle.allocative_graph.proofs.Text.{decimal_lacks, bytes_in}
+use Rattle.std.proofs.lemmas.List.Splits.{length-slice_split, slice_split_none, slice_split_at}
+use Rattle.std.proofs.lemmas.List.Sums.{count_by-le-length}
 use Rattle.std.specs.Str.Lines.{strip_carriage_return}
 use Rattle.std.proofs.lemmas.Fmt.{decimal_is_IsNumeral}
 use Rattle.std.proofs.lemmas.List.{get_or-append_right}
-use Rattle.std.proofs.lemmas.List.Elements.{All-weaker}
-use Rattle.std.proofs.lemmas.List.Filters.{sum_by-filter_both}
-use Rattle.std.proofs.lemmas.List.Splits.{slice_split_none, slice_split_at, length-slice_split}
-use Rattle.allocative_graph.specs.Read.{Exceeds, CanBeRead, keys_of}
-use Rattle.allocative_graph.proofs.Basics.{each-implies}
-use Rattle.allocative_graph.proofs.Text.{Plain, Sized, Good, is_shown, full, body, written_entries, good_entries, size_shown}
-use Rattle.allocative_graph.proofs.Text.{shown_lines, full_body, body_lacks, decimal_lacks, bytes_in}
-use Rattle.allocative_graph.proofs.ReadLines.{stacks-cons, stacks-first, one_cut, cut_once}
+use Rattle.allocative_graph.proofs.Basics.{each-implies, each-map}
 use Rattle.allocative_graph.proofs.StackSums.{same_begins}
+use Rattle.allocative_graph.specs.Graph.{line, ends_in, exact_text, lines_from, before_last, after_last, last_key}
+use Rattle.allocative_graph.specs.Graph.{without_lines}
+use Rattle.std.proofs.Padding.{cond_same}
 
+-- If no place in a list has a byte, the list lacks it.
+lacks_from : (c : ℕ) (bs : List ℕ) → ((i : ℕ) → i < length bs → get_or bs i 0 ≢ c) → Lacks c bs
+lacks_from c bs h = recursion_from_All (λ b. b ≢ c) bs (All-from_get_or (λ b. b ≢ c) bs 0 h)
+
+-- What `rsplit_once` gives at a space.
+pub no_space : (bs : List ℕ) → RFindsChar 32 bs None → Lacks 32 bs
+no_space bs h = lacks_from 32 bs (λ i. NoCharPasses-char 32 bs i h (omega arith))
+
+-- The two parts that `rsplit_once` finds are the line cut at its last space.
+pub cut_of : {bs : List ℕ} (x : Bor (List ℕ) × Bor (List ℕ)) →
+    (i : ℕ) × (j : ℕ) × RFindsChar 32 bs (Some (i, j)) × (x.0.now ≡ take i bs) × (x.1.now ≡ drop j bs) × (i ≤ j)
+    × (length x.0.now ≡ i) × (length x.1.now + j ≡ length bs) → IsCut bs x.0.now x.1.now
+cut_of {bs = bs} x (i, j, finds, front, back, ordered, one, other) =
+    let whole : take i bs ++ 32 ∷ drop j bs ≡ bs =
+    ap (λ l. take i bs ++ l) (sym (drop_at_char 32 bs i j finds.1 (omega arith))) ∙ take-append-drop i bs in
+    record { parts = sym whole ∙ (λ k. sym front k ++ 32 ∷ sym back k); last = subst (Lacks 32) (sym back) (lacks_from 32 (drop j bs) (λ k. NoCharPasses-char 32 (drop j bs) k finds.0 (omega arith))) }
+
+-- No space stands in a number.
+number_lacks : (bs : List ℕ) → IsNumber bs → Lacks 32 bs
+number_lacks bs h = lacks_from 32 bs (λ i within e. omega (arith, digit_at bs i h.0.1 within, e))
+
+-- Digits alone have no plus.
+pub unsigned : (bs : List ℕ) → IsNumeral 10 bs → without_leading_plus bs ≡ bs
+unsigned bs h = without_leading_plus_none bs (λ e. omega (arith, digit_at bs 0 h.1 h.0, e))
+
+-- The number of digits that are not parsed exceeds a word.
+pub too_large : (bs : List ℕ) → IsNumeral 10 bs → ¬ IsNumber bs → 2 ^ 64 ≤ number_of bs
+too_large bs digits none = let exceeds : number_of bs < 2 ^ 64 → ⊥ = λ fits. none (digits, fits) in
+    omega (arith, exceeds)
+
+-- A line is cut at its last space in one way.
+pub one_cut : {line a b x y : List ℕ} → IsCut line a x → IsCut line b y → (a ≡ b) × (x ≡ y)
+one_cut {a = a} {b = b} {x = x} {y = y} one other =
+    last_split 32 a b x y one.last other.last (sym one.parts ∙ other.parts)
+
+-- What stands before the last space of a stack is its path, and what stands behind it its number.
+pub cut_once : {line front back : List ℕ} {s : Stack} → IsCut line front back → (is : IsStack line s) →
+    (front ≡ is.path) × (back ≡ is.number)
+cut_once cut is = one_cut cut (record { parts = is.parts; last = number_lacks is.number is.reads })
+
+-- A line with which something is wrong is no stack.
+pub wrong_is_none : (w : LineFault) (line : List ℕ) → IsWrong w line → (s : Stack) → IsStack line s → ⊥
+wrong_is_none NoSpace line h s is = lacks_not 32 is.path is.number (subst (Lacks 32) is.parts h)
+wrong_is_none NoPath line (back, cut) s is =
+    let both = cut_once cut is in
+    omega (arith, is.some, ap length both.0)
+wrong_is_none NoNumber line (front, back, cut, some, none) s is =
+    none (subst (IsNumeral 10) (sym (cut_once cut is).1) is.reads.0)
+wrong_is_none TooLarge line (front, back, cut, some, digits, large) s is =
+    omega (arith, is.reads.1, large, ap number_of (cut_once cut is).1)
+wrong_is_none TooDeep line (front, back, cut, reads, deep) s is =
+    omega (arith, is.fits, deep, ap (λ (p : List ℕ). length (keys_of p)) (cut_once cut is).0)
+
+-- ---- what the code finds in a line
+-- A line with nothing before its last space has no path.
+pub no_path : {line front back : List ℕ} → IsCut line front back → (length front == 0) ≡ true → IsWrong NoPath line
+no_path {line = line} {front = front} {back = back} cut e =
+    (back, subst (λ (f : List ℕ). IsCut line f back) (nil_from_length front (eqb-true (length front) 0 e)) cut)
+
+-- A number that is not 0 is above 0.
+pub not_zero : (n : ℕ) → (n == 0) ≡ false → 0 < n
+not_zero n e = omega (arith, eqb-false n 0 e)
+
+-- A line whose last space stands behind a path and before a number is a stack.
+pub stack_of : {line front back : List ℕ} {n : ℕ} → IsCut line front back → (length front == 0) ≡ false →
+    IsNumber back × (n ≡ number_of back) → length (keys_of front) ≤ LEVELS
+    → IsStack line (record { path = keys_of front; size = n })
+stack_of {front = front} {back = back} cut e reads fits = record {
+  path = front;
+  number = back;
+  parts = cut.parts;
+  some = not_zero (length front) e;
+  reads = reads.0;
+  fits = fits;
+  is = ap (λ (m : ℕ). record { path = keys_of front; size = m }) reads.1;
+}
+
+-- ---- one line after another
+-- A text has at most as many lines as parts.
+parts_fit : (ps : List (List ℕ)) → length (lines_of_parts ps) ≤ length ps
+parts_fit [] = omega arith
+parts_fit (x ∷ []) = grind arith
+parts_fit (x ∷ y ∷ ps) = omega (arith, parts_fit (y ∷ ps))
+
+-- A text has at most one line more than bytes.
+pub lines_fit : (bs : List ℕ) → length (lines bs) ≤ length bs + 1
+lines_fit bs =
+    let newline : ℕ → Bool = λ b. b == 10 in
+    omega (arith, parts_fit (slice_split newline bs), length-slice_split newline bs, count_by-le-length newline bs)
+
+-- A stack stands before others. Its line is not blank.
+pub stacks-cons : (l : List ℕ) (ls : List (List ℕ)) (s : Stack) (ss : List Stack) → IsStack l s → AreStacks ls ss →
+    AreStacks (l ∷ ls) (s ∷ ss)
+stacks-cons [] ls s ss is h = absurd (wrong_is_none NoSpace [] tt s is)
+stacks-cons (b ∷ bs) ls s ss is h = (is, h)
+
+-- If the first line is not blank, the first stack is its own, and the others are those of the other lines.
+pub stacks-first : (l : List ℕ) (ls : List (List ℕ)) (ss : List Stack) → 0 < length l → AreStacks (l ∷ ls) ss
+    → (s : Stack) × (others : List Stack) × (ss ≡ s ∷ others) × IsStack l s × AreStacks ls others
+stacks-first [] ls ss some h = absurd (omega (arith, some))
+stacks-first (b ∷ bs) ls [] some h = absurd h
+stacks-first (b ∷ bs) ls (s ∷ ss) some h = (s, ss, refl, h.0, h.1)
+
+-- If two lists of lines are stacks, both lists together are the stacks of the first and then those of the second.
+stacks-append : (ls : List (List ℕ)) (ss : List Stack) (ks : List (List ℕ)) (ts : List Stack) → AreStacks ls ss →
+    AreStacks ks ts → AreStacks (ls ++ ks) (ss ++ ts)
+stacks-append [] [] ks ts h g = g
+stacks-append [] (s ∷ ss) ks ts h g = absurd h
+stacks-append ([] ∷ ls) ss ks ts h g = stacks-append ls ss ks ts h g
+stacks-append ((b ∷ bs) ∷ ls) [] ks ts h g = absurd h
+stacks-append ((b ∷ bs) ∷ ls) (s ∷ ss) ks ts h g = (h.0, stacks-append ls ss ks ts h.1 g)
+
+-- One line more was read.
+pub read-more : (xs : List (Bor (List ℕ))) (x : Bor (List ℕ)) (now later : List Line) (line : Line) →
+    AreStacks (texts xs) (map line_stack now) → IsStack x.now (line_stack line) → later ≡ now ++ line ∷ []
+    → AreStacks (texts (xs ++ x ∷ [])) (map line_stack later)
+read-more xs x now later line h is e =
+    rw (e, map_push (λ (x : Bor (List ℕ)). x.now) xs x, map_push line_stack now line)
+    (stacks-append (texts xs) (map line_stack now) (x.now ∷ []) (line_stack line ∷ []) h
+    (stacks-cons x.now [] (line_stack line) [] is tt))
+
+-- A blank line was passed over.
+pub read-blank : (xs : List (Bor (List ℕ))) (x : Bor (List ℕ)) (now : List Line) →
+    AreStacks (texts xs) (map line_stack now) → length x.now ≡ 0 → AreStacks (texts (xs ++ x ∷ [])) (map line_stack now)
+read-blank xs x now h e =
+    let blank : AreStacks (x.now ∷ []) [] = subst (λ l. AreStacks (l ∷ []) []) (sym (nil_from_length x.now e)) tt in
+    subst₂ AreStacks (sym (map_push (λ (x : Bor (List ℕ)). x.now) xs x)) (append-nil (map line_stack now))
+    (stacks-append (texts xs) (map line_stack now) (x.now ∷ []) [] h blank)
+
+-- The line behind those that were read is the first that is none.
+pub fault_at : (text : List ℕ) (xs : List (Bor (List ℕ))) (x : Bor (List ℕ)) (n : ℕ) (w : LineFault) (ls : List Line) →
+    texts xs ≡ take (length xs) (lines text)
+    → (length xs < length (lines text)) × (x.now ≡ get_or (lines text) (length xs) x.now) →
+    AreStacks (texts xs) (map line_stack ls) → 0 < length x.now → IsWrong w x.now → n ≡ length xs + 1 →
+    IsFault text n w
+fault_at text xs x n w ls front at h some wrong e = let next : suc (length xs) ≡ length xs + 1 = omega arith in record {
+  before = texts xs;
+  line = x.now;
+  rest = drop (length xs + 1) (lines text);
+  stacks = map line_stack ls;
+  parts =
+      sym (take-append-drop (length xs) (lines text))
+      ∙ (λ i. sym front i ++ drop-cons (lines text) (length xs) x.now at.0 i)
+      ∙ (λ i. texts xs ++ sym at.1 i ∷ drop (next i) (lines text));
+  counted = e ∙ ap (λ k. k + 1) (sym (length-map {B = List ℕ} xs (λ (x : Bor (List ℕ)). x.now)));
+  read = h;
+  some = some;
+  wrong = wrong;
+  none = wrong_is_none w x.now wrong;
+}
+
+-- ---- reading back a text
 -- ---- lists that lack a byte
 -- In a list that lacks a byte, no byte is equal to it.
 no_byte : (c : ℕ) (xs : List ℕ) → Lacks c xs → All (λ b. (b == c) ≡ false) xs
@@ -202,3 +365,72 @@ never_exceeds g plain fits e =
     let is : all_bytes e.stacks ≡ all_bytes (map said (written_entries g)) =
     ap all_bytes (stacks_of_text g plain fits e.stacks e.means) in
     omega (arith, is, fold-map (λ n (s : Stack). n + s.size) said 0 (written_entries g), sum_by-filter_both is_shown (λ x. not (is_shown x)) (λ x. refl) (λ x. x.1) (entries g), e.exceeds, fits)
+
+-- ---- lines dropped from a text are paths left out of it
+-- ---- the lines
+-- What was read and what comes before the next line feed is one line. The rest is read as further lines.
+line_read : (acc a rest : List ℕ) → Lacks 10 a → lines_from acc (a ++ 10 ∷ rest) ≡ (acc ++ a) ∷ lines_from [] rest
+line_read acc [] rest h = λ i. sym (append-nil acc) i ∷ lines_from [] rest
+line_read acc (b ∷ a) rest h = rw (ne_eqb b 10 h.0, line_read (acc ++ b ∷ []) a rest h.1) (simp append_assoc)
+
+-- Lines of paths with plain keys, one after another, are read as these lines without their line feeds.
+lines_read : (es : List Sized) → AllByRecursion (λ e. AllByRecursion Plain e.0) es →
+    lines_from [] (flat_map full es) ≡ map body es
+lines_read [] h = refl
+lines_read (e ∷ es) h = ap (lines_from []) (full_body e (flat_map full es))
+    ∙ line_read [] (body e) (flat_map full es) (body_lacks e h.0) ∙ (λ i. body e ∷ lines_read es h.1 i)
+
+-- ---- the last key
+-- If c does not come again, what comes before the last c is the best found so far.
+none_before : (c : ℕ) (best acc d : List ℕ) → Lacks c d → before_last c best acc d ≡ best
+none_before c best acc [] h = refl
+none_before c best acc (b ∷ d) h = rw (ne_eqb b c h.0) (none_before c best (acc ++ b ∷ []) d h.1)
+
+-- If no other space follows a space, all that was read before it comes before the last space.
+before_read : (best acc x d : List ℕ) → Lacks 32 d → before_last 32 best acc (x ++ 32 ∷ d) ≡ acc ++ x
+before_read best acc [] d h = none_before 32 acc (acc ++ 32 ∷ []) d h ∙ sym (append-nil acc)
+before_read best acc (b ∷ x) d h = cond_same (b == 32)
+    _ _ _ (before_read acc (acc ++ b ∷ []) x d h ∙ append_assoc acc (b ∷ []) x)
+    (before_read best (acc ++ b ∷ []) x d h ∙ append_assoc acc (b ∷ []) x)
+
+-- What comes before a `;` does not change the bytes after the last `;`.
+after_skip : (acc a x : List ℕ) → after_last 59 acc (a ++ 59 ∷ x) ≡ after_last 59 [] x
+after_skip acc [] x = refl
+after_skip acc (b ∷ a) x = cond_same (b == 59) _ _ _ (after_skip [] a x) (after_skip (acc ++ b ∷ []) a x)
+
+-- If no `;` comes again, the bytes after the last `;` are those read since then and all the rest.
+after_read : (acc a : List ℕ) → Lacks 59 a → after_last 59 acc a ≡ acc ++ a
+after_read acc [] h = sym (append-nil acc)
+after_read acc (b ∷ a) h = rw (ne_eqb b 59 h.0) (after_read (acc ++ b ∷ []) a h.1 ∙ append_assoc acc (b ∷ []) a)
+
+-- A path with plain keys ends in a key exactly if its text has that key after the last `;`.
+last_of : (key k : Key) (p : Path) → AllByRecursion Plain (k ∷ p) →
+    eq_by_cmp key_cmp key (after_last 59 [] (joined (k ∷ p))) ≡ ends_in key (k ∷ p)
+last_of key k [] h = ap (eq_by_cmp key_cmp key) (after_read [] k h.0.0)
+last_of key k (l ∷ p) h = ap (eq_by_cmp key_cmp key) (after_skip [] k (joined (l ∷ p))) ∙ last_of key l p h.1
+
+-- A path with plain keys ends in a key exactly if its line has that last key.
+last_key_of : (key k : Key) (p : Path) (n : ℕ) → AllByRecursion Plain (k ∷ p) →
+    eq_by_cmp key_cmp key (last_key (body (k ∷ p, n))) ≡ ends_in key (k ∷ p)
+last_key_of key k p n h = ap (λ l. eq_by_cmp key_cmp key (after_last 59 [] l))
+    (before_read [] [] (joined (k ∷ p)) (decimal n) (decimal_lacks 32 n (omega arith))) ∙ last_of key k p h
+
+-- ---- all lines
+-- If all keys are plain, leaving out the paths that end in a key leaves out the lines with that last key.
+drop_each : (key : Key) (es : List Sized) → AllByRecursion (λ e. AllByRecursion Plain e.0) es →
+    flat_map (λ e. cond (ends_in key e.0) [] (line e)) es
+    ≡ flat_map (λ l. cond (eq_by_cmp key_cmp key (last_key l)) [] (l ++ 10 ∷ [])) (map body (filter is_shown es))
+drop_each key [] h = refl
+drop_each key (([], n) ∷ es) h = drop_each key es h.1
+drop_each key ((k ∷ p, n) ∷ es) h = grind (arith, drop_each key es h.1, last_key_of key k p n h.0)
+
+-- If all keys are plain, the exact text is the text without the lines whose last key is `unused_capacity`.
+pub exact_is : (g : Graph) → HasPlainKeys g → exact_text g ≡ without_lines (codes "unused_capacity") (text g)
+exact_is g h =
+    let plain = each-map (AllByRecursion Plain) (λ e. e.0) (entries g) h in
+    let kept = recursion_from_All (λ e. AllByRecursion Plain e.0) (filter is_shown (entries g))
+    (All-filter is_shown (λ e. AllByRecursion Plain e.0) (entries g) (All-from_recursion _ (entries g) plain)) in
+    let lines = ap (lines_from []) (shown_lines (entries g)) ∙ lines_read (filter is_shown (entries g)) kept in
+    drop_each (codes "unused_capacity") (entries g) plain
+    ∙ ap (flat_map (λ l. cond (eq_by_cmp key_cmp (codes "unused_capacity") (last_key l)) [] (l ++ 10 ∷ [])))
+    (sym lines)

@@ -6,18 +6,16 @@ use Rattle.allocative_graph.proofs.Common.{list_any, IsPermutation, is_eq, get, 
 use Rattle.allocative_graph.proofs.Common.{Path, key_cmp, path_cmp, is_same_path, Graph, size_at, total, begins}
 use Rattle.allocative_graph.proofs.Common.{is_root, default, sum_of, SaysStacks, IsRead, Stack, bytes_at, is_path_of}
 use Rattle.allocative_graph.proofs.Common.{all_bytes, graph_of_path, one_stack, sum_of_stacks, map_push, fold-map}
-use Rattle.allocative_graph.proofs.Common.{sum_by-IsPermutation}
+use Rattle.allocative_graph.proofs.Common.{sum_by-IsPermutation, fold-append, sum_by_push, tied_then}
 use Rattle.std.specs.Option.{SomeIff}
-use Rattle.std.proofs.lemmas.List.Sums.{fold-append, sum_by_push, sum_by-take-le}
+use Rattle.std.proofs.lemmas.List.Sums.{sum_by-take-le}
 use Rattle.std.proofs.lemmas.List.Sorted.{IsPermutation-map}
 use Rattle.allocative_graph.specs.Read.{line_stack, IsGraphOfStacks, Exceeds}
-use Rattle.allocative_graph.proofs.Basics.{path_total, same_path}
-use Rattle.std.specs.Cmp.{tied_then}
-use Rattle.allocative_graph.proofs.PathOrder.{key_itself}
+use Rattle.allocative_graph.proofs.Basics.{path_total, same_path, key_itself}
 use Rattle.allocative_graph.proofs.Graphs.{size_at-default, is_some-cond, get-default, get-under, get-under-root}
-use Rattle.allocative_graph.proofs.OnePath.{total-path}
-use Rattle.allocative_graph.proofs.Gathered.{size_at-added_up, has-added_up, total-added_up, added_up-permuted}
-use Rattle.allocative_graph.proofs.Gathered.{total-default}
+use Rattle.allocative_graph.proofs.Graphs.{size_at-added_up, has-added_up, total-added_up, added_up-permuted}
+use Rattle.allocative_graph.proofs.Graphs.{total-default}
+use Rattle.allocative_graph.proofs.Nodes.{total-path}
 
 -- ---- paths
 -- A path begins with itself.

@@ -1,19 +1,25 @@
 -- A text determines the sizes: it splits into lines at the line feeds, a line at its last space, and a path at each
--- `;`.
-use Rattle.std.proofs.Common.{◌≡◌, ◌≢◌, ℕ, zero, suc, ◌^◌, ◌<◌, ◌≤◌, ◌/◌, ◌%◌, ◌==◌, Bool, false, cond, not, ◌||◌}
-use Rattle.std.proofs.Common.{T, IsTrue, List, [], ◌∷◌, ◌++◌, map, flat_map, filter, refl, ap, sym, ◌∙◌, subst}
-use Rattle.std.proofs.Common.{arith, unwrap_or, append_assoc, decimal, sum_by, eqb-true}
-use Rattle.std.proofs.Common.{if◌then◌else◌}
+-- `;`. What the walk of `write` has written so far.
+use Rattle.std.proofs.Common.{◌≡◌, ◌≢◌, ℕ, zero, suc, ◌^◌, ◌<◌, ◌≤◌, ◌/◌, ◌%◌, ◌==◌, Bool, false, cond, not, ◌||◌, T}
+use Rattle.std.proofs.Common.{IsTrue, List, [], ◌∷◌, ◌++◌, map, flat_map, filter, refl, ap, sym, ◌∙◌, subst, arith}
+use Rattle.std.proofs.Common.{unwrap_or, append_assoc, decimal, sum_by, eqb-true, if◌then◌else◌, ◌+◌, take, length}
+use Rattle.std.proofs.Common.{get_or, Bor, ◌-◌, length-append, append-nil, ne_eqb}
 use Rattle.allocative_graph.proofs.Common.{AllByRecursion, entries, get-entries, entries_sorted, find, is_sorted}
 use Rattle.allocative_graph.proofs.Common.{below_all, first, second, Key, Path, path_cmp, is_same_path, Graph}
-use Rattle.allocative_graph.proofs.Common.{text_of_entries, joined, is_root, size_at, Lacks, sum_by-cons}
+use Rattle.allocative_graph.proofs.Common.{text_of_entries, joined, is_root, size_at, Lacks, sum_by-cons, Child}
+use Rattle.allocative_graph.proofs.Common.{under_rows, rows_of, rows_of_child, joined_on, line_from, lines_from}
+use Rattle.allocative_graph.proofs.Common.{flat_map-append, sum_by-filter_both}
 use Rattle.std.specs.Fmt.{digits, digits_onto, digit_glyph}
 use Rattle.std.proofs.lemmas.Bool.{not-false, not-true}
 use Rattle.std.proofs.lemmas.List.Elements.{All-weaker, filter_passes}
-use Rattle.std.proofs.lemmas.List.Filters.{sum_by-filter_both}
 use Rattle.std.proofs.lemmas.List.Sums.{sum_by-le}
 use Rattle.allocative_graph.proofs.Basics.{each-append, each-implies, on_test, same_path}
-use Rattle.allocative_graph.proofs.Below.{find-below_all}
+use Rattle.allocative_graph.proofs.Sums.{find-below_all}
+use Rattle.std.specs.List.{join_by}
+use Rattle.std.proofs.Math.Seq.{take-append_seam}
+pub use Rattle.allocative_graph.specs.Path.{texts}
+use Rattle.allocative_graph.specs.Representation.Children.{size_text}
+use Rattle.allocative_graph.proofs.Children.{rows-more}
 
 -- ---- lists parted at a byte
 -- A list with a byte in it does not lack that byte.
@@ -137,3 +143,53 @@ pub size_shown : (g : Graph) (k : Key) (p : Path) → size_at g (k ∷ p) ≡ by
 size_shown g k p =
     ap (λ o. unwrap_or o 0) (get-entries g (k ∷ p)) ∙ sym (bytes-find (k ∷ p) (entries g) (entries_sorted g))
     ∙ sym (sum-filter is_shown (λ e. cond (is_same_path (k ∷ p) e.0) e.1 0) (λ e h. unseen e k p h) (entries g))
+
+-- ---- what the walk of `write` has written so far
+-- A path with a first key is that key and, after a `;` each, the others.
+pub joined-keys : (k : Key) (ks : Path) → joined (k ∷ ks) ≡ k ++ joined_on ks
+joined-keys k [] = sym (append-nil k)
+joined-keys k (l ∷ ks) = ap (λ t. k ++ 59 ∷ t) (joined-keys l ks)
+
+-- The texts of the keys, joined by `;`, are the path's text.
+pub joined_by_semicolons : (ks : List (Bor (List ℕ))) → join_by (λ k. k.now) (59 ∷ []) ks ≡ joined (texts ks)
+joined_by_semicolons [] = refl
+joined_by_semicolons (k ∷ []) = append-nil k.now
+joined_by_semicolons (k ∷ l ∷ ks) = ap (λ t. k.now ++ 59 ∷ t) (joined_by_semicolons (l ∷ ks))
+
+-- The lines of one child, after the text of the keys before it.
+pub child_lines : (t : List ℕ) (k : Key) (rs : List (Path × ℕ)) →
+    lines_from (t ++ 59 ∷ k) rs ≡ lines_from t (under_rows k rs)
+child_lines t k [] = refl
+child_lines t k (r ∷ rs) = rw (child_lines t k rs) (simp append_assoc)
+
+-- The lines of one child of the root.
+pub first_lines : (k : Key) (rs : List (Path × ℕ)) → lines_from k rs ≡ text_of_entries (under_rows k rs)
+first_lines k [] = refl
+first_lines k (r ∷ rs) = rw (joined-keys k r.0, first_lines k rs) (simp append_assoc)
+
+-- The text after one more child, if F gives the line of a row.
+pub child_written : (F : Path × ℕ → List ℕ) (cs : List Child) (i : ℕ) (d : Child) (before : List ℕ) → i < length cs →
+    d ≡ get_or cs i d
+    → (before ++ flat_map F (rows_of (take i cs))) ++ flat_map F (rows_of_child d)
+    ≡ before ++ flat_map F (rows_of (take (i + 1) cs))
+child_written F cs i d before h at =
+    rw (rows-more cs i d h, ← at, flat_map-append F (rows_of (take i cs)) (rows_of_child d)) (append_assoc before _ _)
+
+-- The line of a path with a size other than 0 is the path with its size.
+pub line_of_some : (t : List ℕ) (n : ℕ) → n ≢ 0 → line_from t ([], n) ≡ t ++ size_text n
+line_of_some t n some = ap (λ (b : Bool). cond b [] (t ++ size_text n)) (ne_eqb n 0 some)
+
+-- A path with the size 0 has no line.
+pub line_of_none : (t before : List ℕ) (n : ℕ) → n ≡ 0 → before ≡ before ++ line_from t ([], n)
+line_of_none t before n none = sym (append-nil before) ∙ ap (λ (m : ℕ). before ++ line_from t ([], m)) (sym none)
+
+-- Cutting back the start of a line returns it.
+pub cut_back : (t more : List ℕ) (n : ℕ) → n ≡ length t → take n (t ++ more) ≡ t
+cut_back t more n len = ap (λ k. take k (t ++ more)) len ∙ take-append_seam t more
+
+-- A key pushed after the others is removed again.
+pub popped : (xs ys zs : List (Bor (List ℕ))) (x : Bor (List ℕ)) (n : ℕ) → zs ≡ take (n - 1) ys → n ≡ length ys →
+    ys ≡ xs ++ x ∷ [] → zs ≡ xs
+popped xs ys zs x n rest len push =
+    let l : n - 1 ≡ length xs = omega (arith, length-append xs (x ∷ []), ap length push) in
+    rest ∙ ap (λ k. take k ys) l ∙ ap (λ s. take (length xs) s) push ∙ take-append_seam xs (x ∷ [])

@@ -8,8 +8,7 @@ use Rattle.allocative_graph.specs.Identity.{Identity, Identities}
 use Rattle.allocative_graph.specs.Forest.{Forest, Empty, First, Again, Bag, entry_of, own_behind, content_entries}
 use Rattle.allocative_graph.specs.Forest.{met_after, Fits}
 use Rattle.allocative_graph.specs.Sums.{Sums, add_all}
-use Rattle.allocative_graph.specs.Held.{held, inline_bytes, ShowsNoContent}
-use Rattle.allocative_graph.specs.Owned.{direct, owned}
+use Rattle.allocative_graph.specs.Owned.{held, inline_bytes, ShowsNoContent, direct, owned}
 use Rattle.allocative_graph.specs.declared.restore.Restore.TheVariants.{Held, Owned}
 use Rattle.allocative_graph.specs.declared.restore.Restore as declared
 

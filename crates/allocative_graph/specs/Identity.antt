@@ -1,5 +1,5 @@
--- Identities of shared values, and their order.
-use Rattle.std.specs.Prelude.{ℕ, Bool}
+-- Identities of shared values, their order, and their makers.
+use Rattle.std.specs.Prelude.{ℕ, Bool, ◌+◌, ◌-◌, ◌^◌, ◌==◌, cond, Option, Some, None}
 use Rattle.std.specs.declared.cmp.Ordering.{Ordering}
 use Rattle.std.specs.Ordering.{nat_cmp, eq_by_cmp, ordering_then}
 use Rattle.std.specs.FinSet.{FinSet}
@@ -20,3 +20,18 @@ is_same_identity = eq_by_cmp identity_cmp
 -- A finite set of identities.
 abbrev pub Identities : Type 0
 Identities = FinSet identity_cmp
+
+-- ---- shared values and makers
+-- A maker of identities: the maker that its identities have, and the number of the next one, or None after the last.
+pub record Maker : Type 0 where
+  pub maker : ℕ
+  pub next : Option ℕ
+
+-- The number after n, or None after the greatest number of 64 bits.
+abbrev pub number_after : ℕ → Option ℕ
+number_after n = cond (n == 2 ^ 64 - 1) None (Some (n + 1))
+
+-- A shared value: the value, and the identity that all its owners have.
+pub record Shared (T : Type 0) : Type 0 where
+  pub value : T
+  pub id : Identity

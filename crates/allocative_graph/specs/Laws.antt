@@ -12,11 +12,11 @@ use Rattle.allocative_graph.specs.Forest.{Forest, Empty, First, Again, Bag, own,
 use Rattle.allocative_graph.specs.Meaning.{Reached, IsMeaning, ReachesExactly, content_of, IsWhole, Agree, ReachApart}
 use Rattle.allocative_graph.specs.Sums.{Sums, bytes_in, below_in, is_unique_in, is_entered_in, sums_of, below}
 use Rattle.allocative_graph.specs.Graph.{Graph, graph, remaining, total, under, default, IsTree, text, warnings}
-use Rattle.allocative_graph.specs.Graph.{warned_paths, sum_of, size_at, CanBeAdded, HasPlainKeys, HasWords}
+use Rattle.allocative_graph.specs.Graph.{warned_paths, sum_of, size_at, CanBeAdded, HasPlainKeys, HasWords, exact_text}
+use Rattle.allocative_graph.specs.Graph.{without_lines}
 use Rattle.allocative_graph.specs.Collector.{Live, Summing, Kind, OfGraph, OfSum, plus, Takes, enter, enter_first}
 use Rattle.allocative_graph.specs.Collector.{enter_again, count_entry, leave, Restore, outer_of}
 use Rattle.allocative_graph.specs.declared.restore.Restore.TheVariants.{Held}
-use Rattle.allocative_graph.specs.Report.{exact_text, without_lines}
 use Rattle.allocative_graph.specs.Read.{IsRead, IsFault, Exceeds, CanBeRead}
 use Rattle.allocative_graph.specs.declared.read.LineFault.{LineFault}
 

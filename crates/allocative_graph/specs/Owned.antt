@@ -1,12 +1,34 @@
--- What a value owns: the bytes that its entries keep for themselves, with nothing below a shared one.
-use Rattle.std.specs.Prelude.{◌≡◌, ◌≤◌, ◌⊎◌, ◌-◌, ℕ, ◌+◌, Bool, true, false, List, [], ◌∷◌, ◌++◌, IsTrue}
+-- What a value holds on the heap, and what it owns. Nothing below a shared entry counts.
+use Rattle.std.specs.Prelude.{ℕ, ◌+◌, ◌≡◌, ◌≤◌, ◌⊎◌, ◌-◌, Bool, true, false, List, [], ◌∷◌, ◌++◌, IsTrue}
 use Rattle.std.specs.List.{AllByRecursion}
+use Rattle.allocative_graph.specs.Forest.{Forest, Empty, Inline, Unique, First, Again, contents, AsInline, AsUnique}
+use Rattle.allocative_graph.specs.Forest.{AsShared, Entry, own, followed_by, entry_of}
 use Rattle.allocative_graph.specs.Path.{Key, Path, is_same_path}
-use Rattle.allocative_graph.specs.Forest.{Forest, Empty, Inline, Unique, First, Again, AsInline, AsUnique, AsShared}
-use Rattle.allocative_graph.specs.Forest.{Entry, own, followed_by, entry_of}
 use Rattle.allocative_graph.specs.Sums.{is_unique_mark, sums_of}
 use Rattle.allocative_graph.specs.Graph.{graph, total}
 
+-- ---- held bytes: the inline entries directly inside unique ones
+-- The bytes of the inline entries at the top.
+abbrev pub inline_bytes : Forest → ℕ
+inline_bytes Empty = 0
+inline_bytes (Inline k n inside after) = n + inline_bytes after
+inline_bytes (Unique k n inside after) = inline_bytes after
+inline_bytes (First k n i inside after) = inline_bytes after
+inline_bytes (Again k n i after) = inline_bytes after
+
+-- The bytes of the inline entries whose direct parent is a unique entry, with nothing below a shared entry.
+abbrev pub held : Forest → ℕ
+held Empty = 0
+held (Inline k n inside after) = held inside + held after
+held (Unique k n inside after) = inline_bytes inside + held inside + held after
+held (First k n i inside after) = held after
+held (Again k n i after) = held after
+
+-- No shared entry shows its content: there are no contents.
+abbrev pub ShowsNoContent : Forest → Type 0
+ShowsNoContent f = AllByRecursion (λ c. ⊥) (contents f)
+
+-- ---- owned bytes: those that each entry keeps for itself
 -- The bytes of the entries at the top, whatever their marks.
 abbrev pub direct : Forest → ℕ
 direct Empty = 0

@@ -1,5 +1,5 @@
--- Keys and paths, and their orders.
-use Rattle.std.specs.Prelude.{◌≡◌, ℕ, Bool, true, false, ◌&&◌, List, [], ◌∷◌, ◌++◌, map}
+-- Keys and paths, their orders, and the hash of a key: FNV-1a of 64 bits.
+use Rattle.std.specs.Prelude.{◌≡◌, ℕ, Bool, true, false, ◌&&◌, List, [], ◌∷◌, ◌++◌, map, ◌*◌, ◌%◌, ◌^◌, bit_xor, fold}
 use Rattle.std.specs.Borrow.{Bor}
 use Rattle.std.specs.declared.cmp.Ordering.TheVariants.{Less}
 use Rattle.std.specs.declared.cmp.Ordering.{Ordering}
@@ -41,3 +41,12 @@ pub data ComesBefore {X : Type 0} (R : X → X → Ordering) (p q : List X) : Ty
   longer : (k : X) (rest : List X) → q ≡ p ++ k ∷ rest → ComesBefore R p q
   parts : (common : List X) (k l : X) (r s : List X) → p ≡ common ++ k ∷ r → q ≡ common ++ l ∷ s → R k l ≡ Less
       → ComesBefore R p q
+
+-- ---- the hash of a key's text
+-- The hash after one more byte.
+abbrev pub fnv_step : ℕ → ℕ → ℕ
+fnv_step hash byte = (bit_xor hash byte * 0x100000001b3) % 2 ^ 64
+
+-- The hash of some bytes.
+abbrev pub fnv : List ℕ → ℕ
+fnv bytes = fold fnv_step 0xcbf29ce484222325 bytes

@@ -1,6 +1,4 @@
 -- What stands behind keys, graphs and collectors in memory. No clause of a public call cites it.
 pub mod Codes
-pub mod PathRows
-pub mod Node
 pub mod NodeRows
 pub mod Children

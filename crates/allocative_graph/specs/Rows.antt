@@ -1,12 +1,13 @@
--- What is read from a flame graph: the children of its root, and the rows of all its paths.
-use Rattle.std.specs.Prelude.{ℕ, ◌<◌, List, [], ◌∷◌, ◌++◌, map}
+-- The children of a graph's root, adding many of them, and the rows of all paths.
+use Rattle.std.specs.Prelude.{ℕ, ◌<◌, List, [], ◌∷◌, ◌++◌, map, ◌≡◌, fold, sum_by, IsTrue}
 use Rattle.std.specs.List.{flat_map, All, AllByRecursion}
 use Rattle.std.specs.List.Sorted.{IsStrictlySortedBy}
-use Rattle.std.specs.FinMap.{entries, len, from_sorted}
+use Rattle.std.specs.FinMap.{entries, len, from_sorted, contains_key}
 use Rattle.allocative_graph.specs.declared.flamegraph.Child.{Child}
-use Rattle.allocative_graph.specs.declared.flamegraph.rows.Row.{Row}
+use Rattle.allocative_graph.specs.declared.flamegraph.Row.{Row}
 use Rattle.allocative_graph.specs.Path.{Key, Path, key_cmp}
-use Rattle.allocative_graph.specs.Graph.{Graph, IsTree, total_at}
+use Rattle.allocative_graph.specs.Graph.{Graph, IsTree, total_at, total, sum_of, under}
+use Rattle.std.specs.declared.cmp.Ordering.TheVariants.{Less}
 
 -- ---- the children of the root
 -- The rows with the key before each path.
@@ -56,3 +57,16 @@ figures_behind ks g = map (λ e. record { path = ks ++ e.0; self_size = e.1; tot
 -- The figures of each path of g, in the order of paths.
 abbrev pub figures : Graph → List Figures
 figures g = map (λ e. record { path = e.0; self_size = e.1; total_size = total_at g e.0 }) (entries g)
+
+-- ---- adding many children
+-- The graph with some children added, one after another.
+abbrev pub sum_of_all : Graph → List Child → Graph
+sum_of_all g cs = fold (λ h c. sum_of h (under c.key c.graph)) g cs
+
+-- The sum of the totals of some children.
+abbrev pub total_of : List Child → ℕ
+total_of cs = sum_by (λ c. total c.graph) cs
+
+-- Each path of the graph, other than that of the root, begins with a key that is less than k.
+abbrev pub ComesLast : Graph → Key → Type 0
+ComesLast g k = (l : Key) (p : Path) → IsTrue (contains_key g (l ∷ p)) → key_cmp l k ≡ Less

@@ -7,7 +7,7 @@ use Rattle.allocative_graph.specs.Forest.{Forest, Empty, Inline, Unique, First, 
 use Rattle.allocative_graph.specs.Meaning.{IsWhole}
 use Rattle.allocative_graph.specs.Sums.{sums_of}
 use Rattle.allocative_graph.specs.Graph.{graph, text, warnings, sum_of, CanBeAdded}
-use Rattle.allocative_graph.specs.Held.{held}
+use Rattle.allocative_graph.specs.Owned.{held}
 
 -- The identity of the shared entries in these examples.
 abbrev pub one : Identity

@@ -1,14 +1,13 @@
 //! Flame graphs: maps from paths of keys to sizes.
-ghost use Rattle.std.specs.Prelude.{◌≡◌, ◌+◌, ◌^◌, ◌<◌, ◌≤◌, ◌↔◌, ◌++◌, [], ◌∷◌, IfOk, IfErr, IfSome, IfNone, OnOk, OnErr, IsErrOf, MatchResult, string_bytes, length, is_ok};
+ghost use Rattle.std.specs.Prelude.{◌≡◌, ◌+◌, ◌^◌, ◌<◌, ◌≤◌, ◌↔◌, ◌++◌, [], ◌∷◌, IfOk, IfErr, IfSome, IfNone, OnOk, OnErr, IsErrOf, MatchResult, string_bytes, length, is_ok, map};
 ghost use Rattle.std.specs.List.{insert};
-ghost use Rattle.std.specs.FinMap as map;
+ghost use Rattle.std.specs.Option.{SomeIff};
+ghost use Rattle.std.specs.FinMap.{entries};
 ghost use Rattle.allocative_graph.specs.Path.{key_cmp, texts};
 ghost use Rattle.allocative_graph.specs.Format.{AppendsText, ReturnsText};
-ghost use Rattle.allocative_graph.specs.Graph.{add_self, total, text, default, sum_of, under, joined, ExceedWord, IsTree, IsPartOfSum};
-ghost use Rattle.allocative_graph.specs.Representation.PathRows.{line_from, lines_from};
-ghost use Rattle.allocative_graph.specs.Rows.{AreChildren};
-ghost use Rattle.allocative_graph.specs.Many.{total_of};
-ghost use Rattle.allocative_graph.specs.Representation.Children.{front_order, InOrder, IsFound, IsChildGap, Added, Merged, MergesFirst};
+ghost use Rattle.allocative_graph.specs.Graph.{add_self, total, text, default, sum_of, under, joined, ExceedWord, IsTree, IsPartOfSum, size_at, total_at, IsBehind, HasNothing};
+ghost use Rattle.allocative_graph.specs.Representation.Children.{line_from, lines_from, front_order, InOrder, IsFound, IsChildGap, Added, Merged, MergesFirst};
+ghost use Rattle.allocative_graph.specs.Rows.{AreChildren, total_of, AllSmaller, row_figures, figures, figures_behind, node, sum_of_all, ComesLast};
 ghost use Rattle.allocative_graph.specs.declared.flamegraph.Child.{Child};
 
 use crate::key::Key;
@@ -21,13 +20,8 @@ use std::marker::Model;
 use std::mem;
 
 mod at_path;
-mod in_order;
-mod many;
-mod rows;
 
 pub use at_path::add_at;
-pub use in_order::push_child;
-pub use rows::Row;
 
 /// A map from paths of keys to sizes in bytes.
 ///
@@ -63,24 +57,35 @@ pub struct Child {
     pub graph: FlameGraph,
 }
 
+/// A path of a flame graph, with its sizes in bytes.
+#[derive(Drop)]
+pub struct Row {
+    /// The keys from the root on. The root's path is empty.
+    pub path: Vec<&'static str>,
+    /// The bytes of the path itself.
+    pub self_size: usize,
+    /// The bytes of the path and of all paths below it.
+    pub total_size: usize,
+}
+
 impl Model for FlameGraph {
     ghost use Rattle.std.specs.Prelude.{ℕ};
     ghost use Rattle.std.specs.Coded.{coded_ℕ, coded_list};
-    ghost use Rattle.std.specs.FinMap as map;
+    ghost use Rattle.std.specs.FinMap.{FinMap, code, len};
     ghost use Rattle.allocative_graph.specs.Path.{path_cmp};
 
-    ghost Value = { map.FinMap path_cmp ℕ };
+    ghost Value = { FinMap path_cmp ℕ };
 
-    ghost coded = { map.code (coded_list (coded_list coded_ℕ)) coded_ℕ };
+    ghost coded = { code (coded_list (coded_list coded_ℕ)) coded_ℕ };
 
     ghost use Rattle.allocative_graph.specs.Rows.{node};
-    ghost use Rattle.allocative_graph.specs.Representation.Node.{IsNode};
+    ghost use Rattle.allocative_graph.specs.Representation.Children.{IsNode};
 
     ghost view = { λ a. node a.node_size a.children.items };
 
     ghost invariant = { λ a. IsNode a.children.items a.children_size a.node_size };
 
-    ghost size = { map.len };
+    ghost size = { len };
 
     ghost use Rattle.std.proofs.Common.{arith};
     ghost use Rattle.allocative_graph.specs.Representation.NodeRows.{most_le-node};
@@ -91,7 +96,7 @@ impl Model for FlameGraph {
 impl FlameGraph {
     /// The graph that has only the root, with size 0. It allocates nothing; it keeps the
     /// allocator for what is added later.
-    #[tactic(auto, using(crate::proofs::NodeSizes::node_nil, crate::proofs::ChildOrder::no_children))]
+    #[tactic(auto, using(crate::proofs::Children::node_nil, crate::proofs::Children::no_children))]
     pub fn default(alloc: Global) -> FlameGraph
         ensures { result ≡ default }
     {
@@ -103,7 +108,7 @@ impl FlameGraph {
     }
 
     /// The graph that has only the root, with size 0. `children` is a hint: how many children of the root will be
-    /// added. No contract says what room there is. It returns an error only when memory runs out.
+    /// added. No contract speaks of capacity. It returns an error only when memory runs out.
     pub fn with_capacity(alloc: Global, children: usize) -> Result<FlameGraph, AllocError>
         ensures { IfOk result (λ graph. graph ≡ default) }
     {
@@ -113,7 +118,7 @@ impl FlameGraph {
     }
 
     /// The sum of the sizes of all paths in bytes, including the root's own.
-    #[tactic(auto, using(crate::proofs::NodeAdded::total_of_node))]
+    #[tactic(auto, using(crate::proofs::Nodes::total_of_node))]
     pub fn total_size(&self) -> usize
         ensures total { result ≡ total self.now }
 
@@ -126,7 +131,7 @@ impl FlameGraph {
     /// Adds bytes to the size of the root. It allocates nothing.
     ///
     /// It returns `TooLarge` exactly if the total would exceed `usize::MAX`, and then changes nothing.
-    #[tactic(auto, using(crate::proofs::NodeAdded::total_of_node, crate::proofs::NodeAdded::own_of_node, crate::proofs::NodeSizes::insert_root))]
+    #[tactic(auto, using(crate::proofs::Nodes::total_of_node, crate::proofs::Nodes::own_of_node, crate::proofs::Children::insert_root))]
     pub fn add_self(&mut self, size: usize) -> Result<(), Refusal>
         ensures sum { OnOk result (self.new ≡ add_self size self.old) }
         ensures too_large { IsErrOf result Refusal.TooLarge ↔ (2 ^ 64 ≤ total self.old + size) }
@@ -145,7 +150,7 @@ impl FlameGraph {
     /// It returns `TooLarge` exactly if the sum of the two totals exceeds `usize::MAX`, and then changes
     /// nothing. After `Memory` each path has its old size or that of the sum, all old paths are still there,
     /// and there is no path that the sum does not have. After an error `other` is dropped.
-    #[tactic(auto, using(crate::proofs::NodeAdded::added_sum))]
+    #[tactic(auto, using(crate::proofs::Nodes::added_sum))]
     pub fn add(&mut self, other: FlameGraph) -> Result<(), Refusal>
         ensures sum { OnOk result (self.new ≡ sum_of self.old other) }
         ensures too_large { IsErrOf result Refusal.TooLarge ↔ ExceedWord self.old other }
@@ -166,7 +171,7 @@ impl FlameGraph {
     /// time quadratic in their number. [`add_children`](FlameGraph::add_children) adds many at once.
     ///
     /// The errors, and what they leave, are those of [`add`](FlameGraph::add).
-    #[tactic(auto, using(crate::proofs::NodeAdded::total_of_node))]
+    #[tactic(auto, using(crate::proofs::Nodes::total_of_node))]
     pub fn add_child(&mut self, key: Key, child: FlameGraph) -> Result<(), Refusal>
         ensures sum { OnOk result (self.new ≡ sum_of self.old (under key child)) }
         ensures too_large { IsErrOf result Refusal.TooLarge ↔ ExceedWord self.old child }
@@ -186,9 +191,35 @@ impl FlameGraph {
         Ok(())
     }
 
+    /// Adds some children, each as [`add_child`](FlameGraph::add_child) does; children with one key add up.
+    /// Their order does not matter: they are sorted once, and then merged with the children that are there.
+    ///
+    /// It returns `TooLarge` exactly if the sum of all totals exceeds `usize::MAX`, and then changes
+    /// nothing. After `Memory` each path has its old size or that of the sum, all old paths are still there,
+    /// and there is no path that the sum does not have. After an error the children are dropped.
+    pub fn add_children(&mut self, children: Vec<Child>) -> Result<(), Refusal>
+        ensures sum { OnOk result (self.new ≡ sum_of_all self.old children.items) }
+        ensures too_large { IsErrOf result Refusal.TooLarge
+            ↔ (2 ^ 64 ≤ total self.old + total_of children.items) }
+        ensures unchanged { IsErrOf result Refusal.TooLarge → self.new ≡ self.old }
+        ensures part { IsErrOf result Refusal.Memory
+            → IsPartOfSum self.old (sum_of_all default children.items) self.new }
+        ensures never_open { ¬ (IsErrOf result Refusal.Open) }
+    {
+        let Some(added) = total_size_of(children.as_slice()) else {
+            return Err(Refusal::TooLarge);
+        };
+        if added > usize::MAX - self.total_size() {
+            return Err(Refusal::TooLarge);
+        }
+        let alloc = *self.children.allocator();
+        let graph = gather(alloc, children)?;
+        self.add(graph)
+    }
+
     // A copy of the graph if it has only the root. It allocates nothing and makes no further call.
     #[inline(always)]
-    #[tactic(auto, using(std::proofs::lemmas::List::nil_from_length, crate::proofs::ChildOrder::no_children))]
+    #[tactic(auto, using(std::proofs::lemmas::List::nil_from_length, crate::proofs::Children::no_children))]
     fn root_alone(&self) -> Option<FlameGraph>
         ensures { IfSome result (λ root. root ≡ self.now) }
     {
@@ -207,7 +238,7 @@ impl FlameGraph {
     // Adds another graph when the totals are known to fit. It is inlined, so that a level of the walk takes less of the
     // stack.
     #[cycle(merge)]
-    #[tactic(auto, using(crate::proofs::NodeAdded::total_of_both, crate::proofs::NodeAdded::merged_node))]
+    #[tactic(auto, using(crate::proofs::Nodes::total_of_both, crate::proofs::Nodes::merged_node))]
     #[inline(always)]
     fn merge(&mut self, other: FlameGraph) -> Result<(), AllocError>
         requires { total self.old + total other < 2 ^ 64 }
@@ -227,6 +258,88 @@ impl FlameGraph {
             return put_child(&mut self.children, &mut self.children_size, child);
         }
         interleave(&mut self.children, &mut self.children_size, children)
+    }
+
+    /// The size of the root alone, in bytes.
+    #[tactic(auto, using(crate::proofs::Nodes::own_of_node))]
+    pub fn self_size(&self) -> usize
+        ensures { result ≡ size_at self.now [] }
+    {
+        self.node_size
+    }
+
+    /// The children of the root, in the order of their keys. No two have the same key. Together with the root's
+    /// own size they are the whole graph. Each child has fewer paths, so a function may call itself on it.
+    #[tactic(auto, using(crate::proofs::Nodes::own_of_node))]
+    pub fn children(&self) -> &[Child]
+        ensures whole { self.now ≡ node (size_at self.now []) result.now }
+        ensures children { AreChildren result.now }
+        ensures smaller { AllSmaller result.now self.now }
+    {
+        self.children.as_slice()
+    }
+
+    /// The graph at a path, whose root is that path. It returns `None` exactly if the graph has no such path.
+    pub fn get(&self, path: &[&str]) -> Option<&FlameGraph>
+        ensures found { IfSome result (λ found. IsBehind self.now (texts path.now) found.now) }
+        ensures missing { IfNone result (HasNothing self.now (texts path.now)) }
+    {
+        let children = self.children.as_slice();
+        let Some((key, rest)) = path.split_first() else {
+            return Some(self);
+        };
+        let Ok(place) = place_by_halving(children, key) else {
+            return None;
+        };
+        children[place].graph.get(rest)
+    }
+
+    /// The size at a path, in bytes; 0 if the graph has no such path.
+    pub fn size_at(&self, path: &[&str]) -> usize
+        ensures { result ≡ size_at self.now (texts path.now) }
+    {
+        self.get(path).map_or(0, FlameGraph::self_size)
+    }
+
+    /// The bytes of a path and of all paths below it; 0 if the graph has no such path.
+    pub fn total_at(&self, path: &[&str]) -> usize
+        ensures { result ≡ total_at self.now (texts path.now) }
+    {
+        self.get(path).map_or(0, FlameGraph::total_size)
+    }
+
+    /// All paths with their sizes, in the order of paths. The root comes first, each path comes before those below
+    /// it, and the paths below one path come in the order of their keys.
+    ///
+    /// It returns an error only when memory runs out.
+    pub fn rows(&self) -> Result<Vec<Row>, Refusal>
+        ensures rows { IfOk result (λ rows. map row_figures rows.items ≡ figures self.now) }
+        ensures memory { IfErr result (λ r. r ≡ Refusal.Memory) }
+    {
+        let alloc = *self.children.allocator();
+        let mut path: Vec<&'static str> = Vec::new(alloc);
+        let mut rows = Vec::new(alloc);
+        self.push_rows(&mut path, &mut rows)?;
+        Ok(rows)
+    }
+
+    // Appends the rows of all paths, each after the given keys.
+    fn push_rows(&self, path: &mut Vec<&'static str>, rows: &mut Vec<Row>) -> Result<(), AllocError>
+        ensures path { OnOk result (path.new.items ≡ path.old.items) }
+        ensures rows { OnOk result (map row_figures rows.new.items
+            ≡ map row_figures rows.old.items ++ figures_behind (texts path.old.items) self.now) }
+    {
+        rows.push(Row {
+            path: path.clone()?,
+            self_size: self.node_size,
+            total_size: self.total_size(),
+        })?;
+        for child in &self.children {
+            path.push(child.key.as_str())?;
+            child.graph.push_rows(path, rows)?;
+            path.pop();
+        }
+        Ok(())
     }
 
     /// The collapsed stacks that `flamegraph.pl` reads: one line for each path but the root with a size other
@@ -253,7 +366,7 @@ impl FlameGraph {
     fn write_lines(&self, start: &mut String, text: &mut String) -> Result<(), AllocError>
         ensures start { OnOk result (string_bytes start.new ≡ string_bytes start.old) }
         ensures text { OnOk result (AppendsText text.old text.new
-            (lines_from (string_bytes start.old) (map.entries self.now))) }
+            (lines_from (string_bytes start.old) (entries self.now))) }
     {
         push_line(start.as_str(), self.node_size, text)?;
         let length = start.len();
@@ -291,8 +404,24 @@ impl Clone for FlameGraph {
     }
 }
 
+/// Adds a child after all others, with no search for its place. All other paths stay as they are.
+///
+/// It requires that each key below the root comes before `key`, and that the sum of the two totals is at most
+/// `usize::MAX`. It returns an error only when memory runs out; then the graph is unchanged, and `child` is dropped.
+pub fn push_child(graph: &mut FlameGraph, key: Key, child: FlameGraph) -> Result<(), AllocError>
+    requires last { ComesLast graph.old key }
+    requires fits { total graph.old + total child < 2 ^ 64 }
+    ensures sum { OnOk result (graph.new ≡ sum_of graph.old (under key child)) }
+    ensures unchanged { OnErr result (graph.new ≡ graph.old) }
+{
+    let added = child.total_size();
+    graph.children.push(Child { key, graph: child })?;
+    graph.children_size += added;
+    Ok(())
+}
+
 // Appends the line of a path with a size other than 0.
-#[tactic(auto, using(crate::proofs::NodeText::line_of_some, crate::proofs::NodeText::line_of_none))]
+#[tactic(auto, using(crate::proofs::Text::line_of_some, crate::proofs::Text::line_of_none))]
 fn push_line(path: &str, size: usize, text: &mut String) -> Result<(), AllocError>
     ensures { OnOk result (AppendsText text.old text.new (line_from path.now ([], size))) }
 {
@@ -309,7 +438,7 @@ fn push_line(path: &str, size: usize, text: &mut String) -> Result<(), AllocErro
 
 /// Appends the keys to the text, with `;` between them. It returns an error only when memory runs out, and then the
 /// text is as it was.
-#[tactic(auto, using(crate::proofs::NodeText::joined_by_semicolons))]
+#[tactic(auto, using(crate::proofs::Text::joined_by_semicolons))]
 pub fn push_path(keys: &[&str], text: &mut String) -> Result<(), AllocError>
     ensures { MatchResult result
         (λ _. AppendsText text.old text.new (joined (texts keys.now)))
@@ -352,7 +481,7 @@ fn place_by_halving(children: &[Child], key: &str) -> Result<usize, usize>
 
 // Adds a child: to the child with its key, or at its place among the others.
 #[cycle(merge)]
-#[tactic(auto, using(crate::proofs::ChildMerged::total_at_gap))]
+#[tactic(auto, using(crate::proofs::Children::total_at_gap))]
 fn put_child(children: &mut Vec<Child>, size: &mut usize, child: Child) -> Result<(), AllocError>
     requires children { AreChildren children.old.items }
     requires size { size.old ≡ total_of children.old.items }
@@ -398,7 +527,7 @@ fn put_at(children: &mut Vec<Child>, at: usize, child: Child) -> Result<(), Allo
 // call of its own, so that a merge of one child takes less of the stack.
 #[inline(never)]
 #[cycle(merge)]
-#[tactic(auto, using(crate::proofs::ChildMerged::not_merged))]
+#[tactic(auto, using(crate::proofs::Children::not_merged))]
 fn interleave(
     children: &mut Vec<Child>,
     size: &mut usize,
@@ -461,4 +590,35 @@ fn fronts(mine: &VecDeque<Child>, theirs: &VecDeque<Child>) -> Option<Ordering>
         (None, Some(_)) => Some(Ordering::Greater),
         (Some(left), Some(right)) => Some(left.key.cmp(&right.key)),
     }
+}
+
+// The sum of the totals of some children, or `None` if it does not fit.
+#[tactic(auto, using(std::proofs::Common::take_all))]
+fn total_size_of(children: &[Child]) -> Option<usize>
+    ensures { SomeIff result (total_of children.now < 2 ^ 64) (total_of children.now) }
+{
+    let mut sum: usize = 0;
+    for child in children {
+        sum = sum.checked_add(child.graph.total_size())?;
+    }
+    Some(sum)
+}
+
+// A graph that has only the children. They are added in the order of their keys, so that each is put at the end.
+#[tactic(auto, using(std::proofs::lemmas::List::nil_from_length, crate::proofs::Graphs::all_permuted))]
+fn gather(alloc: Global, children: Vec<Child>) -> Result<FlameGraph, AllocError>
+    requires { total_of children.items < 2 ^ 64 }
+    ensures { IfOk result (λ graph. graph ≡ sum_of_all default children.items) }
+{
+    let mut sorted = children;
+    sorted.sort_by(|left: &Child, right: &Child| left.key.cmp(&right.key))?;
+    let mut waiting = VecDeque::from(sorted);
+    let mut graph = FlameGraph::default(alloc);
+    while let Some(child) = waiting.pop_front() {
+        // The totals fit, so the only error is that memory runs out.
+        if graph.add_child(child.key, child.graph).is_err() {
+            return Err(AllocError);
+        }
+    }
+    Ok(graph)
 }

@@ -1,13 +1,12 @@
 //! Keys: static texts.
-ghost use Rattle.std.specs.Prelude.{◌≡◌, List, ℕ, Some, ◌==◌};
+ghost use Rattle.std.specs.Prelude.{◌≡◌, List, ℕ, Some, ◌==◌, nat_eq};
 ghost use Rattle.std.proofs.Common.{rules};
 ghost use Rattle.std.specs.Cmp.Rules.{comparing, hashing};
 ghost use Rattle.std.specs.Ordering.{nat_cmp};
 ghost use Rattle.std.specs.Cmp.Lexicographic.{pointwise, slice_cmp, nat_list_eq_equiv, nat_list_cmp_total, texts_ties, texts_po};
 ghost use Rattle.std.specs.Cmp.{partial_equiv_from_equiv};
-ghost use Rattle.std.specs.Prelude.{nat_eq};
 ghost use Rattle.std.specs.Hash as fed;
-ghost use Rattle.allocative_graph.specs.Fnv.{fnv};
+ghost use Rattle.allocative_graph.specs.Path.{fnv};
 
 use crate::static_text::StaticText;
 use allocative_described::Described;

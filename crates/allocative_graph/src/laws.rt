@@ -1,4 +1,6 @@
 //! The laws of the definitions. Each is a function without parameters, whose contract is the law.
+#![tactic(auto, using(crate::proofs::LawsHold::laws))]
+
 ghost use Rattle.allocative_graph.specs.Laws.{OrderLaw, MeaningLaw, MergeLaw, TextLaw, SumsLaw, PlusLaw, SharedLaw, PathOrderLaw, GraphSumsLaw, GraphLaw, ExactLaw, ReadLaw};
 ghost use Rattle.allocative_graph.specs.Owned.{OwnedLaw};
 ghost use Rattle.allocative_graph.specs.WorkedExamples.{WorkedExamples};

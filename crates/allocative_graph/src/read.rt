@@ -5,7 +5,7 @@ ghost use Rattle.std.specs.Str.Parse.{IsNumeral};
 ghost use Rattle.allocative_graph.specs.Graph.{default};
 ghost use Rattle.allocative_graph.specs.declared.read.ReadFault.TheVariants.{Memory};
 ghost use Rattle.allocative_graph.specs.Read.{line_stack, IsStack, IsWrong, SaysStacks, IsRead, Exceeds, ReadsBack, TellsFault};
-ghost use Rattle.allocative_graph.specs.Representation.PathRows.{sum_of_stacks};
+ghost use Rattle.allocative_graph.specs.Representation.Children.{sum_of_stacks};
 
 use crate::flamegraph::{FlameGraph, add_at};
 use std::alloc::{AllocError, AllocFailed, Global};
@@ -108,7 +108,7 @@ fn is_numeral(text: &str) -> bool
 }
 
 // Reads one line.
-#[tactic(auto, using(crate::proofs::ReadLines::no_space))]
+#[tactic(auto, using(crate::proofs::ReadBack::no_space))]
 fn read_line(line: &'static str) -> Result<Line, LineFault>
     ensures ok { IfOk result (λ read. IsStack line.now (line_stack read)) }
     ensures wrong { IfErr result (λ w. IsWrong w line.now) }

@@ -1,7 +1,7 @@
 //! Shared values, each with an identity that its clones keep.
 ghost use Rattle.std.specs.Prelude.{◌≡◌, Some};
 ghost use Rattle.std.specs.Option.{option_map, option_and_then};
-ghost use Rattle.allocative_graph.specs.Shared.{number_after};
+ghost use Rattle.allocative_graph.specs.Identity.{number_after};
 
 use std::marker::Model;
 
@@ -80,7 +80,7 @@ pub struct IdMaker {
 }
 
 impl Model for IdMaker {
-    ghost use Rattle.allocative_graph.specs.Shared as specs;
+    ghost use Rattle.allocative_graph.specs.Identity as specs;
 
     ghost Value = { specs.Maker };
 

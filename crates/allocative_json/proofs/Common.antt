@@ -2,7 +2,7 @@
 pub use Rattle.std.specs.BTreeSet.{BTreeSet, contains}
 pub use Rattle.std.specs.Map.Iter.{deref_pair}
 pub use Rattle.std.specs.Ordering.{int_cmp}
-pub use Rattle.allocative.specs.Report.{after_last}
+pub use Rattle.allocative.specs.Graph.{after_last}
 pub use Rattle.allocative.specs.Shows.{Showing}
 pub use Rattle.serde_json.specs.View.{items_view, members_view, view}
 pub use Rattle.serde_json.specs.declared.value.Value.{Value}

@@ -5,12 +5,12 @@ use Rattle.allocative_json.proofs.Common.{view, Value}
 use Rattle.std.proofs.lemmas.List.Folds.{fold-map}
 use Rattle.std.proofs.lemmas.List.Sums.{sum_by_more_le}
 use Rattle.allocative_graph.specs.Graph.{Graph, default, add_self, under, total}
-use Rattle.allocative_graph.specs.Many.{sum_of_all}
+use Rattle.allocative_graph.specs.Rows.{sum_of_all}
 use Rattle.allocative_graph.specs.declared.flamegraph.Child.{Child}
 use Rattle.allocative_graph.specs.declared.refusal.Refusal.{Refusal}
 use Rattle.allocative_graph.specs.declared.refusal.Refusal.TheVariants as refused
 use Rattle.allocative_graph.proofs.Graphs.{total-add_at, total-sum_of, total-under}
-use Rattle.allocative_graph.proofs.Gathered.{total-default, total-all}
+use Rattle.allocative_graph.proofs.Graphs.{total-default, total-all}
 use Rattle.allocative_json.specs.declared.fault.Fault.{Fault}
 use Rattle.allocative_json.specs.declared.fault.Fault.TheVariants.{Memory, NotJson, TooLarge, Reading}
 use Rattle.allocative_json.specs.Fault.{fault_of}

@@ -6,7 +6,7 @@ use Rattle.allocative_json.proofs.Common.{after_last, kept_lines}
 use Rattle.std.specs.Str.Pattern.{RFindsChar}
 use Rattle.std.proofs.lemmas.Str.Pattern.{NoCharPasses-char, drop_at_char, IsSplitOnceResult, split_parts}
 use Rattle.allocative.specs.Graph.{Lacks}
-use Rattle.allocative.specs.Report.{lines_from, before_last}
+use Rattle.allocative.specs.Graph.{lines_from, before_last}
 use Rattle.allocative_json.specs.Lines.{kept_line}
 
 -- Bytes of which none is c lack c.

@@ -10,7 +10,7 @@ use Rattle.serde_json.specs.View.{view}
 use Rattle.serde_json.specs.declared.value.Value.{Value, fold-Value}
 use Rattle.serde_json.specs.declared.value.Value.TheOpen.{Value-F}
 use Rattle.allocative_graph.specs.Graph.{Graph, default, add_self, sum_of, under, text, total}
-use Rattle.allocative_graph.specs.Many.{sum_of_all}
+use Rattle.allocative_graph.specs.Rows.{sum_of_all}
 use Rattle.allocative_graph.specs.declared.flamegraph.Child.{Child}
 use Rattle.allocative_graph.specs.declared.refusal.Refusal.{Refusal}
 use Rattle.allocative_graph.specs.declared.refusal.Refusal.TheVariants as refused

@@ -2,7 +2,7 @@
 use Rattle.std.specs.Prelude.{ℕ, cond, Bool, true, false, List, [], ◌∷◌, ◌++◌, codes}
 use Rattle.std.specs.Ordering.{eq_by_cmp}
 use Rattle.allocative.specs.Path.{key_cmp}
-use Rattle.allocative.specs.Report.{last_key, without_lines}
+use Rattle.allocative.specs.Graph.{last_key, without_lines}
 
 -- A line with its line feed, or nothing if its last key is `unused_capacity`.
 abbrev pub kept_line : List ℕ → List ℕ

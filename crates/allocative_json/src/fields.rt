@@ -1,6 +1,6 @@
 //! The fields of a JSON document: a flame graph with the bytes that the values at each path declare.
 ghost use Rattle.std.specs.Prelude.{◌≡◌, IfOk, IfErr, MatchResult, map, length, string_bytes, vec_capacity};
-ghost use Rattle.allocative_graph.specs.Many.{sum_of_all};
+ghost use Rattle.allocative_graph.specs.Rows.{sum_of_all};
 ghost use Rattle.allocative_json.specs.Fields.{bytes_alone, array_bytes, item_of, member_below, member_of, fields_of, document_fields, RefusesGraph, Makes, AreFields, RefusesFields};
 
 use crate::fault::Fault;

@@ -1,6 +1,6 @@
 //! The texts that a run writes.
 ghost use Rattle.std.specs.Prelude.{◌≡◌, ◌++◌, OnOk, IfOk, MatchResult, string_bytes};
-ghost use Rattle.allocative.specs.Report.{last_key};
+ghost use Rattle.allocative.specs.Graph.{last_key};
 ghost use Rattle.allocative_json.specs.Lines.{kept_line, kept_lines};
 ghost use Rattle.allocative_json.specs.Profile.{AreTexts};
 

@@ -7,7 +7,7 @@ pub use Rattle.std.specs.declared.cmp.Ordering.TheVariants.{Equal, Greater, Less
 pub use Rattle.allocative_graph.specs.Graph.{Graph, total, total_at}
 pub use Rattle.allocative_graph.specs.Path.{Path, is_same_path, key_cmp, path_cmp}
 pub use Rattle.allocative_graph.specs.Rows.{Figures, figures_behind}
-pub use Rattle.allocative_graph.specs.Many.{total_of}
+pub use Rattle.allocative_graph.specs.Rows.{total_of}
 pub use Rattle.allocative_graph.specs.declared.flamegraph.Child.{Child}
 pub use Rattle.allocative_picture.specs.Boxes.{is_drawn}
 pub use Rattle.allocative_picture.specs.Escape.{escaped_char}

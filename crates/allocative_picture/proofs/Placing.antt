@@ -9,7 +9,7 @@ use Rattle.std.specs.Cmp.{tied_itself}
 use Rattle.allocative_graph.specs.Rows.{figures}
 use Rattle.allocative_graph.specs.Representation.NodeRows.{first, second}
 use Rattle.allocative_graph.proofs.Basics.{path_total}
-use Rattle.allocative_graph.proofs.Below.{is_lt-Less}
+use Rattle.allocative_graph.proofs.Sums.{is_lt-Less}
 use Rattle.allocative_picture.specs.Frames.{frames_of}
 
 -- Paths with their sizes.

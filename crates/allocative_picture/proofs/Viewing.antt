@@ -7,16 +7,16 @@ use Rattle.std.proofs.lemmas.List.Folds.{fold-map}
 use Rattle.std.proofs.lemmas.List.Sums.{fold-append, get_or-le-sum_by}
 use Rattle.allocative_graph.specs.Path.{Key}
 use Rattle.allocative_graph.specs.Graph.{default, size_at, sum_of, under}
-use Rattle.allocative_graph.specs.Many.{sum_of_all}
-use Rattle.allocative_graph.specs.Report.{ends_in}
+use Rattle.allocative_graph.specs.Rows.{sum_of_all}
+use Rattle.allocative_graph.specs.Graph.{ends_in}
 use Rattle.allocative_graph.specs.Rows.{Figures, figures, row_figures}
-use Rattle.allocative_graph.specs.declared.flamegraph.rows.Row.{Row}
-use Rattle.allocative_graph.proofs.NodeText.{texts}
-use Rattle.allocative_graph.proofs.ChildRows.{total_of-cons}
-use Rattle.allocative_graph.proofs.Gathered.{total-default, total-added_up, size_at-added_up, total-all}
+use Rattle.allocative_graph.specs.declared.flamegraph.Row.{Row}
+use Rattle.allocative_graph.proofs.Text.{texts}
+use Rattle.allocative_graph.proofs.Children.{total_of-cons}
+use Rattle.allocative_graph.proofs.Graphs.{total-default, total-added_up, size_at-added_up, total-all}
 use Rattle.allocative_graph.proofs.Graphs.{size_at-default, size_at-sum_of, total-sum_of, total-under, get-under}
-use Rattle.allocative_graph.proofs.NodeSizes.{total-node}
-use Rattle.allocative_graph.proofs.OnePath.{total-path}
+use Rattle.allocative_graph.proofs.Children.{total-node}
+use Rattle.allocative_graph.proofs.Nodes.{total-path}
 use Rattle.allocative_graph.proofs.StackSums.{size_at-path}
 use Rattle.allocative_picture.specs.Views.{bytes_alone, bytes_at_last_key, by_last_key, bytes_ending_in, joined}
 use Rattle.allocative_picture.specs.Table.{IsWord, table_line}

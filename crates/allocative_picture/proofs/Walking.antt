@@ -10,9 +10,9 @@ use Rattle.std.specs.FinMap.{len-entries}
 use Rattle.allocative_graph.specs.Rows.{node, rows_of}
 use Rattle.allocative_graph.specs.Representation.Children.{InOrder}
 use Rattle.allocative_graph.specs.Representation.NodeRows.{len-child}
-use Rattle.allocative_graph.proofs.ChildRows.{rows-more, total_of-rows}
-use Rattle.allocative_graph.proofs.NodeText.{texts}
-use Rattle.allocative_graph.proofs.Rows.{child_read, figured, node_read}
+use Rattle.allocative_graph.proofs.Children.{rows-more, total_of-rows}
+use Rattle.allocative_graph.proofs.Text.{texts}
+use Rattle.allocative_graph.proofs.Behind.{child_read, figured, node_read}
 use Rattle.allocative_picture.specs.Frames as picture
 use Rattle.allocative_picture.proofs.Placing.{own_bytes, own-cons}
 

@@ -5,7 +5,7 @@ use Rattle.allocative_picture.proofs.Common.{Path, is_same_path, Graph}
 use Rattle.std.specs.List.{list_any}
 use Rattle.std.proofs.lemmas.List.Sums.{sum_by-cons, sum_by_push}
 use Rattle.allocative_graph.specs.Graph.{Warned, size_at, sum_of}
-use Rattle.allocative_graph.specs.Representation.PathRows.{graph_of_path}
+use Rattle.allocative_graph.specs.Representation.Children.{graph_of_path}
 use Rattle.allocative_graph.proofs.Basics.{path_total}
 use Rattle.allocative_graph.proofs.Graphs.{size_at-sum_of}
 use Rattle.allocative_graph.proofs.StackSums.{size_at-path}

@@ -4,7 +4,7 @@ use Rattle.std.specs.Prelude.{◌∷◌, ◌++◌, codes, decimal}
 use Rattle.std.specs.List.{concat}
 use Rattle.std.specs.Str.{bytes_eq}
 use Rattle.allocative_graph.specs.Path.{Key}
-use Rattle.allocative_graph.specs.Fnv.{fnv}
+use Rattle.allocative_graph.specs.Path.{fnv}
 use Rattle.allocative_picture.specs.Escape.{escaped}
 use Rattle.allocative_picture.specs.Figures.{is_bytes, amount_text, full_text, percent_text, place_text}
 use Rattle.allocative_picture.specs.Frames.{FrameData}

@@ -1,7 +1,7 @@
 -- The heaviest paths of a graph as a text.
 use Rattle.std.specs.Prelude.{◌≡◌, ℕ, ◌-◌, ◌^◌, ◌<◌, ◌≤◌, ◌==◌, cond, List, [], ◌∷◌, ◌++◌, flat_map, codes, decimal}
 use Rattle.std.specs.Prelude.{take, AllPairs, IsPermutation}
-use Rattle.allocative_graph.specs.declared.flamegraph.rows.Row.{Row}
+use Rattle.allocative_graph.specs.declared.flamegraph.Row.{Row}
 use Rattle.allocative_graph.specs.Graph.{Graph, joined, total}
 use Rattle.allocative_graph.specs.Rows.{Figures, figures}
 use Rattle.allocative_picture.specs.Boxes.{edge}

@@ -3,8 +3,8 @@ use Rattle.std.specs.Prelude.{◌≡◌, ℕ, zero, suc, ◌<◌, ◌≤◌, ◌
 use Rattle.std.specs.FinMap.{entries}
 use Rattle.allocative_graph.specs.Path.{Key, Path}
 use Rattle.allocative_graph.specs.Graph.{Graph, default, add_self, sum_of, under, total, size_at, IsBehind, HasNothing}
-use Rattle.allocative_graph.specs.Many.{sum_of_all}
-use Rattle.allocative_graph.specs.Report.{ends_in}
+use Rattle.allocative_graph.specs.Rows.{sum_of_all}
+use Rattle.allocative_graph.specs.Graph.{ends_in}
 use Rattle.allocative_graph.specs.Rows.{node, AreChildren}
 use Rattle.allocative_graph.specs.declared.flamegraph.Child.{Child}
 

@@ -10,7 +10,7 @@ use Rattle.std.proofs.lemmas.List.Elements.{filter-append}
 use Rattle.std.specs.FinMap.{entries, get, get-entries, entries_sorted}
 use Rattle.std.specs.FinMap.Entries.{find, is_sorted, below_all}
 use Rattle.allocative.proofs.Basics.{same_path}
-use Rattle.allocative.proofs.Merge.{get-sum_of}
+use Rattle.allocative.proofs.Showings.{get-sum_of}
 use Rattle.allocative.specs.Path.{Path, path_cmp, is_same_path}
 use Rattle.allocative.specs.Graph.{size_at, sum_of}
 use Rattle.allocative_service.specs.Changes.{change_of}

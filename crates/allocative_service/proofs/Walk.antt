@@ -12,7 +12,7 @@ use Rattle.allocative_graph.specs.Rows.{under_rows, rows_of, rows_of_child, node
 use Rattle.allocative_graph.specs.declared.flamegraph.Child.{Child}
 use Rattle.allocative_graph.specs.Representation.Children.{InOrder}
 use Rattle.allocative_graph.specs.Representation.NodeRows.{entries-node}
-use Rattle.allocative_graph.proofs.ChildRows.{rows-more}
+use Rattle.allocative_graph.proofs.Children.{rows-more}
 use Rattle.allocative_service.specs.Changes.{Changed, change_of, changes_of}
 use Rattle.allocative_service.specs.Walk.{size_in, change_behind, changes_behind}
 

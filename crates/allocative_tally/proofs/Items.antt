@@ -4,7 +4,7 @@ use Rattle.std.proofs.Common.{◌∷◌, length, refl, sym, ap, subst, ◌∙◌
 use Rattle.std.proofs.lemmas.List.Sorted.{IsPermutation-refl}
 use Rattle.std.proofs.lemmas.Nat.{mul-le}
 use Rattle.smallvec.specs.SmallVec.{SmallVec, IsSpilled}
-use Rattle.allocative_described.specs.RawTable.{IsRawTableSize}
+use Rattle.allocative_described.specs.Sizes.{IsRawTableSize}
 use Rattle.allocative_described.specs.Sizes.{size_sum, checked, size_max, size_product, size_up}
 use Rattle.allocative_graph.specs.Owned.{direct}
 use Rattle.allocative_graph.proofs.Owned.{direct-following}

@@ -6,11 +6,11 @@ use Rattle.std.proofs.lemmas.List.Sums.{fold-append, sum_by-append}
 use Rattle.allocative_graph.specs.Path.{Path}
 use Rattle.allocative_graph.specs.Forest.{Inline, Unique, Entry, Bag, Mark, AsInline, AsUnique, own_behind}
 use Rattle.allocative_graph.specs.Sums.{Sums, add}
-use Rattle.allocative_graph.specs.Held.{inline_bytes}
+use Rattle.allocative_graph.specs.Owned.{inline_bytes}
 use Rattle.allocative_graph.specs.Owned.{direct, owned}
 use Rattle.allocative_graph.proofs.Basics.{same_path_itself}
-use Rattle.allocative_graph.proofs.Lookups.{add_all-same, get-add, same_sums}
-use Rattle.allocative_graph.proofs.Following.{own-following}
+use Rattle.allocative_graph.proofs.Sums.{add_all-same, get-add, same_sums}
+use Rattle.allocative_graph.proofs.Showings.{own-following}
 use Rattle.allocative_graph.proofs.Owned.{direct-following, owned-following}
 use Rattle.allocative.specs.Strict.{FitsWords}
 use Rattle.allocative.proofs.Strict.{followed_by_assoc}

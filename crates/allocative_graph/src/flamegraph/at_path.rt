@@ -3,10 +3,8 @@ ghost use Rattle.std.specs.Prelude.{◌≡◌, ◌+◌, ◌^◌, ◌<◌, ◌≤
 ghost use Rattle.std.specs.List.{insert};
 ghost use Rattle.allocative_graph.specs.Path.{texts};
 ghost use Rattle.allocative_graph.specs.Graph.{total, sum_of};
-ghost use Rattle.allocative_graph.specs.Rows.{AreChildren};
-ghost use Rattle.allocative_graph.specs.Many.{total_of};
-ghost use Rattle.allocative_graph.specs.Representation.Children.{Merged, child_of_path};
-ghost use Rattle.allocative_graph.specs.Representation.PathRows.{graph_of_path};
+ghost use Rattle.allocative_graph.specs.Rows.{AreChildren, total_of};
+ghost use Rattle.allocative_graph.specs.Representation.Children.{Merged, child_of_path, graph_of_path};
 
 use crate::flamegraph::{Child, FlameGraph, place_of, put_at};
 use crate::key::Key;

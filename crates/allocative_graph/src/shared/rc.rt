@@ -16,7 +16,7 @@ pub struct IdRc<T: Drop> {
 }
 
 impl<T: Drop> Model for IdRc<T> {
-    ghost use Rattle.allocative_graph.specs.Shared as specs;
+    ghost use Rattle.allocative_graph.specs.Identity as specs;
 
     ghost Value = { specs.Shared T };
 

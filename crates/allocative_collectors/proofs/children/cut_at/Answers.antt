@@ -1,8 +1,7 @@
 -- A chunk that is cut in two has its numbers in both.
 use Rattle.std.proofs.Common.{◌≡◌, ◌+◌, suc, List, get_or, set, sym, ap, ◌∙◌, arith}
+use Rattle.allocative_collectors.proofs.Common.{Chunk, numbers_in, flat, chunk_at}
 use Rattle.std.specs.List.{insert}
-use Rattle.allocative_collectors.specs.declared.children.Chunk.{Chunk}
-use Rattle.allocative_collectors.specs.Chunked.{numbers_in, flat, chunk_at}
 use Rattle.allocative_collectors.proofs.Chunks.{chunk_is, kept_in, cut_in}
 use Rattle.allocative_collectors.proofs.children.cut_at.Goals as goal
 use Rattle.allocative_collectors.proofs.children.cut_at.Goals.{After-cut}

@@ -1,7 +1,7 @@
 -- The number is put into its chunk, or becomes a chunk of its own.
 use Rattle.std.proofs.Common.{◌≡◌, ◌<◌, ℕ, List, ◌∷◌, length, sym, ap, ◌∙◌, arith}
+use Rattle.allocative_collectors.proofs.Common.{numbers_in, flat, chunk_at}
 use Rattle.std.specs.List.{insert}
-use Rattle.allocative_collectors.specs.Chunked.{numbers_in, flat, chunk_at}
 use Rattle.allocative_collectors.proofs.Chunks.{chunk_is, kept_in, put_in, put_behind}
 use Rattle.allocative_collectors.proofs.children.insert_in.Goals as goal
 use Rattle.allocative_collectors.proofs.children.insert_in.Goals.{After-index_mut}

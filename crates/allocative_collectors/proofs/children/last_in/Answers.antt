@@ -1,9 +1,8 @@
 -- The last number of the last chunk, and the place behind it.
 use Rattle.std.proofs.Common.{◌≡◌, ◌+◌, ◌-◌, ℕ, suc, Some, length, get_or, sym, ap, ◌∙◌, arith}
+use Rattle.allocative_collectors.proofs.Common.{Chunk, numbers_in, flat, before, chunk_at}
 use Rattle.std.specs.List.{slice_get}
 use Rattle.std.proofs.lemmas.Option.{slice_get-get_or}
-use Rattle.allocative_collectors.specs.declared.children.Chunk.{Chunk}
-use Rattle.allocative_collectors.specs.Chunked.{numbers_in, flat, before, chunk_at}
 use Rattle.allocative_collectors.proofs.Chunks.{chunk_is, in_chunk, before_more, before_all}
 use Rattle.allocative_collectors.proofs.children.last_in.Goals as goal
 use Rattle.allocative_collectors.proofs.children.last_in.Goals.{After-len-index}

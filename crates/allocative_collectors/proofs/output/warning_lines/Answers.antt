@@ -2,8 +2,8 @@
 use Rattle.std.proofs.Common.{◌≡◌, ℕ, ◌+◌, ◌<◌, List, [], ◌∷◌, ◌++◌, map, take, length, get_or, append_assoc, ap, sym}
 use Rattle.std.proofs.Common.{◌∙◌, arith, string_bytes, append-nil}
 use Rattle.allocative_collectors.proofs.Common.{newline, warning_text, WarnedPath, warning_of, warning_lines}
-use Rattle.std.proofs.lemmas.List.{take_more, map-append}
-use Rattle.std.proofs.lemmas.Grind.{flat_map-append}
+use Rattle.allocative_collectors.proofs.Common.{map-append, flat_map-append}
+use Rattle.std.proofs.lemmas.List.{take_more}
 use Rattle.allocative_collectors.proofs.output.warning_lines.Goals as goal
 
 -- If a text has the lines of the first i warnings, the next warning and a line feed make it those of i + 1.

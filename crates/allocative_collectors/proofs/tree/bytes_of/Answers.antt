@@ -1,8 +1,7 @@
 -- Each node has its bytes in the sum.
 use Rattle.std.proofs.Common.{◌≡◌, get_or, map, ap, arith}
-use Rattle.std.proofs.lemmas.List.{get_or-map}
 use Rattle.std.proofs.lemmas.List.Sums.{sum_by_more, sum_by_more_le}
-use Rattle.allocative_collectors.proofs.Common.{Shape, bytes_at, no_shape, shape}
+use Rattle.allocative_collectors.proofs.Common.{Shape, bytes_at, no_shape, shape, get_or-map}
 use Rattle.allocative_collectors.proofs.tree.bytes_of.Goals as goal
 use Rattle.allocative_collectors.proofs.tree.bytes_of.Goals.{After-index-nodes-number}
 

@@ -1,9 +1,7 @@
 -- The place is that of a number, whose key and the one before tell.
 use Rattle.std.proofs.Common.{◌<◌, ◌+◌, length, map, refl, sym, ap, arith}
 use Rattle.std.proofs.lemmas.Option.{slice_get_within}
-use Rattle.allocative_collectors.proofs.Common.{key_at, shape}
-use Rattle.allocative_collectors.specs.declared.children.Chunk.{Chunk}
-use Rattle.allocative_collectors.specs.Chunked.{numbers_in, before}
+use Rattle.allocative_collectors.proofs.Common.{key_at, shape, Chunk, numbers_in, before}
 use Rattle.allocative_collectors.proofs.Keys.{key_same}
 use Rattle.allocative_collectors.proofs.Chunks.{chunk_is, number_read, gap_at}
 use Rattle.allocative_collectors.proofs.tree.find_at.Goals as goal

@@ -1,8 +1,7 @@
 -- A key above that of the last number is above all.
 use Rattle.std.proofs.Common.{map, sym, ap, subst, ◌∙◌}
-use Rattle.allocative_collectors.proofs.Common.{is_lt, key_at, shape, IsKeyGap}
-use Rattle.allocative_collectors.specs.Chunked.{flat}
-use Rattle.allocative_collectors.proofs.Searched.{behind_last}
+use Rattle.allocative_collectors.proofs.Common.{is_lt, key_at, shape, IsKeyGap, flat}
+use Rattle.allocative_collectors.proofs.Chunks.{behind_last}
 use Rattle.allocative_collectors.proofs.tree.find_in_chunks.Goals as goal
 
 pub returns-clause-absent : goal.returns-clause-absent

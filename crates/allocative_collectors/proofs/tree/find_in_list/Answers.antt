@@ -1,7 +1,7 @@
 -- A key above that of the last number is above all.
 use Rattle.std.proofs.Common.{map, sym, ap, ◌∙◌}
 use Rattle.allocative_collectors.proofs.Common.{is_lt, key_at, shape}
-use Rattle.allocative_collectors.proofs.Searched.{behind_last}
+use Rattle.allocative_collectors.proofs.Chunks.{behind_last}
 use Rattle.allocative_collectors.proofs.tree.find_in_list.Goals as goal
 
 pub returns-clause-absent : goal.returns-clause-absent

@@ -1,13 +1,10 @@
 -- First the chunk is found, and then the number in it.
 use Rattle.std.proofs.Common.{◌≡◌, ◌≢◌, ◌+◌, ◌-◌, ◌<◌, ℕ, suc, List, [], length, get_or, map, Ok, Err, sym, ap, subst}
 use Rattle.std.proofs.Common.{◌∙◌, arith, rules}
-use Rattle.std.proofs.lemmas.Fn.{always_returns_same}
-use Rattle.std.proofs.lemmas.List.{get_or-map, length-map}
-use Rattle.allocative_collectors.proofs.Common.{key_cmp, key_at, shape, IsKeyGap, KeysRise}
-use Rattle.allocative_collectors.specs.declared.children.Chunk.{Chunk}
-use Rattle.allocative_collectors.specs.Chunked.{flat, before}
-use Rattle.allocative_collectors.proofs.Searched.{searched}
-use Rattle.allocative_collectors.proofs.Chunks.{chunk_is, in_chunk, firsts_rise, rest_rises, gap_at_start, gap_in_chunk}
+use Rattle.allocative_collectors.proofs.Common.{key_cmp, key_at, shape, IsKeyGap, KeysRise, always_returns_same}
+use Rattle.allocative_collectors.proofs.Common.{get_or-map, length-map, Chunk, flat, before}
+use Rattle.allocative_collectors.proofs.Chunks.{searched, chunk_is, in_chunk, firsts_rise, rest_rises, gap_at_start}
+use Rattle.allocative_collectors.proofs.Chunks.{gap_in_chunk}
 use Rattle.allocative_collectors.proofs.tree.search_chunks.Goals as goal
 use Rattle.allocative_collectors.proofs.tree.search_chunks.Goals.{In-Err, After-as_slice}
 

@@ -1,9 +1,7 @@
 -- What the search finds among the keys of the numbers.
 use Rattle.std.proofs.Common.{ℕ, [], map, Ok, Err, refl, sym, ◌∙◌, rules}
-use Rattle.std.proofs.lemmas.Fn.{always_returns_same}
-use Rattle.std.proofs.lemmas.List.{get_or-map}
-use Rattle.allocative_collectors.proofs.Common.{key_cmp, key_at, shape}
-use Rattle.allocative_collectors.proofs.Searched.{searched}
+use Rattle.allocative_collectors.proofs.Common.{key_cmp, key_at, shape, always_returns_same, get_or-map}
+use Rattle.allocative_collectors.proofs.Chunks.{searched}
 use Rattle.allocative_collectors.proofs.tree.search_list.Goals as goal
 
 pub returns-in-Ok-clause-found : goal.returns-in-Ok-clause-found

@@ -1,6 +1,6 @@
 -- of least_power_of_two: the result
 use Rattle.std.proofs.Common.{arith}
-use Rattle.allocative_described.proofs.Powers.{power_answered}
+use Rattle.allocative_described.proofs.Sizes.{power_answered}
 use Rattle.allocative_described.proofs.raw_table.least_power_of_two.Goals as goal
 
 pub returns : goal.returns

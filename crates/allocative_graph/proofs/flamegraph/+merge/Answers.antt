@@ -1,11 +1,10 @@
 -- of merge, interleave, take_next and put_child: what they merge, and that sizes fit
 use Rattle.std.proofs.Common.{◌≡◌, rules, [], Some, refl, sym, ap, ◌∙◌, arith, is_ok}
-use Rattle.std.proofs.lemmas.List.Sums.{sum_by_push}
-use Rattle.allocative_graph.proofs.Common.{Child, nil_from_length, total, total_of}
-use Rattle.allocative_graph.proofs.ChildMerged.{merges_then, merges_all, is_ok-and, merged_same, next_less, next_greater}
-use Rattle.allocative_graph.proofs.ChildMerged.{next_equal, both_fit, rows_fit, front_is, one_of_length, put_at_found}
-use Rattle.allocative_graph.proofs.ChildMerged.{totals_found, put_at_gap}
-use Rattle.allocative_graph.proofs.NodeAdded.{len_of_node, total_of_both, merged_node, merged_graph, child_of_one}
+use Rattle.allocative_graph.proofs.Common.{Child, nil_from_length, total, total_of, sum_by_push}
+use Rattle.allocative_graph.proofs.Children.{merges_then, merges_all, is_ok-and, merged_same, next_less, next_greater}
+use Rattle.allocative_graph.proofs.Children.{next_equal, both_fit, rows_fit, front_is, one_of_length, put_at_found}
+use Rattle.allocative_graph.proofs.Children.{totals_found, put_at_gap}
+use Rattle.allocative_graph.proofs.Nodes.{len_of_node, total_of_both, merged_node, merged_graph, child_of_one}
 use Rattle.allocative_graph.proofs.flamegraph.+merge.Goals as goal
 
 pub FlameGraph::merge-returns-in_default : goal.FlameGraph::merge-returns-in_default
@@ -56,7 +55,7 @@ interleave-loop-child-preserved t c =
       merged = merges_then c.loop-child.invariant.merged c.in-Some.ensures.next
           (ap (λ r. is_ok r) c.and-result.ensures ∙ is_ok-and c.loop-child.result c.in-Some.added) c.in-Ok.ensures.items;
       size = omega (arith, c.loop-child.invariant.size, c.total_size.ensures.total, ap total_of c.in-Ok.ensures.items, sum_by_push (λ (d : Child). total d.graph) c.loop-child.children.items c.in-Some.child);
-      has_room = omega (arith, c.loop-child.invariant.has_room, c.in-Ok.ensures.capacity);
+      capacity = omega (arith, c.loop-child.invariant.capacity, c.in-Ok.ensures.capacity);
     }
 
 pub interleave-returns-clause-merged : goal.interleave-returns-clause-merged

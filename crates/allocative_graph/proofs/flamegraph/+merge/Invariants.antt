@@ -1,7 +1,6 @@
 -- of merge, interleave, take_next and put_child: how far they still have to go, and what the loop keeps
 use Rattle.std.proofs.Common.{◌≡◌, ◌+◌, ◌*◌, ◌≤◌, length, is_ok}
-use Rattle.allocative_graph.proofs.Common.{vec_capacity, len, rows_of, total_of}
-use Rattle.allocative_graph.specs.Representation.Children.{MergesFirst}
+use Rattle.allocative_graph.proofs.Common.{vec_capacity, len, rows_of, total_of, MergesFirst}
 use Rattle.allocative_graph.proofs.flamegraph.+merge.Given as goal
 
 -- A graph has more rows than its children.
@@ -20,11 +19,11 @@ decreases-put_child l = 3 * len l.child.graph + 1
 abbrev pub decreases-interleave-loop-child : goal.decreases-interleave-loop-child
 decreases-interleave-loop-child l = length l.mine.items + length l.theirs.items
 
--- What was taken from both lists is merged. There is room for what remains.
+-- What was taken from both lists is merged. The capacity serves what remains.
 abbrev pub invariant-interleave-loop-child : goal.invariant-interleave-loop-child
 invariant-interleave-loop-child l = record {
   merged : MergesFirst (is_ok l.result) l.fn.children.items l.fn.theirs.items l.children.items l.mine.items
       l.theirs.items;
   size : l.size ≡ total_of l.children.items;
-  has_room : length l.fn.children.items + length l.fn.theirs.items ≤ vec_capacity l.children;
+  capacity : length l.fn.children.items + length l.fn.theirs.items ≤ vec_capacity l.children;
 }

@@ -1,8 +1,7 @@
 -- If the last key is below the key, all keys are.
 use Rattle.std.proofs.Common.{◌≡◌, sym, ap, subst, ◌∙◌}
-use Rattle.std.proofs.lemmas.Map.Lookups.{exact_bytes}
-use Rattle.allocative_graph.proofs.Common.{Less, Child, key_cmp}
-use Rattle.allocative_graph.proofs.ChildOrder.{behind_last, at_last}
+use Rattle.allocative_graph.proofs.Common.{Less, Child, key_cmp, exact_bytes}
+use Rattle.allocative_graph.proofs.Children.{behind_last, at_last}
 use Rattle.allocative_graph.proofs.flamegraph.place_of.Goals as goal
 
 pub returns-in-Less-clause-missing : goal.returns-in-Less-clause-missing

@@ -2,7 +2,7 @@
 use Rattle.std.proofs.Common.{ap}
 use Rattle.allocative_graph.proofs.Common.{graph, text, warnings}
 use Rattle.allocative_graph.specs.Graph.{warned_paths}
-use Rattle.allocative_graph.proofs.Order.{same_reached, same_sums_of, agree_back}
+use Rattle.allocative_graph.proofs.Showings.{same_reached, same_sums_of, agree_back}
 use Rattle.allocative_graph.proofs.laws.order_law.Goals as goal
 
 pub returns : goal.returns

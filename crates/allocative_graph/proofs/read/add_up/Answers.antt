@@ -4,7 +4,7 @@ use Rattle.std.proofs.lemmas.Iterator.Adapters.{fact_from_extend}
 use Rattle.std.proofs.lemmas.Iterator.Consumers.{YieldsList-at}
 use Rattle.allocative_graph.proofs.Common.{YieldsList-from_str_split, Line, Path, sum_of, graph_of_path, take_more}
 use Rattle.allocative_graph.specs.Read.{keys_of}
-use Rattle.allocative_graph.proofs.NodeText.{texts}
+use Rattle.allocative_graph.proofs.Text.{texts}
 use Rattle.allocative_graph.proofs.StackSums.{line_fits, line_more}
 use Rattle.allocative_graph.proofs.read.add_up.Goals as goal
 

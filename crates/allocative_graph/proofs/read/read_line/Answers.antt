@@ -3,7 +3,7 @@ use Rattle.std.proofs.Common.{◌≡◌, length, sym, ◌∙◌, true≢false, a
 use Rattle.allocative_graph.proofs.Common.{YieldsList-from_str_split}
 use Rattle.std.proofs.lemmas.Iterator.Consumers.{count_from_yields_List}
 use Rattle.allocative_graph.specs.Read.{keys_of}
-use Rattle.allocative_graph.proofs.ReadLines.{cut_of, no_path, not_zero, stack_of, too_large, unsigned}
+use Rattle.allocative_graph.proofs.ReadBack.{cut_of, no_path, not_zero, stack_of, too_large, unsigned}
 use Rattle.allocative_graph.proofs.read.read_line.Goals as goal
 
 pub returns-then-is_empty-clause-wrong : goal.returns-then-is_empty-clause-wrong

@@ -3,7 +3,7 @@ use Rattle.std.proofs.Common.{◌≡◌, ◌+◌, length, sym, ◌∙◌, arith,
 use Rattle.std.proofs.lemmas.Iterator.Splits.{YieldsList-from_lines}
 use Rattle.std.proofs.lemmas.Iterator.Consumers.{YieldsList-so_far, YieldsList-turn, YieldsList-end}
 use Rattle.std.proofs.lemmas.List.{length_push}
-use Rattle.allocative_graph.proofs.ReadLines.{lines_fit, read-more, read-blank, fault_at, not_zero}
+use Rattle.allocative_graph.proofs.ReadBack.{lines_fit, read-more, read-blank, fault_at, not_zero}
 use Rattle.allocative_graph.proofs.read.read_lines.Goals as goal
 
 pub returns-in-Err-clause-line : goal.returns-in-Err-clause-line

@@ -3,8 +3,8 @@ use Rattle.std.proofs.Common.{◌≡◌, ◌+◌, length, map, take, ap, ◌∙�
 use Rattle.std.specs.Prelude.{string_capacity, vec_capacity}
 use Rattle.std.proofs.lemmas.Iterator.Consumers.{YieldsList-end, YieldsList-from_rest, YieldsList-turn}
 use Rattle.allocative_graph.specs.Graph.{total}
-use Rattle.allocative_graph.specs.Many.{sum_of_all, total_of}
-use Rattle.allocative_graph.proofs.Gathered.{total-all}
+use Rattle.allocative_graph.specs.Rows.{sum_of_all, total_of}
+use Rattle.allocative_graph.proofs.Graphs.{total-all}
 use Rattle.allocative_json.specs.Fields.{bytes_alone, array_bytes, item_of, member_below, member_of, fields_of}
 use Rattle.allocative_json.proofs.FieldsLemmas.{passed_on, refused_more, refused_sum, start_within, more_within}
 use Rattle.allocative_json.proofs.FieldsLemmas.{total-add_self}

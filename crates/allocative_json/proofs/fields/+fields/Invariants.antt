@@ -2,7 +2,7 @@
 use Rattle.std.proofs.Common.{◌≡◌, length, map, take}
 use Rattle.std.specs.Prelude.{vec_capacity}
 use Rattle.allocative_json.proofs.Common.{deref_pair}
-use Rattle.allocative_graph.specs.Many.{sum_of_all}
+use Rattle.allocative_graph.specs.Rows.{sum_of_all}
 use Rattle.allocative_json.specs.Fields.{bytes_alone, array_bytes, item_of, member_of}
 use Rattle.allocative_json.proofs.fields.+fields.Given as goal
 

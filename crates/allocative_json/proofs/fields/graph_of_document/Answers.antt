@@ -1,7 +1,7 @@
 -- of graph_of_document: an error
 use Rattle.std.proofs.Common.{◌≡◌, ap, arith}
 use Rattle.allocative_graph.specs.Graph.{default, total}
-use Rattle.allocative_graph.proofs.Gathered.{total-default}
+use Rattle.allocative_graph.proofs.Graphs.{total-default}
 use Rattle.allocative_json.specs.Fields.{fields_of, document_fields}
 use Rattle.allocative_json.proofs.FieldsLemmas.{passed_on, refused_more, refused_sum, total-document}
 use Rattle.allocative_json.proofs.fields.graph_of_document.Goals as goal

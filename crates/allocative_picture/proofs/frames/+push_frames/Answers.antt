@@ -4,12 +4,12 @@ use Rattle.std.proofs.Common.{append-nil, ◌∙◌, filter, length, take_all}
 use Rattle.allocative_picture.proofs.Common.{is_drawn, len, Child, Path, total, total_at, total_of, FrameData, frame_data}
 use Rattle.allocative_picture.proofs.Common.{frames_from, frame_from}
 use Rattle.std.proofs.lemmas.List.Elements.{filter-append}
-use Rattle.allocative_graph.proofs.NodeAdded.{rows_of_node}
+use Rattle.allocative_graph.proofs.Nodes.{rows_of_node}
 use Rattle.allocative_graph.specs.Graph.{size_at}
 use Rattle.allocative_graph.specs.Rows.{rows_of}
-use Rattle.allocative_graph.proofs.NodeSizes.{total-node}
-use Rattle.allocative_graph.proofs.NodeText.{texts, popped}
-use Rattle.allocative_graph.proofs.Rows.{figured}
+use Rattle.allocative_graph.proofs.Children.{total-node}
+use Rattle.allocative_graph.proofs.Text.{texts, popped}
+use Rattle.allocative_graph.proofs.Behind.{figured}
 use Rattle.std.proofs.lemmas.List.Sums.{sum_by-take-le}
 use Rattle.allocative_picture.specs.Marks.{mark_by}
 use Rattle.allocative_picture.proofs.Walking.{pushed_key, total_of_more, rows_more, child_rows, node_rows}

@@ -1,7 +1,7 @@
 -- of draw_graph: the result
 use Rattle.std.proofs.Common.{◌≡◌, ◌++◌, map, ap, ◌∙◌, filter, arith}
 use Rattle.allocative_picture.proofs.Common.{figures_behind, is_drawn, len, frames_from, frame_data}
-use Rattle.allocative_graph.proofs.NodeText.{texts}
+use Rattle.allocative_graph.proofs.Text.{texts}
 use Rattle.allocative_picture.specs.Page.{all_of}
 use Rattle.allocative_picture.specs.Marks.{mark_by}
 use Rattle.allocative_picture.proofs.Placing.{frames_from-figures}

@@ -4,7 +4,7 @@ use Rattle.std.specs.List.Sorted.{IsNonDecreasingBy}
 use Rattle.std.proofs.lemmas.List.{length-map, get_or-map}
 use Rattle.std.proofs.lemmas.List.Sorted.{All-permutation, IsNonDecreasingBy-from_sort_by_key}
 use Rattle.allocative_graph.specs.Rows.{row_figures}
-use Rattle.allocative_graph.specs.declared.flamegraph.rows.Row.{Row}
+use Rattle.allocative_graph.specs.declared.flamegraph.Row.{Row}
 use Rattle.allocative_picture.specs.Table.{HasNoLess, IsWord, lightness}
 use Rattle.allocative_picture.proofs.table.sort_by_weight.Goals as goal
 

@@ -3,7 +3,7 @@ use Rattle.std.proofs.Common.{List, [], ◌∷◌, ◌++◌, ap, subst, subst₂
 use Rattle.std.proofs.lemmas.Result.{IfOk-weaker}
 use Rattle.allocative_picture.proofs.Common.{Child, Graph, total}
 use Rattle.allocative_graph.specs.Graph.{size_at, sum_of, under}
-use Rattle.allocative_graph.proofs.OnePath.{total-path}
+use Rattle.allocative_graph.proofs.Nodes.{total-path}
 use Rattle.allocative_picture.specs.Views.{bytes_alone, GuidesChild, InStep, IsOutline}
 use Rattle.allocative_picture.proofs.Viewing.{all-push, outline-each, outline-joined, outline-root, step-more}
 use Rattle.allocative_picture.proofs.Viewing.{total-outline}

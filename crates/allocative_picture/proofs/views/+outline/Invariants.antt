@@ -2,7 +2,7 @@
 use Rattle.std.proofs.Common.{◌≡◌, List, [], take}
 use Rattle.allocative_picture.proofs.Common.{Child, Graph}
 use Rattle.allocative_graph.specs.Graph.{size_at}
-use Rattle.allocative_graph.specs.Many.{sum_of_all}
+use Rattle.allocative_graph.specs.Rows.{sum_of_all}
 use Rattle.allocative_picture.specs.Views.{bytes_alone, GuidesChild, InStep, IsOutline}
 use Rattle.allocative_picture.proofs.views.+outline.Given as goal
 

@@ -4,11 +4,11 @@ use Rattle.std.proofs.lemmas.List.{take_more, map_push}
 use Rattle.allocative_collectors.specs.Warned.{warning_of}
 use Rattle.allocative_collectors.specs.declared.output.WarnedPath.{WarnedPath}
 use Rattle.allocative_graph.specs.Graph.{Graph, Warned, size_at, total, sum_of}
-use Rattle.allocative_graph.specs.Representation.PathRows.{graph_of_path}
-use Rattle.allocative_graph.proofs.Gathered.{total-default}
+use Rattle.allocative_graph.specs.Representation.Children.{graph_of_path}
+use Rattle.allocative_graph.proofs.Graphs.{total-default}
 use Rattle.allocative_graph.proofs.Graphs.{size_at-default, total-sum_of}
-use Rattle.allocative_graph.proofs.NodeText.{texts}
-use Rattle.allocative_graph.proofs.OnePath.{total-path}
+use Rattle.allocative_graph.proofs.Text.{texts}
+use Rattle.allocative_graph.proofs.Nodes.{total-path}
 use Rattle.allocative_picture.proofs.Warnings.{warnings_at, warning_more, mark_counted}
 use Rattle.allocative_picture.proofs.warned.graph_of_warned.Goals as goal
 

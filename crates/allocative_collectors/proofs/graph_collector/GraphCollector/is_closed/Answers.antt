@@ -1,7 +1,6 @@
 -- No visitor is open exactly if the place is the root, no content is open and no root visitor is open.
 use Rattle.std.proofs.Common.{◌≡◌, length, true≢false, sym, ap, ◌∙◌, arith, eqb-true, eq-eqb}
-use Rattle.allocative_collectors.proofs.Common.{Live}
-use Rattle.std.proofs.lemmas.List.{nil_from_length}
+use Rattle.allocative_collectors.proofs.Common.{Live, nil_from_length}
 use Rattle.allocative_collectors.proofs.Collect.{closed, nothing_back, IsOut}
 use Rattle.allocative_collectors.proofs.Labels.{not_nil}
 use Rattle.allocative_collectors.proofs.graph_collector.GraphCollector.is_closed.Goals as goal

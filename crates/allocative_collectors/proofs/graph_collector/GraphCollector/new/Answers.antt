@@ -1,7 +1,7 @@
 -- The tree has only the root, with no entry.
 use Rattle.std.proofs.Common.{ℕ, ◌-◌, ◌^◌, List, [], ◌∷◌, refl, sym, subst, arith}
 use Rattle.allocative_collectors.proofs.Common.{Listed, root_sum, IsPlaced}
-use Rattle.allocative_graph.proofs.Below.{bytes_entered-empty}
+use Rattle.allocative_graph.proofs.Sums.{bytes_entered-empty}
 use Rattle.allocative_collectors.proofs.graph_collector.GraphCollector.new.Goals as goal
 
 -- With the root alone, the current place is the root, and there is room for 2^63 - 1 bytes.

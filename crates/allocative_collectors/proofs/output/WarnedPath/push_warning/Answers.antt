@@ -2,7 +2,7 @@
 use Rattle.std.proofs.Common.{◌≡◌, ℕ, List, ◌++◌, MatchResult, append_assoc, subst, ◌∙◌, rules, string_bytes}
 use Rattle.allocative_collectors.proofs.Common.{warning_of, warning_text}
 use Rattle.allocative_graph.specs.Graph.{joined}
-use Rattle.allocative_graph.proofs.NodeText.{joined_by_semicolons}
+use Rattle.allocative_graph.proofs.Text.{joined_by_semicolons}
 use Rattle.allocative_collectors.proofs.output.WarnedPath.push_warning.Goals as goal
 
 pub returns : goal.returns

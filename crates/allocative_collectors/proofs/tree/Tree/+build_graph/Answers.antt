@@ -3,21 +3,19 @@ use Rattle.std.proofs.Common.{◌≡◌, ◌-◌, ◌+◌, ◌<◌, ℕ, Bool, c
 use Rattle.std.proofs.Common.{Vec, Global, arith, sym, ap, subst, ◌∙◌, refl, Err, IfErr, ◌^◌, ◌≤◌, add-one}
 use Rattle.allocative_collectors.proofs.Common.{Key, IsChild, below, bytes_at, map_of, under, sum_of, default, add_self}
 use Rattle.allocative_collectors.proofs.Common.{WarnedPath, shape, path_at, keys_at, key_at, children_at, key_in}
-use Rattle.allocative_collectors.proofs.Common.{size_at_place, warning_of, Refusal, Memory}
+use Rattle.allocative_collectors.proofs.Common.{size_at_place, warning_of, Refusal, Memory, length-map, map-append}
+use Rattle.allocative_collectors.proofs.Common.{ComesLast, numbers, MakesGraph, MakesPart}
 use Rattle.std.specs.List.{All}
-use Rattle.std.proofs.lemmas.List.{length-map, map-append}
 use Rattle.std.proofs.lemmas.List.Elements.{All-weaker}
 use Rattle.allocative_graph.specs.Graph.{Graph, Warned, total}
-use Rattle.allocative_graph.specs.Many.{ComesLast}
-use Rattle.allocative_collectors.specs.Chunked.{numbers}
-use Rattle.allocative_collectors.specs.Finishing.{MakesGraph, MakesPart}
 use Rattle.allocative_collectors.specs.declared.tree.Node.{Node}
 use Rattle.allocative_collectors.proofs.NodeReads.{in_nodes, in_lists, children_read, below_read, figures_read}
 use Rattle.allocative_collectors.proofs.NodeReads.{listing_of}
 use Rattle.allocative_collectors.proofs.Made.{part_start, part_more, part_fits, made_all, child_read, none_warned}
-use Rattle.allocative_collectors.proofs.Made.{own_warning, own_fits, warned_at, total-default, comes_last, begun}
+use Rattle.allocative_collectors.proofs.Made.{own_warning, own_fits, warned_at, comes_last, begun}
 use Rattle.allocative_collectors.proofs.Made.{below_fits}
-use Rattle.allocative_graph.proofs.NodeText.{popped, texts}
+use Rattle.allocative_graph.proofs.Graphs.{total-default}
+use Rattle.allocative_graph.proofs.Text.{popped, texts}
 use Rattle.allocative_collectors.proofs.tree.Tree.+build_graph.Goals as goal
 use Rattle.allocative_collectors.proofs.tree.Tree.+build_graph.Goals.{then-is_short+in_ok-push_warned, else-is_short}
 use Rattle.allocative_collectors.proofs.tree.Tree.+build_graph.Goals.{In_ok-children, After-bytes_of-size_below}

@@ -1,8 +1,6 @@
 -- The list of keys is unchanged, and the graph has the node and its children so far.
 use Rattle.std.proofs.Common.{◌≡◌, ◌-◌, length, map}
-use Rattle.allocative_collectors.proofs.Common.{keys_at, path_at, shape, warning_of}
-use Rattle.allocative_collectors.specs.Chunked.{numbers}
-use Rattle.allocative_collectors.specs.Finishing.{MakesPart}
+use Rattle.allocative_collectors.proofs.Common.{keys_at, path_at, shape, warning_of, numbers, MakesPart}
 use Rattle.allocative_collectors.proofs.Made.{begun}
 use Rattle.allocative_collectors.proofs.tree.Tree.+build_graph.Given as goal
 

@@ -2,7 +2,7 @@
 use Rattle.std.proofs.Common.{◌≡◌, ◌||◌, map, set, arith, ap, refl, ◌∙◌}
 use Rattle.allocative_collectors.proofs.Common.{shape, Listed, put, path_at, sums}
 use Rattle.allocative_collectors.proofs.NodeReads.{in_shapes, bytes_fit, raised_nodes, raise_node, tree_of}
-use Rattle.allocative_collectors.proofs.Raised.{raised, arena_raised, sums_raised}
+use Rattle.allocative_collectors.proofs.Grown.{raised, arena_raised, sums_raised}
 use Rattle.allocative_collectors.proofs.tree.Tree.add_bytes.Goals as goal
 use Rattle.allocative_collectors.proofs.tree.Tree.add_bytes.Goals.{then-entered, else-entered, Joined-entered}
 

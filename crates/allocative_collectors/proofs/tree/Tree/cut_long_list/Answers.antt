@@ -1,7 +1,6 @@
 -- The chunks have the numbers of the list.
 use Rattle.std.proofs.Common.{◌≡◌, ℕ, Vec, Global, sym, ap, ◌∙◌}
-use Rattle.std.proofs.lemmas.List.{get_or_default}
-use Rattle.allocative_collectors.specs.Chunked.{numbers}
+use Rattle.allocative_collectors.proofs.Common.{get_or_default, numbers}
 use Rattle.allocative_collectors.proofs.NodeReads.{in_lists, same_lists}
 use Rattle.allocative_collectors.proofs.tree.Tree.cut_long_list.Goals as goal
 

@@ -2,15 +2,14 @@
 use Rattle.std.proofs.Common.{arith, ◌≡◌, ◌<◌, ◌^◌, ℕ, true, List, ◌++◌, map, Bor, sym, ap, subst, ◌∙◌, flat_map, Bool}
 use Rattle.std.proofs.Common.{false, not, ◌&&◌, cond, [], ◌∷◌, refl, nat_lt, append-nil}
 use Rattle.allocative_collectors.proofs.Common.{get, Path, Graph, graph, map_of, warning_of, warning_lines, entries}
-use Rattle.allocative_collectors.proofs.Common.{newline, Sums, below, is_root, warning_text, Listed}
+use Rattle.allocative_collectors.proofs.Common.{newline, Sums, below, is_root, warning_text, Listed, rows_behind}
+use Rattle.allocative_collectors.proofs.Common.{flat_map-append}
 use Rattle.std.specs.FinMap.{same_map}
 use Rattle.allocative_graph.specs.Graph.{total, warned, warning, warning_line, warnings, warned_paths}
 use Rattle.allocative_graph.proofs.Basics.{path_total, path_antisymmetric}
-use Rattle.allocative_collectors.specs.Finishing.{rows_behind}
 use Rattle.allocative_collectors.proofs.Made.{part_fits}
 use Rattle.allocative_collectors.proofs.NodeReads.{listing_of}
 use Rattle.std.specs.List.{filter}
-use Rattle.std.proofs.lemmas.Grind.{flat_map-append}
 use Rattle.allocative_graph.specs.Sums.{Node}
 use Rattle.allocative_collectors.proofs.tree.Tree.finish.Goals as goal
 

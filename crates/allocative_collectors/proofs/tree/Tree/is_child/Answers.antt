@@ -1,12 +1,10 @@
 -- A node with this parent and this key is the child, and no other node is.
 use Rattle.std.proofs.Common.{◌≡◌, ◌≢◌, ◌-◌, ◌^◌, ◌<◌, ◌↔◌, false, List, length, map, get_or, true≢false, arith, sym}
 use Rattle.std.proofs.Common.{ap, subst, ◌∙◌, eqb-true}
-use Rattle.allocative_collectors.proofs.Common.{shape, Shape, Listed, IsEntered, parent_at}
-use Rattle.std.proofs.lemmas.List.{length-map}
+use Rattle.allocative_collectors.proofs.Common.{shape, Shape, Listed, IsEntered, parent_at, length-map}
 use Rattle.std.proofs.lemmas.Slice.Eq.{bytes_eq-Decides}
 use Rattle.allocative_collectors.specs.declared.tree.Node.{Node}
-use Rattle.allocative_collectors.proofs.NodeReads.{length_nodes, in_nodes, in_shapes, shape_read}
-use Rattle.allocative_collectors.proofs.Child.{was_entered, child_of}
+use Rattle.allocative_collectors.proofs.NodeReads.{length_nodes, in_nodes, in_shapes, shape_read, was_entered, child_of}
 use Rattle.allocative_collectors.proofs.tree.Tree.is_child.Goals as goal
 use Rattle.allocative_collectors.proofs.tree.Tree.is_child.Goals.{In-Some}
 

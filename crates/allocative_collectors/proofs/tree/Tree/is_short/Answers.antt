@@ -1,7 +1,6 @@
 -- The test, from the fields of the node.
 use Rattle.std.proofs.Common.{arith}
-use Rattle.std.proofs.lemmas.Grind.{common_steps}
-use Rattle.std.proofs.lemmas.Bool.Decides.{nat_tests}
+use Rattle.allocative_collectors.proofs.Common.{common_steps, nat_tests}
 use Rattle.allocative_collectors.proofs.NodeReads.{figures_read}
 use Rattle.allocative_collectors.proofs.tree.Tree.is_short.Goals as goal
 use Rattle.allocative_collectors.proofs.tree.Tree.is_short.Goals.{then-at-ne0, else-at-ne0}

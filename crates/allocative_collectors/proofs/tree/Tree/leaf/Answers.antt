@@ -1,12 +1,8 @@
 -- The graph of a node with no children has its own size alone, and no warning.
 use Rattle.std.proofs.Common.{◌≡◌, false, [], length, map, sum_by, sym, ap, ◌∙◌, arith}
-use Rattle.std.proofs.lemmas.Bool.Decides.{nat_tests}
-use Rattle.std.proofs.lemmas.Grind.{common_steps}
-use Rattle.std.proofs.lemmas.List.{length-map}
 use Rattle.allocative_collectors.proofs.Common.{add_self, default, below, shape, bytes_at, keys_at, key_at, children_at}
-use Rattle.allocative_collectors.proofs.Common.{path_at, map_of, size_at_place}
-use Rattle.allocative_collectors.specs.Finishing.{is_short}
-use Rattle.allocative_collectors.specs.Chunked.{numbers}
+use Rattle.allocative_collectors.proofs.Common.{path_at, map_of, size_at_place, nat_tests, common_steps, length-map}
+use Rattle.allocative_collectors.proofs.Common.{is_short, numbers}
 use Rattle.allocative_collectors.proofs.NodeReads.{in_lists, children_read, below_read, figures_read, listing_of}
 use Rattle.allocative_collectors.proofs.Made.{part_start, made_all, none_warned}
 use Rattle.allocative_collectors.proofs.tree.Tree.leaf.Goals as goal

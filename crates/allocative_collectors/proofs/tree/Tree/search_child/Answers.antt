@@ -1,20 +1,19 @@
 -- The child that was found, and the new one.
-use Rattle.std.proofs.Common.{◌≡◌, ℕ, false, List, length, map, set, get_or, [], ◌∷◌, ◌++◌, sym, refl}
-use Rattle.std.proofs.Common.{ap, subst, subst₂, ◌∙◌}
+use Rattle.std.proofs.Common.{◌≡◌, ℕ, false, List, length, map, set, get_or, [], ◌∷◌, ◌++◌, sym, refl, ap, subst}
+use Rattle.std.proofs.Common.{subst₂, ◌∙◌}
 use Rattle.allocative_collectors.proofs.Common.{HasKey, shape, leaf, Listed, IsEntered, IsTree, IsChild, KeysRise}
-use Rattle.allocative_collectors.proofs.Common.{keys_of, keys_at, children_at, IsKeyGap, sums}
-use Rattle.std.proofs.lemmas.List.{length-map, get_or_default}
+use Rattle.allocative_collectors.proofs.Common.{keys_of, keys_at, children_at, IsKeyGap, sums, length-map}
+use Rattle.allocative_collectors.proofs.Common.{get_or_default, Children, numbers}
 use Rattle.std.specs.List.{insert}
-use Rattle.allocative_collectors.specs.declared.children.Children.{Children}
 use Rattle.allocative_collectors.specs.declared.children.Children.TheVariants.{Empty}
 use Rattle.allocative_collectors.specs.declared.tree.Node.{Node}
-use Rattle.allocative_collectors.specs.Chunked.{numbers, IsPlace, flat_place}
-use Rattle.allocative_collectors.proofs.NodeReads.{in_shapes, in_lists, children_read, grown_nodes, grown_lists, tree_of}
-use Rattle.allocative_collectors.proofs.NodeReads.{same_lists}
+use Rattle.allocative_collectors.specs.Nodes.{IsPlace, flat_place}
+use Rattle.allocative_collectors.proofs.NodeReads.{in_shapes, in_lists, children_read, grown_nodes, grown_lists}
+use Rattle.allocative_collectors.proofs.NodeReads.{tree_of, same_lists, was_entered, now_entered}
 use Rattle.allocative_collectors.proofs.Grown.{grown, with_child, arena_grown}
-use Rattle.allocative_collectors.proofs.Child.{was_entered, now_entered}
 use Rattle.allocative_collectors.proofs.tree.Tree.search_child.Goals as goal
-use Rattle.allocative_collectors.proofs.tree.Tree.search_child.Goals.{After-index, After-index_mut, After-push_reserved-in-Err}
+use Rattle.allocative_collectors.proofs.tree.Tree.search_child.Goals.{After-index, After-index_mut}
+use Rattle.allocative_collectors.proofs.tree.Tree.search_child.Goals.{After-push_reserved-in-Err}
 
 -- A step of `search_child`: the list that is searched has the numbers of the node's children.
 searched : (c : After-index) →

@@ -1,6 +1,6 @@
 -- The size, from the fields of the node.
 use Rattle.std.proofs.Common.{arith}
-use Rattle.std.proofs.lemmas.Grind.{common_steps}
+use Rattle.allocative_collectors.proofs.Common.{common_steps}
 use Rattle.allocative_collectors.proofs.NodeReads.{figures_read}
 use Rattle.allocative_collectors.proofs.tree.Tree.size.Goals as goal
 

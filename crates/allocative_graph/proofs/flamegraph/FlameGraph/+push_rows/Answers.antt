@@ -2,11 +2,11 @@
 use Rattle.std.proofs.Common.{◌≡◌, ℕ, ◌++◌, [], ◌∷◌, List, Bor, map, take, arith, ap, subst, append_assoc, ◌∙◌}
 use Rattle.std.proofs.Common.{take_all}
 use Rattle.allocative_graph.proofs.Common.{Path, Graph, total, total_at, Figures, figures_behind, rows_of, map_push}
+use Rattle.allocative_graph.proofs.Common.{row_figures}
 use Rattle.std.proofs.lemmas.List.Elements.{same_from_all_zip}
-use Rattle.allocative_graph.specs.declared.flamegraph.rows.Row.{Row}
-use Rattle.allocative_graph.specs.Rows.{row_figures}
-use Rattle.allocative_graph.proofs.NodeText.{texts, popped}
-use Rattle.allocative_graph.proofs.Rows.{rows_pushed, figured, node_read}
+use Rattle.allocative_graph.specs.declared.flamegraph.Row.{Row}
+use Rattle.allocative_graph.proofs.Text.{texts, popped}
+use Rattle.allocative_graph.proofs.Behind.{rows_pushed, figured, node_read}
 use Rattle.allocative_graph.proofs.flamegraph.FlameGraph.+push_rows.Goals as goal
 
 pub loop-child-preserved : goal.loop-child-preserved

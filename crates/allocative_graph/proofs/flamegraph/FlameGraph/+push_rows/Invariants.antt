@@ -1,8 +1,7 @@
 -- of push_rows: what its loop keeps
 use Rattle.std.proofs.Common.{◌≡◌, ◌++◌, map, take}
-use Rattle.allocative_graph.proofs.Common.{total_at, rows_of}
-use Rattle.allocative_graph.specs.Rows.{row_figures}
-use Rattle.allocative_graph.proofs.Rows.{figured}
+use Rattle.allocative_graph.proofs.Common.{total_at, rows_of, row_figures}
+use Rattle.allocative_graph.proofs.Behind.{figured}
 use Rattle.allocative_graph.proofs.flamegraph.FlameGraph.+push_rows.Given as goal
 
 abbrev pub invariant-loop-child : goal.invariant-loop-child

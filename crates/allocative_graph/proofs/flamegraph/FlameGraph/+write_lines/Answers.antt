@@ -1,11 +1,11 @@
 -- The start of a line is cut back to its length, and the lines of each child follow those before.
-use Rattle.std.proofs.Common.{◌≡◌, ℕ, ◌++◌, [], ◌∷◌, List, take, length, arith, ap, sym, subst, ◌∙◌}
-use Rattle.std.proofs.Common.{append_assoc, rules, take_all, string_bytes}
+use Rattle.std.proofs.Common.{◌≡◌, ℕ, ◌++◌, [], ◌∷◌, List, take, length, arith, ap, sym, subst, ◌∙◌, append_assoc}
+use Rattle.std.proofs.Common.{rules, take_all, string_bytes}
 use Rattle.std.proofs.lemmas.Str.{IsUtf8-append, IsUtf8-from_ascii, IsCharBoundary-at_seam}
 use Rattle.std.specs.Str.{IsUtf8, IsCharBoundary}
 use Rattle.allocative_graph.proofs.Common.{entries, line_from, lines_from, rows_of}
-use Rattle.allocative_graph.proofs.NodeAdded.{entries_of_node}
-use Rattle.allocative_graph.proofs.NodeText.{child_lines, child_written, cut_back}
+use Rattle.allocative_graph.proofs.Nodes.{entries_of_node}
+use Rattle.allocative_graph.proofs.Text.{child_lines, child_written, cut_back}
 use Rattle.allocative_graph.proofs.flamegraph.FlameGraph.+write_lines.Goals as goal
 
 -- The start of a line with a `;` and the child's key.

@@ -1,7 +1,7 @@
 -- of add_child: the graph is a node, part and sum
 use Rattle.std.proofs.Common.{◌≡◌, ℕ, ◌+◌, ◌^◌, ◌<◌, Bool, List, [], ◌∷◌, arith}
 use Rattle.allocative_graph.proofs.Common.{Child, IsNode, Merged, total, total_of}
-use Rattle.allocative_graph.proofs.NodeAdded.{added_under, sum_grown, total_of_node}
+use Rattle.allocative_graph.proofs.Nodes.{added_under, sum_grown, total_of_node}
 use Rattle.allocative_graph.proofs.flamegraph.FlameGraph.add_child.Goals as goal
 
 -- With one child merged into its children, a node is a node if the bytes fit.

@@ -2,7 +2,7 @@
 use Rattle.std.proofs.Common.{◌≡◌, ℕ, ◌+◌, ◌≤◌, ◌^◌, OnOk, ap, subst, ◌∙◌, IsErrOf, ◌↔◌}
 use Rattle.allocative_graph.proofs.Common.{Graph, total, sum_of}
 use Rattle.allocative_graph.specs.declared.refusal.Refusal.TheVariants.{TooLarge}
-use Rattle.allocative_graph.proofs.Gathered.{sum_of-all, total-gathered}
+use Rattle.allocative_graph.proofs.Graphs.{sum_of-all, total-gathered}
 use Rattle.allocative_graph.proofs.flamegraph.FlameGraph.add_children.Goals as goal
 
 pub returns-clause-sum : goal.returns-clause-sum

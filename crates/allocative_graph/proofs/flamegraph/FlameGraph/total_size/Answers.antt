@@ -1,5 +1,5 @@
 -- of total_size: tree
-use Rattle.allocative_graph.proofs.NodeAdded.{tree_of_node}
+use Rattle.allocative_graph.proofs.Nodes.{tree_of_node}
 use Rattle.allocative_graph.proofs.flamegraph.FlameGraph.total_size.Goals as goal
 
 pub returns-clause-tree : goal.returns-clause-tree

@@ -2,8 +2,8 @@
 use Rattle.std.proofs.Common.{◌≡◌, ◌++◌, [], arith, ap, ◌∙◌, take, take_all, string_bytes}
 use Rattle.allocative_graph.proofs.Common.{entries, lines_from, rows_of, text_of_entries}
 use Rattle.allocative_graph.specs.Graph.{line}
-use Rattle.allocative_graph.proofs.NodeAdded.{entries_of_node}
-use Rattle.allocative_graph.proofs.NodeText.{first_lines, child_written}
+use Rattle.allocative_graph.proofs.Nodes.{entries_of_node}
+use Rattle.allocative_graph.proofs.Text.{first_lines, child_written}
 use Rattle.allocative_graph.proofs.flamegraph.FlameGraph.write.Goals as goal
 
 pub loop-child-preserved : goal.loop-child-preserved

@@ -3,10 +3,10 @@ use Rattle.std.proofs.Common.{sym, ap, ◌∙◌, arith}
 use Rattle.std.proofs.lemmas.Result.{on_ok_weaker, on_err_weaker}
 use Rattle.allocative_graph.proofs.Common.{Child, Key, Path, sum_of, under, graph_of_path, child_of_path}
 use Rattle.allocative_graph.proofs.Common.{nil_from_length}
-use Rattle.allocative_graph.proofs.ChildMerged.{put_at_gap}
-use Rattle.allocative_graph.proofs.NodeAdded.{total_of_node, node_grown, sum_grown}
-use Rattle.allocative_graph.proofs.NodeText.{texts}
-use Rattle.allocative_graph.proofs.OnePath.{tree-path, total-path, sum_raised, path_merged, fits_below, nothing_merged}
+use Rattle.allocative_graph.proofs.Children.{put_at_gap}
+use Rattle.allocative_graph.proofs.Nodes.{total_of_node, node_grown, sum_grown, tree-path, total-path, sum_raised}
+use Rattle.allocative_graph.proofs.Nodes.{path_merged, fits_below, nothing_merged}
+use Rattle.allocative_graph.proofs.Text.{texts}
 use Rattle.allocative_graph.proofs.flamegraph.at_path.+walk.Goals as goal
 
 pub add_at-overflow_add-graph : goal.add_at-overflow_add-graph

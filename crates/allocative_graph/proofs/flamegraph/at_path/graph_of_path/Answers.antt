@@ -4,10 +4,9 @@ use Rattle.std.proofs.lemmas.List.{reverse-append, reverse-reverse}
 use Rattle.std.proofs.lemmas.Iterator.Adapters.{YieldsList-from_rev_slice}
 use Rattle.std.proofs.lemmas.Iterator.Consumers.{YieldsList-end}
 use Rattle.allocative_graph.proofs.Common.{Child, IsNode, node, graph_of_path, child_of_path, map_push}
-use Rattle.allocative_graph.proofs.ChildLookup.{node_of_one}
-use Rattle.allocative_graph.proofs.ChildOrder.{no_children}
-use Rattle.allocative_graph.proofs.NodeText.{texts}
-use Rattle.allocative_graph.proofs.OnePath.{node_leaf, node_of_path}
+use Rattle.allocative_graph.proofs.Children.{node_of_one, no_children}
+use Rattle.allocative_graph.proofs.Text.{texts}
+use Rattle.allocative_graph.proofs.Nodes.{node_leaf, node_of_path}
 use Rattle.allocative_graph.proofs.flamegraph.at_path.graph_of_path.Goals as goal
 
 pub invariant_of-graph : goal.invariant_of-graph

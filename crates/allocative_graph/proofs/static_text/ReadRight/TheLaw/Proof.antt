@@ -7,7 +7,7 @@ use types.Logic.{sem, lfts}
 use types.Kit.{‵, raw, ◌⊛◌, later, ◌$◌, ◌∵◌, !, qed, move, keep, use1, use2, split, await, updating, now, done}
 use denote.Struct.Lending.{of_Lends}
 use Rattle.allocative_graph.specs.contracts.static_text.ReadRight as C
-use Rattle.allocative_graph.proofs.Loans.{static_dup}
+use Rattle.allocative_graph.proofs.Walks.{static_dup}
 use Rattle.allocative_graph.proofs.static_text.ReadRight.TheLaw.Statement.{statement}
 
 -- A `&ReadRight` holds the right to read that the `ReadRight` owns.

@@ -1,6 +1,6 @@
 -- of ReadRight: that it is Send
 use denote.Param.Send.{IsSend, owning_send}
-use Rattle.allocative_graph.proofs.Loans.{static_owns-keyless}
+use Rattle.allocative_graph.proofs.Walks.{static_owns-keyless}
 use Rattle.allocative_graph.specs.contracts.static_text.ReadRight as C
 
 -- A `ReadRight` can be sent to another thread, since what it owns names no thread.

@@ -1,7 +1,7 @@
 -- of ReadRight: that it is Sync
 use denote.Param.Send.{IsSync, struct_sync}
 use denote.Struct.Owning.{shape}
-use Rattle.allocative_graph.proofs.Loans.{static_owns-keyless}
+use Rattle.allocative_graph.proofs.Walks.{static_owns-keyless}
 use Rattle.allocative_graph.specs.contracts.static_text.ReadRight as C
 
 -- A `ReadRight` can be shared between threads, since what it owns names no thread.

@@ -6,7 +6,7 @@ use Rattle.std.proofs.lemmas.List.{map-append}
 use Rattle.allocative.specs.Graph.{Graph, size_at}
 use Rattle.allocative_graph.specs.Rows.{rows_of}
 use Rattle.allocative_graph.specs.declared.flamegraph.Child.{Child}
-use Rattle.allocative_graph.proofs.NodeText.{texts, popped}
+use Rattle.allocative_graph.proofs.Text.{texts, popped}
 use Rattle.allocative_service.proofs.Common.{Changed, change_data}
 use Rattle.allocative_service.specs.Walk.{size_in, changes_behind}
 use Rattle.allocative_service.proofs.Walk.{child_changes, node_changes}

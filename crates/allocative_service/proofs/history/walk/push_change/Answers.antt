@@ -2,7 +2,7 @@
 use Rattle.std.proofs.Common.{◌≡◌, Bool, cond, List, Bor, ℕ, ◌++◌, [], ◌∷◌, map, sym, ap, ◌∙◌}
 use Rattle.std.proofs.lemmas.List.{map-append}
 use Rattle.std.proofs.lemmas.List.Elements.{same_from_all_zip}
-use Rattle.allocative_graph.proofs.NodeText.{texts}
+use Rattle.allocative_graph.proofs.Text.{texts}
 use Rattle.allocative_service.proofs.Common.{Changed, change_data}
 use Rattle.allocative_service.proofs.Walk.{unequal}
 use Rattle.allocative_service.proofs.history.walk.push_change.Goals as goal

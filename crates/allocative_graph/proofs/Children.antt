@@ -1,0 +1,482 @@
+-- Children in the order of their keys: their totals and rows, the sizes below their keys, what a search finds, the node
+-- that has them, and merging them.
+use Rattle.std.proofs.Common.{◌≡◌, ℕ, ◌+◌, ◌<◌, List, [], ◌∷◌, ◌++◌, length, take, get_or, refl, ap, ◌∙◌, arith, sum_by}
+use Rattle.std.proofs.Common.{append-nil, inl, inr, true, false, Option, None, sym, subst, subst₂, ◌-◌, Result, Ok, Err}
+use Rattle.std.proofs.Common.{IfOk, IfErr, IsTrue, cond, Some, ◌≤◌, ◌&&◌, Bool, length-append, append_assoc, true≢false}
+use Rattle.std.proofs.Common.{is_ok, zero, suc, set}
+use Rattle.allocative_graph.proofs.Common.{entries, Child, Path, total, rows_of, rows_of_child, total_of, take_more}
+use Rattle.allocative_graph.proofs.Common.{flat_map-append, fold-map, sum_by-cons, is_some, eq_by_cmp, is_eq, get, Key}
+use Rattle.allocative_graph.proofs.Common.{key_cmp, Less, default, size_under, AddsUp, AddsUpInPart, AllAbove}
+use Rattle.allocative_graph.proofs.Common.{All-from_recursion, Equal, Greater, ordering_reverse, nat_list_cmp_total}
+use Rattle.allocative_graph.proofs.Common.{IsTree, AreChildren, InOrder, length-map, keys_of, is_lt, IsFound}
+use Rattle.allocative_graph.proofs.Common.{IsChildGap, from_entries, same_entries_map, get-from_sorted, get-entries}
+use Rattle.allocative_graph.proofs.Common.{find, under, under_rows, node, path_cmp, node_sorted, entries-node}
+use Rattle.allocative_graph.proofs.Common.{entries-insert, entries-from_sorted, put, insert, len, len-child, Graph}
+use Rattle.allocative_graph.proofs.Common.{Added, Merged, sum_by-append, All, Equal-is, tied_then, exact_bytes}
+use Rattle.allocative_graph.proofs.Common.{MergesFirst}
+use Rattle.std.specs.List.Sorted.{IsStrictlySortedBy, IsSearchInRange, IsBinarySearchResult, IsNonDecreasingBy}
+use Rattle.std.specs.List.Sorted.{IsSortedBy}
+use Rattle.std.proofs.lemmas.List.Sums.{sum_by-set, sum_by-insert, get_or-le-sum_by}
+use Rattle.std.specs.List.{insert as insert_at}
+use Rattle.std.proofs.lemmas.List.Recursion.{found_nowhere}
+use Rattle.allocative_graph.proofs.Basics.{each-map, or_left, or-false, each-implies, entries-from_entries-sorted}
+use Rattle.allocative_graph.proofs.Basics.{path_total, on_test, and_assoc, and-true, and_parts}
+use Rattle.std.proofs.lemmas.List.{get_or-map, get_or_default}
+use Rattle.std.proofs.lemmas.Map.Keys.{Less-from_sorted}
+use Rattle.std.specs.declared.cmp.Ordering.{Ordering}
+use Rattle.std.proofs.lemmas.List.Sorted.{searchable_from_sorted}
+use Rattle.std.specs.Ordering.{ordering_index}
+use Rattle.std.specs.Option.{option_or, option_to_list}
+use Rattle.std.specs.Result.{result_and}
+use Rattle.allocative_graph.specs.Representation.Children.{front_order}
+
+-- ---- totals and rows
+-- One more child in front adds the total of its graph.
+pub total_of-cons : (c : Child) (cs : List Child) → total_of (c ∷ cs) ≡ total c.graph + total_of cs
+total_of-cons = sum_by-cons (λ c. total c.graph)
+
+-- A sum over the rows of one child more in front.
+pub rows-cons : (w : Path × ℕ → ℕ) (c : Child) (cs : List Child)
+    → sum_by w (rows_of (c ∷ cs)) ≡ sum_by (λ r. w (c.key ∷ r.0, r.1)) (entries c.graph) + sum_by w (rows_of cs)
+rows-cons w c cs = sum_by-append w (rows_of_child c) (rows_of cs)
+    ∙ ap (λ n. n + sum_by w (rows_of cs)) (fold-map (λ n r. n + w r) (λ r. (c.key ∷ r.0, r.1)) 0 (entries c.graph))
+
+-- The totals of some children are the sizes of their rows, added up.
+pub total_of-rows : (cs : List Child) → sum_by (λ r. r.1) (rows_of cs) ≡ total_of cs
+total_of-rows [] = refl
+total_of-rows (c ∷ cs) = omega (arith, rows-cons (λ r. r.1) c cs, total_of-rows cs, total_of-cons c cs)
+
+-- The rows of one child more.
+pub rows-more : (cs : List Child) (i : ℕ) (d : Child) → i < length cs →
+    rows_of (take (i + 1) cs) ≡ rows_of (take i cs) ++ rows_of_child (get_or cs i d)
+rows-more cs i d w =
+    ap rows_of (take_more cs i d w) ∙ flat_map-append rows_of_child (take i cs) (get_or cs i d ∷ [])
+    ∙ ap (λ r. rows_of (take i cs) ++ r) (append-nil (rows_of_child (get_or cs i d)))
+
+-- ---- the sizes below a key that a child has, or none
+-- No child has the key k.
+abbrev pub Lacks : Key → List Child → Type 0
+Lacks k cs = All (λ c. eq_by_cmp key_cmp k c.key ≡ false) cs
+
+-- No child has a key that is below the keys of all children.
+pub lacks-above : (k : Key) (cs : List Child) → AllAbove cs k → Lacks k cs
+lacks-above k cs h = λ i d w. ap is_eq (All-from_recursion (λ (c : Child). key_cmp k c.key ≡ Less) cs
+    (each-map (λ l. key_cmp k l ≡ Less) (λ (c : Child). c.key) cs h) i d w)
+
+-- If no child has the key k, no size is below k.
+pub size_under-lacks : (cs : List Child) (k : Key) (p : Path) → Lacks k cs → size_under cs k p ≡ None
+size_under-lacks cs k p h = found_nowhere (λ cs. size_under cs k p) (λ c. eq_by_cmp key_cmp k c.key)
+    (λ c. get c.graph p) None refl (λ c cs. refl) cs (record { key = k; graph = default }) (λ i w. h i _ w)
+
+-- No size is below a key that is below the keys of all children.
+pub none_above : (k l : Key) (p : Path) (cs : List Child) → eq_by_cmp key_cmp k l ≡ true → AllAbove cs l →
+    size_under cs k p ≡ None
+none_above k l p cs e h = size_under-lacks cs k p
+    (subst (λ m. Lacks m cs) (sym (exact_bytes k l ((Equal-is (key_cmp k l)).0 e))) (lacks-above l cs h))
+
+-- ---- sums of sizes
+-- A size and a missing one add up to the first.
+pub AddsUp-first : (x : Option ℕ) → AddsUp x None x
+AddsUp-first x = (omega arith, sym (or-false (is_some x)))
+
+-- A missing size and another one add up to the second.
+pub AddsUp-second : (y : Option ℕ) → AddsUp None y y
+AddsUp-second y = (omega arith, refl)
+
+-- Sizes that add up also add up in part.
+pub part_of_sum : (x y z : Option ℕ) → AddsUp x y z → AddsUpInPart x y z
+part_of_sum x y z h = (inr h.0, (λ e. h.1 ∙ or_left (is_some x) (is_some y) e), (λ e. sym h.1 ∙ e))
+
+-- If the first size does not change, the two add up in part.
+pub part_of_none : (x y : Option ℕ) → AddsUpInPart x y x
+part_of_none x y = (inl refl, (λ e. e), (λ e. or_left (is_some x) (is_some y) e))
+
+-- If k is greater than l, then l is less than k.
+pub key_turn : (k l : Key) → key_cmp k l ≡ Greater → key_cmp l k ≡ Less
+key_turn k l h = nat_list_cmp_total.antisymm l k ∙ ap ordering_reverse h
+
+-- ---- the first child, and those after it
+-- The key of the first child is below the keys of all others.
+pub first_below : (c : Child) (cs : List Child) → AreChildren (c ∷ cs) → AllAbove cs c.key
+unfolding IsStrictlySortedBy
+first_below c cs h = h.sorted.0
+
+-- The children of a root without the first one can also be the children of a root.
+pub others : (c : Child) (cs : List Child) → AreChildren (c ∷ cs) → AreChildren cs
+unfolding IsStrictlySortedBy
+others c cs h = record { sorted = h.sorted.1; trees = h.trees.1 }
+
+-- A root can be without children.
+pub no_children : AreChildren []
+unfolding IsStrictlySortedBy
+no_children = record { sorted = tt; trees = tt }
+
+-- A child can be put before others if its key is below theirs and its graph is a tree.
+pub with_first : (c : Child) (cs : List Child) → AllAbove cs c.key → IsTree c.graph → AreChildren cs →
+    AreChildren (c ∷ cs)
+unfolding IsStrictlySortedBy
+with_first c cs above t h = record { sorted = (above, h.sorted); trees = (t, h.trees) }
+
+-- A child can be the only child of a root if its graph is a tree.
+pub one_child : (c : Child) → IsTree c.graph → AreChildren (c ∷ [])
+one_child c t = with_first c [] tt t no_children
+
+-- A key below that of the first child is below those of all.
+pub above_all : (k : Key) (c : Child) (cs : List Child) → key_cmp k c.key ≡ Less → AreChildren (c ∷ cs) →
+    AllAbove (c ∷ cs) k
+above_all k c cs less h =
+    (less, each-implies _ _ (λ l q. nat_list_cmp_total.trans k c.key l less q) (keys_of cs) (first_below c cs h))
+
+-- ---- a search for a key
+-- The keys rise from place to place.
+pub rises : (cs : List Child) (i j : ℕ) (d : Child) → InOrder cs → i < j → j < length cs →
+    key_cmp (get_or cs i d).key (get_or cs j d).key ≡ Less
+rises cs i j d o low high = subst₂ (λ a b. key_cmp a b ≡ Less)
+    (get_or-map (λ (c : Child). c.key) cs i d [] (omega arith)) (get_or-map (λ (c : Child). c.key) cs j d [] high)
+    (Less-from_sorted key_cmp (keys_of cs) i j [] o low (omega (arith, length-map {B = Key} cs (λ c. c.key))))
+
+-- An ordering with the index 0 is `Less`.
+first_index : (o : Ordering) → ordering_index o ≡ 0 → o ≡ Less
+first_index Less e = refl
+first_index Equal e = absurd (omega arith)
+first_index Greater e = absurd (omega arith)
+
+module _ (cs : List Child) (o : InOrder cs) (k : Key) where
+  sorted : IsSortedBy (λ (a b : Child). is_lt (key_cmp a.key b.key)) cs
+  sorted i d low high = ap is_lt (nat_list_cmp_total.antisymm (get_or cs (i + 1) d).key (get_or cs i d).key
+      ∙ ap ordering_reverse (rises cs i (i + 1) d o (omega arith) high))
+
+  comparisons_rise : IsNonDecreasingBy (λ (c : Child). ordering_index (key_cmp c.key k)) cs
+  comparisons_rise = searchable_from_sorted nat_list_cmp_total (λ (c : Child). c.key) cs k sorted
+
+  pub searched : (r : Result ℕ ℕ) → IsSearchInRange r (length cs) →
+      IsBinarySearchResult (λ (c : Child). key_cmp c.key k) cs r →
+      record { found : IfOk r (IsFound cs k); missing : IfErr r (IsChildGap cs k) }
+  searched (Ok i) in_range equal =
+      record { found = record { within = in_range; same = λ d. exact_bytes _ _ (equal d) }; missing = tt }
+  searched (Err i) in_range parted =
+      record { found = tt; missing = record { within = in_range; between = parted comparisons_rise } }
+
+  -- A key above the last one is above all, and belongs at the end.
+  pub behind_last : (d : Child) → 0 < length cs → key_cmp (get_or cs (length cs - 1) d).key k ≡ Less →
+      IsChildGap cs k (length cs)
+  behind_last d some less =
+      let last = length cs - 1 in
+      let lower : (e : Child) → ordering_index (key_cmp (get_or cs last e).key k) ≡ 0 =
+      λ e. ap ordering_index (subst (λ (c : Child). key_cmp c.key k ≡ Less) (get_or_default cs last d e (omega arith))
+      less) in
+      record {
+        within = omega arith;
+        between = (
+          (λ j e low w. first_index _ (omega (arith, comparisons_rise j last e (omega arith) (omega arith), lower e))),
+          (λ j e high w. absurd (omega arith)),
+        );
+      }
+
+-- The key of the last child is found at the end.
+pub at_last : (cs : List Child) (k : Key) (d : Child) → 0 < length cs → (get_or cs (length cs - 1) d).key ≡ k →
+    IsFound cs k (length cs - 1)
+at_last cs k d some e = record { within = omega arith; same = λ x. ap (λ (c : Child). c.key) (get_or_default cs (length cs - 1) x d (omega arith)) ∙ e }
+
+-- ---- the sizes in the graph of a node
+-- A search in two lists of rows, one after another, goes on to the second if the first has nothing.
+find-both : (q : Path) (es fs : List (Path × ℕ)) → find path_cmp q (es ++ fs) ≡ option_or (find path_cmp q es) (find path_cmp q fs)
+find-both q [] fs = refl
+find-both q (e ∷ es) fs = grind (arith, find-both q es fs)
+
+-- Under the key that is looked up, the search goes on with the rest of the path. Other keys are passed over.
+find-under : (k l : Key) (p : Path) (rs : List (Path × ℕ)) →
+    find path_cmp (k ∷ p) (under_rows l rs) ≡ cond (eq_by_cmp key_cmp k l) (find path_cmp p rs) None
+find-under k l p [] = grind arith
+find-under k l p (r ∷ rs) = grind (arith, find-under k l p rs, tied_then (key_cmp k l) (path_cmp p r.0))
+
+-- A search in the rows of children in order finds the size at the path p below the key k.
+pub find-rows : (cs : List Child) (k : Key) (p : Path) → InOrder cs →
+    find path_cmp (k ∷ p) (rows_of cs) ≡ size_under cs k p
+unfolding IsStrictlySortedBy
+find-rows [] k p h = refl
+find-rows (c ∷ cs) k p h =
+    let none = λ (e : IsTrue (eq_by_cmp key_cmp k c.key)). none_above k c.key p cs e h.0 in
+    grind (arith, none, find-both (k ∷ p) (rows_of_child c) (rows_of cs), find-under k c.key p (entries c.graph), find-rows cs k p h.1, get-entries c.graph p)
+
+-- At the root, a node with children in order has its own size.
+pub get-root : (n : ℕ) (cs : List Child) → InOrder cs → get (node n cs) [] ≡ Some n
+get-root n cs h = get-from_sorted path_cmp (([], n) ∷ rows_of cs) [] (node_sorted n cs h)
+
+-- At a path below the root, a node with children in order has the size that they have there.
+pub get-under : (n : ℕ) (cs : List Child) (k : Key) (p : Path) → InOrder cs →
+    get (node n cs) (k ∷ p) ≡ size_under cs k p
+get-under n cs k p h = get-from_sorted path_cmp (([], n) ∷ rows_of cs) (k ∷ p) (node_sorted n cs h) ∙ find-rows cs k p h
+
+-- What holds of the sizes of three nodes and of their children holds of what is at each path.
+pub node_each : (P : Option ℕ → Option ℕ → Option ℕ → Type 0) (l m n : ℕ) (cs ds es : List Child) → InOrder cs →
+    InOrder ds → InOrder es → P (Some l) (Some m) (Some n)
+    → ((k : Key) (p : Path) → P (size_under cs k p) (size_under ds k p) (size_under es k p)) → (q : Path) →
+    P (get (node l cs) q) (get (node m ds) q) (get (node n es) q)
+node_each P l m n cs ds es a b c own each [] = rw (get-root l cs a, get-root m ds b, get-root n es c) own
+node_each P l m n cs ds es a b c own each (k ∷ p) =
+    rw (get-under l cs k p a, get-under m ds k p b, get-under n es k p c) (each k p)
+
+-- One child alone is in order.
+pub one_sorted : (c : Child) → InOrder (c ∷ [])
+unfolding IsStrictlySortedBy
+one_sorted c = (tt, tt)
+
+-- The graph with a key before each path is that of a node with one child.
+pub node_of_one : (c : Child) → node 0 (c ∷ []) ≡ under c.key c.graph
+node_of_one c =
+    same_entries_map _ _ (entries-node 0 (c ∷ []) (one_sorted c)
+    ∙ sym (entries-from_entries-sorted (([], 0) ∷ rows_of (c ∷ [])) (node_sorted 0 (c ∷ []) (one_sorted c))))
+    ∙ ap (λ rs. from_entries (([], 0) ∷ rs)) (append-nil (under_rows c.key (entries c.graph)))
+
+-- ---- a node with another size at its root, and its total
+-- A node with no children has only the root.
+pub node_nil : node 0 [] ≡ default
+node_nil = same_entries_map _ _ (entries-from_sorted path_cmp (([], 0) ∷ []) tt
+    ∙ sym (entries-from_entries-sorted (([], 0) ∷ []) tt))
+
+-- Changing a node's own size is changing the size at its root.
+pub insert_root : (n m : ℕ) (cs : List Child) → IsStrictlySortedBy key_cmp (keys_of cs) →
+    insert (node n cs) [] m ≡ node m cs
+insert_root n m cs h =
+    same_entries_map _ _ (entries-insert path_total (node n cs) [] m ∙ ap (put path_cmp [] m) (entries-node n cs h)
+    ∙ sym (entries-node m cs h))
+
+-- The total of a node is its own size and the totals of its children.
+pub total-node : (n : ℕ) (cs : List Child) → IsStrictlySortedBy key_cmp (keys_of cs) → total (node n cs) ≡ n + total_of cs
+total-node n cs h = omega (arith, ap (sum_by (λ (r : Path × ℕ). r.1)) (entries-node n cs h), sum_by-cons (λ (r : Path × ℕ). r.1) ([], n) (rows_of cs), total_of-rows cs)
+
+-- ---- merging children
+-- A child with another graph.
+abbrev pub with_graph : Child → Graph → Child
+with_graph c g = record { key = c.key; graph = g }
+
+-- Adding no child changes nothing. Children that did not change are a part of any sum.
+unchanged : {all : Bool} (cs ds : List Child) → AreChildren cs → (all ≡ true → [] ≡ ds) → Merged all cs ds cs
+unchanged cs ds h none = record {
+  children = h;
+  above = λ k p q. p;
+  part = λ k p. part_of_none (size_under cs k p) (size_under ds k p);
+  sum = λ w k p. subst (λ l. AddsUp (size_under cs k p) (size_under l k p) (size_under cs k p)) (none w)
+      (AddsUp-first (size_under cs k p));
+  at_most = omega arith;
+}
+
+-- If no children are merged into cs, the result is cs, and all was added.
+pub merged_same : (cs : List Child) → AreChildren cs → Merged true cs [] cs
+merged_same cs h = unchanged cs [] h (λ w. refl)
+
+-- If not all was added, cs unchanged is a merge of any ds into cs.
+pub not_merged : {all : Bool} → all ≡ false → (cs ds : List Child) → AreChildren cs → Merged all cs ds cs
+not_merged failed cs ds h = unchanged cs ds h (λ w. absurd (true≢false (sym w ∙ failed)))
+
+-- ---- one child more at the front, of either list or of both
+module _ (P : Option ℕ → Option ℕ → Option ℕ → Type 0) (c : Child) (cs ds es : List Child) (k : Key) (p : Path)
+    (rest : P (size_under cs k p) (size_under ds k p) (size_under es k p)) where
+  at_first : AllAbove ds c.key → ((x : Option ℕ) → P x None x) →
+      P (size_under (c ∷ cs) k p) (size_under ds k p) (size_under (c ∷ es) k p)
+  at_first h alone = on_test (λ t. P (cond t (get c.graph p) (size_under cs k p)) (size_under ds k p)
+      (cond t (get c.graph p) (size_under es k p))) (eq_by_cmp key_cmp k c.key)
+      (λ e. subst (λ (y : Option ℕ). P (get c.graph p) y (get c.graph p)) (sym (none_above k c.key p ds e h))
+      (alone (get c.graph p)))
+      (λ e. rest)
+
+  at_both : (d : Child) (g : Graph) → d.key ≡ c.key → P (get c.graph p) (get d.graph p) (get g p) →
+      P (size_under (c ∷ cs) k p) (size_under (d ∷ ds) k p) (size_under (with_graph c g ∷ es) k p)
+  at_both d g same one = subst (λ l. P (size_under (c ∷ cs) k p)
+      (cond (eq_by_cmp key_cmp k l) (get d.graph p) (size_under ds k p)) (size_under (with_graph c g ∷ es) k p))
+      (sym same)
+      (on_test (λ t. P (cond t (get c.graph p) (size_under cs k p)) (cond t (get d.graph p) (size_under ds k p))
+      (cond t (get g p) (size_under es k p))) (eq_by_cmp key_cmp k c.key) (λ e. one) (λ e. rest))
+
+module _ (b : Bool) (c : Child) (cs ds es : List Child) (m : Merged b cs ds es) where
+  pub merged_first : AreChildren (c ∷ cs) → AllAbove ds c.key → Merged b (c ∷ cs) ds (c ∷ es)
+  merged_first h g = record {
+    children = with_first c es (m.above c.key (first_below c cs h) g) h.trees.0 m.children;
+    above = λ k p q. (p.0, m.above k p.1 q);
+    part = λ k p. at_first AddsUpInPart c cs ds es k p (m.part k p) g (λ x. part_of_none x None);
+    sum = λ w k p. at_first AddsUp c cs ds es k p (m.sum w k p) g AddsUp-first;
+    at_most = omega (arith, m.at_most, total_of-cons c cs, total_of-cons c es);
+  }
+
+  pub merged_second : AllAbove cs c.key → AreChildren (c ∷ ds) → Merged b cs (c ∷ ds) (c ∷ es)
+  merged_second g h = record {
+    children = with_first c es (m.above c.key g (first_below c ds h)) h.trees.0 m.children;
+    above = λ k p q. (q.0, m.above k p q.1);
+    part = λ k p. at_first (λ x y z. AddsUpInPart y x z) c ds cs es k p (m.part k p) g
+        (λ y. part_of_sum None y y (AddsUp-second y));
+    sum = λ w k p. at_first (λ x y z. AddsUp y x z) c ds cs es k p (m.sum w k p) g AddsUp-second;
+    at_most = omega (arith, m.at_most, total_of-cons c ds, total_of-cons c es);
+  }
+
+-- The graph of d is added to that of c.
+pub merged_both : (a b : Bool) (c d : Child) (g : Graph) (cs ds es : List Child) → Merged b cs ds es → d.key ≡ c.key →
+    Added a c.graph d.graph g → AreChildren (c ∷ cs) → AllAbove ds d.key →
+    Merged (a && b) (c ∷ cs) (d ∷ ds) (with_graph c g ∷ es)
+merged_both a b c d g cs ds es m same sum h below = record {
+  children = with_first (with_graph c g) es (m.above c.key (first_below c cs h) (subst (AllAbove ds) same below)) sum.tree
+      m.children;
+  above = λ k p q. (p.0, m.above k p.1 q.1);
+  part = λ k p. at_both AddsUpInPart c cs ds es k p (m.part k p) d g same (sum.part p);
+  sum = λ w k p. at_both AddsUp c cs ds es k p (m.sum (and_parts a b w).1 k p) d g same (sum.sum (and_parts a b w).0 p);
+  at_most = omega (arith, m.at_most, sum.at_most, total_of-cons c cs, total_of-cons d ds, total_of-cons (with_graph c g) es);
+}
+
+-- ---- the next child
+-- If the first key of cs is less than the first key of ds, or ds has no child, the first child of cs is next.
+pub next_less : {cs ds cs' : List Child} {c : Child} → cs ≡ c ∷ cs' → AreChildren cs → AreChildren ds →
+    front_order cs ds ≡ Some Less → MergesFirst true cs ds (c ∷ []) cs' ds
+next_less {cs = cs} {ds = ds} {cs' = cs'} {c = c} e mine theirs front =
+    let all : AreChildren (c ∷ cs') = subst AreChildren e mine in
+    subst (λ (l : List Child). MergesFirst true l ds (c ∷ []) cs' ds) (sym e) (record {
+      goes_on = λ b es m. merged_first b c cs' ds es m all
+          (above ds theirs (subst (λ (l : List Child). front_order l ds ≡ Some Less) e front));
+      mine = others c cs' all;
+      theirs = theirs;
+      fewer = omega arith;
+      fewer_rows = omega arith;
+      fits = omega (arith, total_of-cons c cs');
+    })
+  where
+    above : (ds : List Child) → AreChildren ds → front_order (c ∷ cs') ds ≡ Some Less → AllAbove ds c.key
+    above [] h f = tt
+    above (d ∷ ds) h f = above_all c.key d ds (cc) h
+
+-- If the first key of cs is greater than the first key of ds, or cs has no child, the first child of ds is next.
+pub next_greater : {cs ds ds' : List Child} {d : Child} → ds ≡ d ∷ ds' → AreChildren cs → AreChildren ds →
+    front_order cs ds ≡ Some Greater → MergesFirst true cs ds (d ∷ []) cs ds'
+next_greater {cs = cs} {ds = ds} {ds' = ds'} {d = d} e mine theirs front =
+    let all : AreChildren (d ∷ ds') = subst AreChildren e theirs in
+    subst (λ (l : List Child). MergesFirst true cs l (d ∷ []) cs ds') (sym e) (record {
+      goes_on = λ b es m. merged_second b d cs ds' es m
+          (above cs mine (subst (λ (l : List Child). front_order cs l ≡ Some Greater) e front)) all;
+      mine = mine;
+      theirs = others d ds' all;
+      fewer = omega arith;
+      fewer_rows = omega (arith, length-append (rows_of_child d) (rows_of ds'));
+      fits = omega (arith, total_of-cons d ds');
+    })
+  where
+    above : (cs : List Child) → AreChildren cs → front_order cs (d ∷ ds') ≡ Some Greater → AllAbove cs d.key
+    above [] h f = tt
+    above (c ∷ cs) h f = above_all d.key c cs (key_turn c.key d.key (cc)) h
+
+-- ---- both have one key: the first child of ds is added to that of cs
+module _ {cs ds cs' ds' : List Child} {c d : Child} (e : cs ≡ c ∷ cs') (f : ds ≡ d ∷ ds') where
+  pub next_equal : {a : Bool} {g : Graph} → AreChildren cs → AreChildren ds → front_order cs ds ≡ Some Equal →
+      Added a c.graph d.graph g → MergesFirst a cs ds (with_graph c g ∷ []) cs' ds'
+  next_equal {a = a} {g = g} mine theirs front added =
+      let both : front_order (c ∷ cs') (d ∷ ds') ≡ Some Equal =
+      subst₂ (λ x y. front_order x y ≡ Some Equal) e f front in
+      let my_all : AreChildren (c ∷ cs') = subst AreChildren e mine in
+      subst₂ (λ x y. MergesFirst a x y (with_graph c g ∷ []) cs' ds') (sym e) (sym f) (record {
+        goes_on = λ b es m. merged_both a b c d g cs' ds' es m (sym (exact_bytes c.key d.key (cc))) added my_all
+            (first_below d ds' (subst AreChildren f theirs));
+        mine = others c cs' my_all;
+        theirs = others d ds' (subst AreChildren f theirs);
+        fewer = omega arith;
+        fewer_rows = omega (arith, length-append (rows_of_child d) (rows_of ds'));
+        fits = omega (arith, added.at_most, total_of-cons c cs', total_of-cons d ds');
+      })
+
+  pub both_fit : total c.graph + total d.graph ≤ total_of cs + total_of ds
+  both_fit = omega (arith, ap total_of e ∙ total_of-cons c cs', ap total_of f ∙ total_of-cons d ds')
+
+  pub rows_fit : len d.graph ≤ length (rows_of ds)
+  rows_fit = omega (arith, ap (λ l. length (rows_of l)) f ∙ length-append (rows_of_child d) (rows_of ds'), len-child d)
+
+-- ---- the loop of a merge
+-- What is merged first, and then what is merged first of the rest, is merged first of all.
+pub merges_then : {all a b : Bool} {cs ds out cs' ds' more cs'' ds'' made : List Child} →
+    MergesFirst a cs ds out cs' ds' → MergesFirst b cs' ds' more cs'' ds'' → all ≡ (a && b) → made ≡ out ++ more →
+    MergesFirst all cs ds made cs'' ds''
+merges_then {a = a} {b = b} {cs = cs} {ds = ds} {out = out} {more = more} {cs'' = cs''} {ds'' = ds''} m n all_is made_is =
+    subst₂ (λ v r. MergesFirst v cs ds r cs'' ds'') (sym all_is) (sym made_is) (record {
+      goes_on = λ c es k. subst₂ (λ v r. Merged v cs ds r) (sym (and_assoc a b c)) (sym (append_assoc out more es))
+          (m.goes_on (b && c) (more ++ es) (n.goes_on c es k));
+      mine = n.mine;
+      theirs = n.theirs;
+      fewer = omega (arith, m.fewer, n.fewer, length-append out more);
+      fewer_rows = omega (arith, m.fewer_rows, n.fewer_rows);
+      fits = omega (arith, m.fits, n.fits, sum_by-append (λ (c : Child). total c.graph) out more);
+    })
+
+-- When no child of either list remains, what was merged first is the merge of both.
+pub merges_all : {all : Bool} {cs ds out cs' ds' : List Child} → MergesFirst all cs ds out cs' ds' → cs' ≡ [] →
+    ds' ≡ [] → Merged all cs ds out
+merges_all {all = all} {cs = cs} {ds = ds} {out = out} m c d =
+    subst₂ (λ v r. Merged v cs ds r) (and-true all) (append-nil out)
+    (m.goes_on true [] (subst₂ (λ x y. Merged true x y []) (sym c) (sym d) (merged_same [] no_children)))
+
+-- Two results one after another are Ok exactly if each of them is.
+pub is_ok-and : {E : Type 0} (r s : Result (Unit {0}) E) → is_ok (result_and r s) ≡ (is_ok r && is_ok s)
+is_ok-and (Ok x) s = refl
+is_ok-and (Err e) s = refl
+
+-- ---- what is taken off the front
+-- If what was taken off the front of a list is x, the list is x followed by the rest.
+pub front_is : {X : Type 0} {o : Option X} {x : X} {xs rest : List X} → xs ≡ option_to_list o ++ rest → o ≡ Some x →
+    xs ≡ x ∷ rest
+front_is {rest = rest} e h = e ∙ ap (λ p. option_to_list p ++ rest) h
+
+-- A list of fewer than two items that ends in x has x alone.
+pub one_of_length : {X : Type 0} (xs rest : List X) (x : X) → xs ≡ rest ++ x ∷ [] → length xs < 2 → xs ≡ x ∷ []
+one_of_length xs [] x e h = e
+one_of_length xs (y ∷ rest) x e h = absurd (omega (arith, ap length e, length-append rest (x ∷ [])))
+
+-- ---- one child put among others: added to the one that has its key, or in its place
+-- A child whose key belongs at a place is merged by putting it there.
+inserted : (cs : List Child) (i : ℕ) (c : Child) → AreChildren cs → IsTree c.graph → IsChildGap cs c.key i →
+    Merged true cs (c ∷ []) (insert_at cs i c)
+inserted [] zero c h t gap = merged_second true c [] [] [] (merged_same [] h) tt (one_child c t)
+inserted [] (suc i) c h t gap = absurd (omega (arith, gap.within))
+inserted (x ∷ cs) zero c h t gap = merged_second true c (x ∷ cs) [] (x ∷ cs) (merged_same (x ∷ cs) h)
+    (above_all c.key x cs (key_turn x.key c.key (gap.between.1 0 x (omega arith) (omega arith))) h) (one_child c t)
+inserted (x ∷ cs) (suc i) c h t gap =
+    let rest = inserted cs i c (others x cs h) t (record {
+      within = omega (arith, gap.within);
+      between = (
+        (λ j d low w. gap.between.0 (suc j) d (omega arith) (omega arith)),
+        (λ j d low w. gap.between.1 (suc j) d (omega arith) (omega arith)),
+      );
+    }) in
+    merged_first true x cs (c ∷ []) (insert_at cs i c) rest h (gap.between.0 0 x (omega arith) (omega arith), tt)
+
+-- A child with the key of another is merged by adding its graph to the graph of that one.
+changed : (all : Bool) (cs : List Child) (i : ℕ) (c d : Child) (g : Graph) → AreChildren cs → i < length cs →
+    (get_or cs i d).key ≡ c.key → Added all (get_or cs i d).graph c.graph g →
+    Merged all cs (c ∷ []) (set cs i (with_graph (get_or cs i d) g))
+changed all [] i c d g h w same sum = absurd (omega arith)
+changed all (x ∷ cs) zero c d g h w same sum =
+    subst (λ (v : Bool). Merged v (x ∷ cs) (c ∷ []) (with_graph x g ∷ cs)) (and-true all)
+    (merged_both all true x c g cs [] cs (merged_same cs (others x cs h)) (sym same) sum h tt)
+changed all (x ∷ cs) (suc i) c d g h w same sum =
+    merged_first all x cs (c ∷ []) _ (changed all cs i c d g (others x cs h) (omega arith) same sum) h
+    (subst (λ (k : Key). key_cmp x.key k ≡ Less) same (rises (x ∷ cs) 0 (suc i) d h.sorted (omega arith) w), tt)
+
+-- ---- the key of c was found at i, where x is, and x gets the graph g
+module _ (c x : Child) (g : Graph) {cs ds : List Child} {i : ℕ} (same : ds ≡ cs) (found : IsFound ds c.key i)
+    (there : x ≡ get_or cs i x) where
+  here : IsFound cs c.key i
+  here = subst (λ l. IsFound l c.key i) same found
+
+  pub put_at_found : {all : Bool} → AreChildren cs → Added all x.graph c.graph g →
+      Merged all cs (c ∷ []) (set cs i (with_graph x g))
+  put_at_found {all = all} h sum = subst (λ (y : Child). Merged all cs (c ∷ []) (set cs i (with_graph y g))) (sym there)
+      (changed all cs i c x g h here.within (here.same x) (subst (λ (y : Child). Added all y.graph c.graph g) there sum))
+
+  pub totals_found : (total_of (set cs i (with_graph x g)) + total x.graph ≡ total_of cs + total g)
+      × (total x.graph ≤ total_of cs)
+  totals_found =
+      let t : Child → ℕ = λ y. total y.graph in
+      (omega (arith, sum_by-set t cs i (with_graph x g) x here.within, ap t there), omega (arith, get_or-le-sum_by t cs i x here.within, ap t there))
+
+-- ---- the key of c was not found, and belongs at i
+module _ (c : Child) {cs ds es : List Child} {i : ℕ} (same : ds ≡ cs) (missing : IsChildGap ds c.key i)
+    (put : es ≡ insert_at cs i c) where
+  pub put_at_gap : AreChildren cs → IsTree c.graph → Merged true cs (c ∷ []) es
+  put_at_gap h t = subst (Merged true cs (c ∷ [])) (sym put)
+      (inserted cs i c h t (subst (λ l. IsChildGap l c.key i) same missing))
+
+  pub total_at_gap : total_of es ≡ total_of cs + total c.graph
+  total_at_gap = ap total_of put ∙ sum_by-insert (λ (y : Child). total y.graph) cs i c

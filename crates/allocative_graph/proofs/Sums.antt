@@ -1,0 +1,268 @@
+-- What a bag adds to the sums, path by path, whatever its order, the bytes one key below a path, and which paths have
+-- entries.
+use Rattle.std.proofs.Common.{◌≡◌, ℕ, ◌+◌, Bool, false, cond, [], ◌∷◌, Option, Some, None, refl, ap, sym, ◌∙◌, sum_by}
+use Rattle.std.proofs.Common.{arith, nat_lt, IsTrue, true, T, List, subst, unwrap_or, map, Ordering, Less, ◌++◌}
+use Rattle.std.proofs.Common.{flat_map, ◌&&◌, ◌||◌, true≢false}
+use Rattle.allocative_graph.proofs.Common.{get, get-insert, same_map, Path, path_cmp, is_same_path, Entry, Bag, Node}
+use Rattle.allocative_graph.proofs.Common.{Sums, bytes_in, is_unique_in, is_entered_in, together, node_of, add, add_all}
+use Rattle.allocative_graph.proofs.Common.{sums_of, sum_by-cons, list_any, option_map, eq_by_cmp, is_eq, is_lt}
+use Rattle.allocative_graph.proofs.Common.{IsAntisymmetric, get-entries, insert, entries-insert, entries}
+use Rattle.allocative_graph.proofs.Common.{entries_sorted, put, find, is_sorted, below_all, is_one_below, below, both}
+use Rattle.allocative_graph.proofs.Common.{first, second, AllByRecursion, list_any-append, nat_cmp-IsAntisymmetric}
+use Rattle.allocative_graph.proofs.Common.{slice_cmp-IsAntisymmetric, Key, key_cmp, Identity, Forest, Empty, Inline}
+use Rattle.allocative_graph.proofs.Common.{Unique, First, Again, AsInline, AsUnique, AsShared, own, own_behind}
+use Rattle.allocative_graph.proofs.Common.{contents, content_entries, all, IsTotalOrder, Mark}
+use Rattle.std.proofs.lemmas.Bool.Decides.{nat_tests}
+use Rattle.std.specs.FinMap.{empty, get-empty, FinMap}
+use Rattle.allocative_graph.specs.Sums.{is_unique_mark, bytes_entered}
+use Rattle.allocative_graph.proofs.Basics.{path_total, path_antisymmetric, same_path, is_eq-Equal, each-append}
+use Rattle.allocative_graph.proofs.Basics.{and_parts, false_from_ne_true, same_path_itself, key_itself}
+pub use Rattle.allocative_graph.specs.Sums.{below_in}
+use Rattle.allocative_graph.proofs.Computed.{below_list, entries-empty}
+
+-- What a bag has at a path.
+abbrev pub node_in : Bag → Path → Option Node
+node_in b q = cond (is_entered_in b q) (Some (record { bytes = bytes_in b q; is_unique = is_unique_in b q })) None
+
+abbrev pub merge : Option Node → Option Node → Option Node
+merge a None = a
+merge a (Some n) = Some (together a n)
+
+-- One entry more in a bag adds its bytes at its own path, and nothing at other paths.
+bytes-cons : (e : Entry) (b : Bag) (q : Path) →
+    bytes_in (e ∷ b) q ≡ cond (is_same_path q e.path) e.size 0 + bytes_in b q
+bytes-cons e b q = sum_by-cons (λ e. cond (is_same_path q e.path) e.size 0) e b
+
+-- If a bag has no entry at a path, it has no bytes there.
+pub bytes_none : (b : Bag) (q : Path) → is_entered_in b q ≡ false → bytes_in b q ≡ 0
+bytes_none [] q h = refl
+bytes_none (e ∷ b) q h = grind (arith, bytes_none b q, bytes-cons e b q)
+
+-- If a bag has no entry at a path, it has no unique entry there.
+unique_none : (b : Bag) (q : Path) → is_entered_in b q ≡ false → is_unique_in b q ≡ false
+unique_none [] q h = refl
+unique_none (e ∷ b) q h = grind (arith, unique_none b q)
+
+abbrev node : ℕ → Bool → Node
+node n u = record { bytes = n; is_unique = u }
+
+-- An entry added to sums is joined to what its path had there. Other paths stay as they were.
+pub get-add : (s : Sums) (e : Entry) (q : Path) →
+    get (add s e) q ≡ cond (is_same_path q e.path) (Some (together (get s e.path) (node_of e))) (get s q)
+get-add s e q = get-insert path_total s e.path _ q
+
+-- Sums with a bag added have at each path what they had there, together with what the bag has there.
+pub get-add_all : (s : Sums) (b : Bag) (q : Path) → get (add_all s b) q ≡ merge (get s q) (node_in b q)
+get-add_all s [] q = refl
+get-add_all s (e ∷ b) q = grind (arith, get-add_all (add s e) b q, get-add s e q, bytes-cons e b q, same_path q e.path, bytes_none b q, unique_none b q)
+
+-- The sums of a bag have at each path what the bag has there.
+pub get-sums_of : (b : Bag) (q : Path) → get (sums_of b) q ≡ node_in b q
+get-sums_of b q = get-add_all empty b q ∙ ap (λ o. merge o (node_in b q)) (get-empty path_cmp q) ∙ grind arith
+
+-- Sums that have the same at each path are equal.
+pub same_sums : (s t : Sums) → ((q : Path) → get s q ≡ get t q) → s ≡ t
+same_sums = same_map path_total path_antisymmetric
+
+-- ---- bags with the same sums, whatever is added up of their entries
+abbrev pub SameSums : Bag → Bag → Type 0
+SameSums b c = (w : Entry → ℕ) → sum_by w b ≡ sum_by w c
+
+-- An entry of a bag passes a test exactly if the number of entries that pass it is above 0.
+any_counted : (test : Entry → Bool) (b : Bag) → list_any test b ≡ nat_lt 0 (sum_by (λ e. cond (test e) 1 0) b)
+any_counted test [] = refl
+any_counted test (e ∷ b) = rw (any_counted test b, sum_by-cons (λ e. cond (test e) 1 0) e b) (grind (arith, nat_tests))
+
+-- Of two bags with the same sums, both have an entry that passes a test, or neither has.
+any_same : (test : Entry → Bool) (b c : Bag) → SameSums b c → list_any test b ≡ list_any test c
+any_same test b c h = any_counted test b ∙ ap (nat_lt 0) (h (λ e. cond (test e) 1 0)) ∙ sym (any_counted test c)
+
+-- Two bags with the same sums have the same at each path.
+node_in-same : (b c : Bag) → SameSums b c → (q : Path) → node_in b q ≡ node_in c q
+node_in-same b c h q = λ i. cond (any_same (λ e. is_same_path q e.path) b c h i)
+    (Some (node (h (λ e. cond (is_same_path q e.path) e.size 0) i)
+    (any_same (λ e. cond (is_same_path q e.path) (is_unique_mark e.mark) false) b c h i))) None
+
+-- Two bags with the same sums, each added to the same sums, give one result.
+pub add_all-same : (s : Sums) (b c : Bag) → SameSums b c → add_all s b ≡ add_all s c
+add_all-same s b c h = same_sums _ _ (λ q. get-add_all s b q ∙ ap (merge (get s q)) (node_in-same b c h q)
+    ∙ sym (get-add_all s c q))
+
+-- ---- sums over the entries of a map
+-- An ordering that tests as less is `Less`.
+pub is_lt-Less : (r : Ordering) → T (is_lt r) → r ≡ Less
+is_lt-Less Less h = refl
+is_lt-Less r h = absurd h
+
+-- A key that comes before all keys of a list is not found in it.
+pub find-below_all : {K X : Type 0} (R : K → K → Ordering) (k : K) (es : List (K × X)) → T (below_all R k es) →
+    find R k es ≡ None
+find-below_all R k [] h = refl
+find-below_all R k (e ∷ es) h = ap (λ r. cond (is_eq r) (Some e.1) (find R k es)) (is_lt-Less (R k e.0) (first _ _ h))
+    ∙ find-below_all R k es (second (is_lt (R k e.0)) _ h)
+
+-- Keys of a map of which only equal ones tie.
+module _ {K X : Type 0} {R : K → K → Ordering} (total : IsTotalOrder R) (same : IsAntisymmetric R) where
+  -- A search finds the value of a key exactly if the key is listed.
+  pub find-keys : (v : K → X) (ks : List K) (q : K) →
+      find R q (map (λ k. (k, v k)) ks) ≡ cond (list_any (eq_by_cmp R q) ks) (Some (v q)) None
+  find-keys v [] q = refl
+  find-keys v (k ∷ ks) q = let tied = λ (h : IsTrue (eq_by_cmp R q k)). same q k (is_eq-Equal _ h) in
+      grind (arith, tied, find-keys v ks q)
+
+  below_all-less : (k p : K) (es : List (K × X)) → R k p ≡ Less → T (below_all R p es) → T (below_all R k es)
+  below_all-less k p [] h g = tt
+  below_all-less k p (e ∷ es) h g = both _ _ (subst (λ r. T (is_lt r))
+      (sym (total.trans k p e.0 h (is_lt-Less _ (first _ _ g)))) tt)
+      (below_all-less k p es h (second (is_lt (R p e.0)) _ g))
+
+  -- A sum over the entries when one entry changes by d.
+  module _ (weight : K → X → ℕ) where
+    abbrev weigh : K × X → ℕ
+    weigh e = weight e.0 e.1
+
+    abbrev Changes : K → X → ℕ → Option X → Type 0
+    Changes k v d old = weight k v ≡ unwrap_or (option_map (weight k) old) 0 + d
+
+    weights-put : (k : K) (v : X) (d : ℕ) (es : List (K × X)) → T (is_sorted R es) → Changes k v d (find R k es) →
+        sum_by weigh (put R k v es) ≡ sum_by weigh es + d
+    weights-put k v d [] h e = omega (arith, e)
+    weights-put k v d (x ∷ es) h e =
+        let none = λ (q : R k x.0 ≡ Less). find-below_all R k es
+        (below_all-less k x.0 es q (first (below_all R x.0 es) (is_sorted R es) h)) in
+        let rest = weights-put k v d es (second (below_all R x.0 es) _ h) in
+        grind (arith, none, rest, same k x.0, e, sum_by-cons weigh (k, v) (x ∷ es), sum_by-cons weigh (x.0, v) es, sum_by-cons weigh x es, sum_by-cons weigh x (put R k v es))
+
+    pub weights-insert : (m : FinMap R X) (k : K) (v : X) (d : ℕ) → Changes k v d (get m k) →
+        sum_by weigh (entries (insert m k v)) ≡ sum_by weigh (entries m) + d
+    weights-insert m k v d e = ap (sum_by weigh) (entries-insert total m k v)
+        ∙ weights-put k v d (entries m) (entries_sorted m) (subst (Changes k v d) (get-entries m k) e)
+
+-- The bytes at the paths that count, after one more entry.
+added_bytes : (counts : Path → Bool) (s : Sums) (e : Entry) →
+    sum_by (λ x. cond (counts x.0) x.1.bytes 0) (entries (add s e))
+    ≡ sum_by (λ x. cond (counts x.0) x.1.bytes 0) (entries s) + cond (counts e.path) e.size 0
+added_bytes counts s e = weights-insert path_total path_antisymmetric (λ p n. cond (counts p) n.bytes 0) s e.path
+    (together (get s e.path) (node_of e)) (cond (counts e.path) e.size 0) (grind arith)
+
+-- One more entry adds its bytes to those one key below p if it is one key below p, and otherwise none.
+pub below-add : (s : Sums) (e : Entry) (p : Path) →
+    below (add s e) p ≡ below s p + cond (is_one_below p e.path) e.size 0
+below-add s e p = added_bytes (is_one_below p) s e
+
+-- One more entry adds its bytes to all bytes entered.
+pub bytes_entered-add : (s : Sums) (e : Entry) → bytes_entered (add s e) ≡ bytes_entered s + e.size
+bytes_entered-add s e = added_bytes (λ p. true) s e
+
+-- Empty sums have no bytes entered.
+pub bytes_entered-empty : bytes_entered empty ≡ 0
+bytes_entered-empty = ap (sum_by (λ x. x.1.bytes)) entries-empty
+
+-- Adding a bag adds the bytes that it has one key below p to those that the sums have there.
+pub below-add_all : (s : Sums) (b : Bag) (p : Path) → below (add_all s b) p ≡ below s p + below_in b p
+below-add_all s [] p = omega arith
+below-add_all s (e ∷ b) p = omega
+    (arith, below-add_all (add s e) b p, below-add s e p, sum_by-cons (λ e. cond (is_one_below p e.path) e.size 0) e b)
+
+-- The sums of a bag have the same bytes one key below each path as the bag itself.
+pub below-sums_of : (b : Bag) (p : Path) → below (sums_of b) p ≡ below_in b p
+below-sums_of b p = omega (arith, below-add_all empty b p, ap (λ es. below_list es p) entries-empty)
+
+-- ---- a path with an entry one key below it has an entry itself, or is the root
+-- If the path r with one more key is one key below p, then p is r.
+pub one_below_child : (p r : Path) (k : Key) → IsTrue (is_one_below p (r ++ k ∷ [])) → p ≡ r
+one_below_child [] [] k h = refl
+one_below_child [] (l ∷ []) k h = absurd (true≢false (sym h))
+one_below_child [] (l ∷ m ∷ r) k h = absurd (true≢false (sym h))
+one_below_child (a ∷ []) [] k h = absurd (true≢false (sym (and_parts (eq_by_cmp key_cmp a k) false h).1))
+one_below_child (a ∷ b ∷ p) [] k h = absurd (true≢false (sym (and_parts (eq_by_cmp key_cmp a k) false h).1))
+one_below_child (a ∷ p) (l ∷ r) k h =
+    let parts = and_parts (eq_by_cmp key_cmp a l) _ h in
+    λ i. slice_cmp-IsAntisymmetric nat_cmp-IsAntisymmetric a l (is_eq-Equal _ parts.0) i ∷ one_below_child p r k parts.1
+    i
+
+-- Whether b has an entry one key below p.
+abbrev has_below : Bag → Path → Bool
+has_below b p = list_any (λ e. is_one_below p e.path) b
+
+-- A path with an entry one key below it is r, or is entered.
+abbrev Closed : Path → Bag → Type 0
+Closed r b = (p : Path) → IsTrue (has_below b p) → IsTrue (is_same_path p r || is_entered_in b p)
+
+-- If two bags are closed at r, so are both one after another.
+closed_append : (r : Path) (b c : Bag) → Closed r b → Closed r c → Closed r (b ++ c)
+closed_append r b c x y p =
+    rw (list_any-append (λ e. is_one_below p e.path) b c, list_any-append (λ e. is_same_path p e.path) b c)
+    (λ h. grind (arith, x p, y p))
+
+-- An entry at r ++ k ∷ [], with others inside it and after it.
+closed_entry : (r : Path) (k : Key) (n : ℕ) (m : Mark) (b c : Bag) → Closed (r ++ k ∷ []) b → Closed r c →
+    Closed r (record { path = r ++ k ∷ []; size = n; mark = m } ∷ (b ++ c))
+closed_entry r k n m b c x y p =
+    rw (list_any-append (λ e. is_one_below p e.path) b c, list_any-append (λ e. is_same_path p e.path) b c)
+    (λ h. let here = λ (w : IsTrue (is_one_below p (r ++ k ∷ []))). ap (is_same_path p) (sym (one_below_child p r k w))
+    ∙ same_path_itself p in grind (arith, x p, y p, here))
+
+-- A bag without entries is closed at each path.
+closed_none : (r : Path) → Closed r []
+closed_none r p h = absurd (true≢false (sym h))
+
+-- The own entries of a forest with the path r before theirs are closed at r.
+closed_behind : (r : Path) (f : Forest) → Closed r (own_behind r f)
+closed_behind r Empty = closed_none r
+closed_behind r (Inline k n f after) = closed_entry r k n AsInline (own_behind (r ++ k ∷ []) f) (own_behind r after)
+    (closed_behind (r ++ k ∷ []) f) (closed_behind r after)
+closed_behind r (Unique k n f after) = closed_entry r k n AsUnique (own_behind (r ++ k ∷ []) f) (own_behind r after)
+    (closed_behind (r ++ k ∷ []) f) (closed_behind r after)
+closed_behind r (First k n j f after) = closed_entry r k n (AsShared j) [] (own_behind r after)
+    (closed_none (r ++ k ∷ [])) (closed_behind r after)
+closed_behind r (Again k n j after) = closed_entry r k n (AsShared j) [] (own_behind r after)
+    (closed_none (r ++ k ∷ [])) (closed_behind r after)
+
+-- Each content of a forest is closed at the root.
+closed_each : (f : Forest) → AllByRecursion (λ c. Closed [] c.1) (contents f)
+closed_each Empty = tt
+closed_each (Inline k n f after) = each-append (λ c. Closed [] c.1) (contents f) (contents after) (closed_each f)
+    (closed_each after)
+closed_each (Unique k n f after) = each-append (λ c. Closed [] c.1) (contents f) (contents after) (closed_each f)
+    (closed_each after)
+closed_each (First k n j f after) = (closed_behind [] f, each-append (λ c. Closed [] c.1) (contents f) (contents after) (closed_each f) (closed_each after))
+closed_each (Again k n j after) = closed_each after
+
+-- If each of some contents is closed at the root, so are all of them one after another.
+closed_flat : (cs : List (Identity × Bag)) → AllByRecursion (λ c. Closed [] c.1) cs → Closed [] (flat_map (λ c. c.1) cs)
+closed_flat [] h = closed_none []
+closed_flat (c ∷ cs) h = closed_append [] c.1 (flat_map (λ c. c.1) cs) h.0 (closed_flat cs h.1)
+
+-- All entries of a forest are closed at the root.
+closed_all : (f : Forest) → Closed [] (all f)
+closed_all f = closed_append [] (own f) (content_entries f) (closed_behind [] f)
+    (closed_flat (contents f) (closed_each f))
+
+-- A path with one more key is one key below the path.
+pub one_below_self : (p : Path) (k : Key) → IsTrue (is_one_below p (p ++ k ∷ []))
+one_below_self [] k = refl
+one_below_self (l ∷ p) k = (λ i. is_eq (key_itself l i) && is_one_below p (p ++ k ∷ [])) ∙ one_below_self p k
+
+-- If a bag has an entry at p with one more key, it has an entry one key below p.
+pub below_entered : (p : Path) (k : Key) (b : Bag) → IsTrue (is_entered_in b (p ++ k ∷ [])) → IsTrue (has_below b p)
+below_entered p k [] h = h
+below_entered p k (e ∷ b) h =
+    grind (arith, h, below_entered p k b, same_path (p ++ k ∷ []) e.path, one_below_self p k)
+
+-- In a forest, a path other than the root has an entry if a path one key below it has one.
+pub parent_entered : (f : Forest) (l : Key) (p : Path) → IsTrue (has_below (all f) (l ∷ p)) →
+    IsTrue (is_entered_in (all f) (l ∷ p))
+parent_entered f l p h = closed_all f (l ∷ p) h
+
+-- If a bag has no entry one key below p, it has no bytes there.
+below_none : (b : Bag) (p : Path) → has_below b p ≡ false → below_in b p ≡ 0
+below_none [] p h = refl
+below_none (e ∷ b) p h =
+    grind (arith, h, below_none b p, sum_by-cons (λ e. cond (is_one_below p e.path) e.size 0) e b)
+
+-- If a forest has no entry at a path other than the root, it has no bytes one key below that path.
+pub absent_below : (f : Forest) (k : Key) (p : Path) → is_entered_in (all f) (k ∷ p) ≡ false →
+    below_in (all f) (k ∷ p) ≡ 0
+absent_below f k p h = below_none (all f) (k ∷ p)
+    (false_from_ne_true _ (λ w. true≢false (sym (parent_entered f k p w) ∙ h)))
