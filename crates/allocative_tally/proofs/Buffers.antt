@@ -1,22 +1,22 @@
 -- How texts and buffers are counted.
 use Rattle.std.proofs.Common.{◌≡◌, ◌≤◌, ◌<◌, ◌+◌, ◌-◌, ◌*◌, ◌^◌, mul-add, ℕ, Bool, true, false, nat_lt, codes, max}
-use Rattle.std.proofs.Common.{if◌then◌else◌, List, ◌++◌, length, length-append, Option, Some, None, refl, sym, ap, subst}
-use Rattle.std.proofs.Common.{◌∙◌, arith}
+use Rattle.std.proofs.Common.{if◌then◌else◌, List, ◌++◌, length, length-append, Option, Some, None, refl, sym, ap}
+use Rattle.std.proofs.Common.{subst, ◌∙◌, arith}
 use Rattle.allocative_described.specs.Sizes.{checked, size_product}
 use Rattle.allocative_graph.specs.Owned.{direct}
 use Rattle.allocative_graph.proofs.Owned.{direct-following}
-use Rattle.allocative.proofs.Common.{Key, Showing, Nothing, Both, Inside, InsideAs, Field, slice_shows}
-use Rattle.allocative.proofs.Common.{buffer_shows, with_room, without_room, without_size}
+use Rattle.allocative.proofs.Common.{Key, Showing, Nothing, Both, Inside, InsideAs, Field, slice_shows, buffer_shows}
+use Rattle.allocative.proofs.Common.{with_room, without_room, without_size}
 use Rattle.allocative.specs.Bodies.{cut_shows, is_cut, text_shows, is_text, are_shown_each, bytes_shown}
-use Rattle.allocative_tally.specs.Shapes.{Shape, Unique, Wide, NoEntry, Beside, EntryAt, forest_of, sum_of}
-use Rattle.allocative_tally.specs.Shapes.{sum_times, entries, bytes_times, top_bytes, items_shape, buffer_shape}
-use Rattle.allocative_tally.specs.Shapes.{unused_shape}
-use Rattle.allocative_tally.specs.Tallies.{Tallies, TalliesNext, TalliesEach, TalliesSlice, size_times}
-use Rattle.allocative_tally.specs.Places.{AddsPlaces, CountsRoom, no_bytes, no_room, is_room, buffer_of}
+use Rattle.allocative_tally.specs.Shapes.{Shape, Unique, Wide, NoEntry, Beside, EntryAt, forest_of, sum_of, sum_times}
+use Rattle.allocative_tally.specs.Shapes.{entries, bytes_times, top_bytes, items_shape, buffer_shape, unused_shape}
+use Rattle.allocative_tally.specs.Tallies.{Tallies, TalliesNext, TalliesEach, TalliesSlice, size_times, AddsPlaces}
+use Rattle.allocative_tally.specs.Tallies.{CountsRoom, no_bytes, no_room, is_room, buffer_of}
 use Rattle.allocative_tally.specs.declared.places.Places.{Places}
 use Rattle.allocative_tally.proofs.Counting.{counted_field, counted_inline, counted_unique, counted_leaf, tallies_both}
-use Rattle.allocative_tally.proofs.Counting.{tallies_as, tallies_then, tallies_none, fits_bytes, entry_direct, shape_direct}
-use Rattle.allocative_tally.proofs.Fields.{adds_of, adds_times, one_more, next_case, holds_bytes}
+use Rattle.allocative_tally.proofs.Counting.{tallies_as, tallies_then, tallies_none, entry_direct, shape_direct}
+use Rattle.allocative_tally.proofs.Sizes.{holds_bytes}
+use Rattle.allocative_tally.proofs.Fields.{adds_of, adds_times, one_more, next_case}
 
 -- ---- texts
 -- A text is five entries.
@@ -33,13 +33,13 @@ text_counted {l} {c} {a} {b} {u} {a'} {b'} {u'} room capacity used unused fits =
   next = λ n.
       let inside = counted_inline {k = codes "capacity"} (adds_of n (n + 1) (omega arith) capacity)
       (tallies_both (counted_leaf {k = codes "u8"} (adds_of n (n + 1) (omega arith) used))
-      (counted_leaf {k = codes "unused_capacity"} (adds_of n (n + 1) (omega arith) unused))) (fits_bytes (omega (arith, room))) in
+      (counted_leaf {k = codes "unused_capacity"} (adds_of n (n + 1) (omega arith) unused))) (holds_bytes (omega (arith, room))) in
       let before = entry_direct Wide (codes "capacity") (sum_of n a)
       (Beside (EntryAt Wide (codes "u8") (sum_of n b) NoEntry) (unused_shape n u)) in
       let pointer = counted_unique {k = codes "ptr"} (one_more (Some 8) n (n + 1) refl refl) inside
       (λ r. omega (arith, before, inside.within, capacity, fits)) in
       counted_field refl (counted_inline (one_more (Some 24) n (n + 1) refl refl) (tallies_as (λ h x. is_text x) pointer)
-      (fits_bytes (omega arith)));
+      (holds_bytes (omega arith)));
 }
 
 -- ---- containers
@@ -48,7 +48,7 @@ pub next_inside : {m : ℕ} (n : ℕ) {k : Key} {p : Showing} {s t : Shape} → 
     TalliesNext (Some n) (Inside k n p) (λ i. entries k (Some n) i s) (λ i. entries k (Some n) i t)
 next_inside n room fits inside = record {
   declared = record { bytes = n; sized = refl; fits = fits };
-  next = λ i. counted_inline (one_more (Some n) i (i + 1) refl refl) inside (fits_bytes room);
+  next = λ i. counted_inline (one_more (Some n) i (i + 1) refl refl) inside (holds_bytes room);
 }
 
 -- The same, of a container that declares its size.

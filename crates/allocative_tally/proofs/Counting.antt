@@ -1,21 +1,19 @@
 -- How what was counted composes as what is shown does.
-use Rattle.std.proofs.Common.{◌≡◌, ◌≤◌, ◌<◌, ◌+◌, ◌^◌, ℕ, Bool, true, false, List, [], ◌∷◌, ◌++◌, Option, Some}
-use Rattle.std.proofs.Common.{None}
+use Rattle.std.proofs.Common.{◌≡◌, ◌≤◌, ◌<◌, ◌+◌, ◌^◌, ℕ, Bool, true, false, List, [], ◌∷◌, ◌++◌, Option, Some, None}
 use Rattle.std.proofs.Common.{refl, sym, subst, ◌∙◌, arith}
 use Rattle.std.proofs.lemmas.Bool.{false≢true}
-use Rattle.allocative.proofs.Common.{Key, Forest, Empty, followed_by, entry_of, Showing, Nothing, Both}
-use Rattle.allocative.proofs.Common.{InsideAs, Inside, Field, sized, each_shows}
+use Rattle.allocative.proofs.Common.{Key, Forest, Empty, followed_by, entry_of, Showing, Nothing, Both, InsideAs}
+use Rattle.allocative.proofs.Common.{Inside, Field, sized, each_shows}
 use Rattle.allocative_graph.specs.Owned.{direct}
 use Rattle.allocative_graph.proofs.Owned.{direct-following}
 use Rattle.allocative.proofs.Strict.{followed_by-empty, followed_by_assoc, each_append, each_one}
-use Rattle.allocative_tally.specs.Merged.{IsPlain, Merged}
-use Rattle.allocative_tally.specs.Shapes.{Width, Unique, Wide, Narrow, is_unique, Keeps, Shape}
+use Rattle.allocative_tally.specs.Shapes.{IsPlain, Merged, Width, Unique, Wide, Narrow, is_unique, Keeps, Shape}
 use Rattle.allocative_tally.specs.Shapes.{NoEntry, Beside, EntryAt, forest_of, Holds, IsRight, entry_counted, top_bytes}
 use Rattle.allocative_tally.specs.Tallies.{Tallies, IsWithin, AddsEntry, both_bounds}
 use Rattle.allocative_tally.specs.declared.tally.Sum.{Sum}
-use Rattle.allocative_tally.proofs.Unshared.{plain_parts, plain_inside}
-use Rattle.allocative_tally.proofs.Merging.{merged_same, merged_then, merged_both, merged_crossed, merged_entry}
-use Rattle.allocative_tally.proofs.Merging.{merged_inside, KeepsOwned}
+use Rattle.allocative_tally.proofs.Sizes.{HoldsBound, holds_nothing}
+use Rattle.allocative_tally.proofs.Merging.{plain_parts, plain_inside, merged_same, merged_then, merged_both}
+use Rattle.allocative_tally.proofs.Merging.{merged_crossed, merged_entry, merged_inside, KeepsOwned}
 
 -- No bytes are within any bound.
 zero_within : (w : Option ℕ) → IsWithin 0 w
@@ -137,50 +135,19 @@ direct_entry : (u : Bool) (k : Key) (n : ℕ) (f : Forest) → direct (entry_of 
 direct_entry true k n f = omega arith
 direct_entry false k n f = omega arith
 
--- What is inside entries of this kind has room in a word by itself.
-abbrev pub HasInsideRoom : Width → Shape → Forest → Type 0
-HasInsideRoom Unique s h = IsRight s → direct (forest_of s) + direct h < 2 ^ 64
-HasInsideRoom Wide s h = Unit {0}
-HasInsideRoom Narrow s h = IsRight s → direct (forest_of s) + direct h < 2 ^ 64
-
--- What is inside has room if the entries do.
-inside_room : (x : Width) (m n : ℕ) (s : Shape) (h : Forest) → HasInsideRoom x s h → Keeps x m (forest_of s) →
-    Keeps x n h → IsRight s → m + n < 2 ^ 64 → direct (forest_of s) + direct h < 2 ^ 64
-inside_room Unique m n s h i a b r room = i r
-inside_room Wide m n s h i a b r room = omega (arith, a, b, room)
-inside_room Narrow m n s h i a b r room = i r
-
--- Whatever a bound allows fits an entry of n bytes.
-pub record FitsEntry (w : Option ℕ) (n : ℕ) : Type 0 where
-  pub fits : (d : ℕ) → IsWithin d w → d ≤ n
-
--- An entry of n bytes is of its kind, with whatever is inside it.
-abbrev pub IsOfKind : Width → Option ℕ → Showing → ℕ → Type 0
-IsOfKind Unique w p n = Unit {0}
-IsOfKind Wide w p n = FitsEntry w n
-IsOfKind Narrow w p n = (f : Forest) → p f → n ≤ direct f
-
--- The entry that was counted is of its kind.
-counted_keeps : {w : Option ℕ} {p : Showing} (x : Width) (n : ℕ) {s t : Shape} → IsOfKind x w p n →
-    (c : Tallies w p s t) → Keeps x n c.counted
-counted_keeps Unique n i c = tt
-counted_keeps Wide n i c = i.fits (direct c.counted) c.within
-counted_keeps Narrow n i c = i c.counted c.allowed
-
 -- One more entry was counted, with what is inside it.
 pub tallies_entry : {w : Option ℕ} {p : Showing} (x : Width) (k : Key) (n : ℕ) {old new : Sum} {s t : Shape} →
-    AddsEntry n old new → IsOfKind x w p n → (c : Tallies w p s t) → HasInsideRoom x s c.counted →
+    AddsEntry n old new → (c : Tallies w p s t) → Keeps x n c.counted →
+    (IsRight s → Keeps x old.bytes (forest_of s) → old.bytes + n < 2 ^ 64 →
+    direct (forest_of s) + direct c.counted < 2 ^ 64) →
     Tallies (Some n) (InsideAs (is_unique x) k n p) (EntryAt x k old s) (EntryAt x k new t)
-tallies_entry {w} {p} x k n {old} {new} {s} {t} more kind c inside = record {
+tallies_entry {w} {p} x k n {old} {new} {s} {t} more c keeps inside = record {
   counted = entry_of (is_unique x) k n c.counted;
   allowed = (c.counted, c.allowed, refl);
   within = omega (arith, direct_entry (is_unique x) k n c.counted);
   merged = λ r room. rw more.is_there (one_more old.is_there r room);
 }
   where
-    keeps : Keeps x n c.counted
-    keeps = counted_keeps x n kind c
-
     one_more : (b : Bool) → IsPlain (entry_counted b (is_unique x) k old.bytes (forest_of s)) ×
         (Holds s × (b ≡ false → (old.bytes ≡ 0) × (forest_of s ≡ Empty)) × Keeps x old.bytes (forest_of s)) →
         direct (entry_counted b (is_unique x) k old.bytes (forest_of s))
@@ -198,7 +165,7 @@ tallies_entry {w} {p} x k n {old} {new} {s} {t} more kind c inside = record {
           direct_entry (is_unique x) k old.bytes (forest_of s),
         ) in
         let right : IsRight s = (plain_inside (is_unique x) k old.bytes (forest_of s) plain, holds) in
-        let m = c.merged right (inside_room x old.bytes n s c.counted inside kept keeps right sizes) in
+        let m = c.merged right (inside right kept sizes) in
         rw (more.bytes sizes) (
           entries_merged (is_unique x) k old.bytes n (forest_of s) c.counted (forest_of t) sizes
               (keeps_owned x old.bytes n (forest_of s) c.counted kept keeps) m.0,
@@ -218,7 +185,7 @@ tallies_entry {w} {p} x k n {old} {new} {s} {t} more kind c inside = record {
           nothing.0,
         ) in
         let right : IsRight s = (subst IsPlain (sym nothing.1) tt, holds) in
-        let m = c.merged right (inside_room x old.bytes n s c.counted inside kept keeps right sizes) in
+        let m = c.merged right (inside right kept sizes) in
         let same : Merged c.counted (forest_of t) =
         subst (λ (h : Forest). Merged (followed_by h c.counted) (forest_of t)) nothing.1 m.0 in
         let bytes : new.bytes ≡ n = omega (arith, nothing.0, more.bytes sizes) in rw bytes (
@@ -233,35 +200,35 @@ tallies_entry {w} {p} x k n {old} {new} {s} {t} more kind c inside = record {
 -- ---- in the words of the code
 -- One more inline entry was counted, with what is inside it.
 pub counted_inline : {w : Option ℕ} {p : Showing} {k : Key} {n : ℕ} {old new : Sum} {s t : Shape} →
-    AddsEntry n old new → Tallies w p s t → FitsEntry w n →
+    AddsEntry n old new → Tallies w p s t → HoldsBound (Some n) w →
     Tallies (Some n) (Inside k n p) (EntryAt Wide k old s) (EntryAt Wide k new t)
-counted_inline {k = k} {n = n} more c fits = tallies_entry Wide k n more fits c tt
+counted_inline {k = k} {n = n} more c fits = tallies_entry Wide k n more c kept (λ r a room. omega (arith, kept, a, room))
+  where
+    kept : direct c.counted ≤ n
+    kept = fits.room (direct c.counted) c.within
 
 -- One more unique entry was counted, with what is inside it.
 pub counted_unique : {w : Option ℕ} {p : Showing} {k : Key} {n : ℕ} {old new : Sum} {s t : Shape} →
     AddsEntry n old new → (c : Tallies w p s t) → (IsRight s → direct (forest_of s) + direct c.counted < 2 ^ 64) →
     Tallies (Some n) (InsideAs true k n p) (EntryAt Unique k old s) (EntryAt Unique k new t)
-counted_unique {k = k} {n = n} more c room = tallies_entry Unique k n more tt c room
+counted_unique {k = k} {n = n} more c room = tallies_entry Unique k n more c tt (λ r a fits. room r)
 
 -- One more inline entry was counted, which has at most the bytes directly inside it.
 pub counted_narrow : {w : Option ℕ} {p : Showing} {k : Key} {n : ℕ} {old new : Sum} {s t : Shape} →
     AddsEntry n old new → (c : Tallies w p s t) → (IsRight s → direct (forest_of s) + direct c.counted < 2 ^ 64) →
     ((f : Forest) → p f → n ≤ direct f) → Tallies (Some n) (Inside k n p) (EntryAt Narrow k old s) (EntryAt Narrow k new t)
-counted_narrow {k = k} {n = n} more c room least = tallies_entry Narrow k n more least c room
+counted_narrow {k = k} {n = n} more c room least =
+    tallies_entry Narrow k n more c (least c.counted c.allowed) (λ r a fits. room r)
 
 -- One more inline entry with nothing inside it was counted.
 pub counted_leaf : {k : Key} {n : ℕ} {old new : Sum} → AddsEntry n old new →
     Tallies (Some n) (Inside k n Nothing) (EntryAt Wide k old NoEntry) (EntryAt Wide k new NoEntry)
-counted_leaf more = counted_inline more (tallies_none {w = Some 0} refl) (record { fits = λ d h. omega (arith, h) })
+counted_leaf more = counted_inline more (tallies_none {w = Some 0} refl) (holds_nothing _)
 
 -- An entry of a declared size was counted.
 pub counted_field : {k : Key} {size : Option ℕ} {n : ℕ} {p : Showing} {s t : Shape} → size ≡ Some n →
     Tallies (Some n) (Inside k n p) s t → Tallies size (Field k size p) s t
 counted_field {k = k} {p = p} {s} {t} e c = rw e (tallies_as (λ h x. sized x) c)
-
--- What a number of bytes allows fits an entry of as many or more.
-pub fits_bytes : {m n : ℕ} → m ≤ n → FitsEntry (Some m) n
-fits_bytes h = record { fits = λ d i. omega (arith, h, i) }
 
 -- One more item was counted.
 pub tallies_more : {T : Type 0} {v w : Option ℕ} (p : T → Showing) (xs : List T) (x : T) {s t u : Shape} →

@@ -1,15 +1,14 @@
 -- What was entered as the merged forest was entered as the forests that it merges.
 use Rattle.std.proofs.Common.{◌≡◌, ℕ, ◌+◌, ◌-◌, min, Bool, true, false, cond, Result, Ok, refl, sym, ap, subst, ◌∙◌}
-use Rattle.std.proofs.Common.{arith, Option, Some, ◌<◌, ◌≤◌, ◌^◌}
+use Rattle.std.proofs.Common.{arith, Option, Some, ◌<◌, ◌≤◌, ◌^◌, append-nil, List, [], ◌∷◌, ◌++◌, length, get_or, take}
+use Rattle.std.proofs.Common.{drop}
 use Rattle.allocative_graph.specs.Owned.{direct}
-use Rattle.std.proofs.Common.{append-nil, List, [], ◌∷◌, ◌++◌, length, get_or, take, drop}
 use Rattle.std.proofs.lemmas.List.{take-append-drop}
 use Rattle.allocative.proofs.Common.{Refusal, Key, Forest, Empty, followed_by, entry_of, add_all, Live, Kind, OfGraph}
-use Rattle.allocative.proofs.Common.{OfSum, State, plus, Showing, Nothing, Both, InsideAs, AddsForest}
-use Rattle.allocative.proofs.Common.{already}
-use Rattle.allocative.proofs.Common.{refused, hidden, forgotten, CanTake, HasRoomFor, FailsOnlyIfFull}
-use Rattle.allocative.proofs.Common.{ShowsContents, each_shows, has_added, has_refused, Entered, Means}
-use Rattle.allocative_graph.specs.Forest.{own_behind, met_after, Inline, Unique, First, Again}
+use Rattle.allocative.proofs.Common.{OfSum, State, plus, Showing, Nothing, Both, InsideAs, AddsForest, already, refused}
+use Rattle.allocative.proofs.Common.{hidden, forgotten, CanTake, HasRoomFor, FailsOnlyIfFull, each_shows, has_added}
+use Rattle.allocative.proofs.Common.{has_refused, Entered, Means}
+use Rattle.allocative_graph.specs.Forest.{own_behind, met_after}
 use Rattle.allocative_graph.specs.Collector.{Restore, plus_live, forest_bytes, figure_after, entries_at}
 use Rattle.allocative_graph.specs.declared.restore.Restore.TheVariants.{Held, Owned}
 use Rattle.allocative_graph.specs.Path.{Path}
@@ -17,15 +16,12 @@ use Rattle.allocative_graph.specs.Visits.{added}
 use Rattle.allocative_graph.specs.Identity.{Identities}
 use Rattle.allocative.specs.Strict.{had_failed}
 use Rattle.allocative.proofs.Meaning.{entered_as, entered_none, means_same}
-use Rattle.std.proofs.lemmas.Bool.{false≢true}
-use Rattle.allocative.proofs.Strict.{may_refuse, declared_entry, declared_both, declared_first, declared_append}
-use Rattle.allocative.proofs.Strict.{each_append, each_one}
-use Rattle.allocative_tally.specs.Merged.{IsPlain, Merged}
-use Rattle.allocative_tally.specs.Shapes.{Width, is_unique, Shape, NoEntry, Beside, EntryAt, forest_of, IsNothing}
-use Rattle.allocative_tally.specs.Shapes.{entry_counted, shape_shows, is_shape}
+use Rattle.allocative.proofs.Strict.{may_refuse, declared_first, declared_append, each_append, each_one}
+use Rattle.allocative_tally.specs.Shapes.{IsPlain, Merged, Width, is_unique, Shape, NoEntry, Beside, EntryAt, forest_of}
+use Rattle.allocative_tally.specs.Shapes.{IsNothing, entry_counted, shape_shows, is_shape}
 use Rattle.allocative_tally.specs.Tallies.{Tallies, EntersShape, IsWithin}
 use Rattle.allocative_tally.specs.declared.tally.Sum.{Sum}
-use Rattle.allocative_tally.proofs.Unshared.{plain_contents, plain_taken, plain_shows}
+use Rattle.allocative_tally.proofs.Merging.{plain_contents, plain_taken, plain_shows}
 
 -- ---- no collector tells the two apart
 -- A forest without shared entries adds its own entries alone.
@@ -131,38 +127,11 @@ counts {n = n} {s = s} {t = t} none c e room =
     }
 
 -- ---- what a tally enters
--- A forest that is shown with all contents is shown so inside each entry.
-contents_inside : (u : Bool) (k : Key) (n : ℕ) (f : Forest) → ShowsContents (entry_of u k n f) → ShowsContents f
-contents_inside true k n f h = h.0
-contents_inside false k n f h = h.0
-
--- If two forests show all contents one after another, each does.
-contents_parts : (f g : Forest) → ShowsContents (followed_by f g) → ShowsContents f × ShowsContents g
-contents_parts Empty g h = (tt, h)
-contents_parts (Inline k n f after) g h = let r = contents_parts after g h.1 in ((h.0, r.0), r.1)
-contents_parts (Unique k n f after) g h = let r = contents_parts after g h.1 in ((h.0, r.0), r.1)
-contents_parts (First k n i f after) g h = let r = contents_parts after g h.1 in ((h.0, r.0), r.1)
-contents_parts (Again k n i after) g h = absurd h
-
--- The entry of a sum that is there is an entry.
-entry_there : (u : Bool) (k : Key) (n : ℕ) (b : Bool) (f : Forest) → b ≡ true →
-    entry_counted b u k n f ≡ entry_of u k n f
-entry_there u k n true f e = refl
-entry_there u k n false f e = absurd (false≢true e)
-
--- The entry of a sum that is not there is no entry.
-entry_not_there : (u : Bool) (k : Key) (n : ℕ) (b : Bool) (f : Forest) → b ≡ false →
-    entry_counted b u k n f ≡ Empty
-entry_not_there u k n true f e = absurd (false≢true (sym e))
-entry_not_there u k n false f e = refl
-
 -- Two shapes are shown, one after another.
 pub means_beside : {s t : Shape} → Means true (Both (shape_shows s) (shape_shows t)) (shape_shows (Beside s t))
 means_beside {s} {t} = record {
   means = λ h (a, b, y, z, e). is_shape (e ∙ (λ i. followed_by (shown_alone y i) (shown_alone z i)));
-  declared = λ i (h, e, c).
-      let r = contents_parts (forest_of s) (forest_of t) (subst ShowsContents (shown_alone e) c) in
-      declared_both (forest_of s, shown_itself s, r.0) (forest_of t, shown_itself t, r.1);
+  declared = λ i (h, a, c). (h, (forest_of s, forest_of t, is_shape refl, is_shape refl, shown_alone a), c);
 }
 
 -- No part means no entry.
@@ -173,26 +142,31 @@ means_no_entry = record { means = λ h a. is_shape a; declared = λ i (h, a, c).
 pub means_there : (x : Width) {k : Key} {sum : Sum} {s : Shape} → sum.is_there ≡ true →
     Means true (InsideAs (is_unique x) k sum.bytes (shape_shows s)) (shape_shows (EntryAt x k sum s))
 means_there x {k} {sum} {s} b =
-    let e = entry_there (is_unique x) k sum.bytes sum.is_there (forest_of s) b in
+    let e = ap (λ (y : Bool). entry_counted y (is_unique x) k sum.bytes (forest_of s)) b in
     record {
       means = λ h (g, a, i). is_shape (i ∙ ap (entry_of (is_unique x) k sum.bytes) (shown_alone a) ∙ sym e);
-      declared = λ j (h, a, c).
-          let whole = subst ShowsContents (shown_alone a ∙ e) c in
-          let inner = contents_inside (is_unique x) k sum.bytes (forest_of s) whole in
-          declared_entry (is_unique x) k sum.bytes (forest_of s, shown_itself s, inner);
+      declared = λ j (h, a, c). (h, (forest_of s, is_shape refl, shown_alone a ∙ e), c);
     }
 
 -- The entry of a sum that is not there is no entry.
 pub means_not_there : (x : Width) {k : Key} {sum : Sum} {s : Shape} → sum.is_there ≡ false →
     Means true Nothing (shape_shows (EntryAt x k sum s))
 means_not_there x {k} {sum} {s} b =
-    let e = entry_not_there (is_unique x) k sum.bytes sum.is_there (forest_of s) b in
+    let e = ap (λ (y : Bool). entry_counted y (is_unique x) k sum.bytes (forest_of s)) b in
     record { means = λ h a. is_shape (a ∙ sym e); declared = λ j d. (Empty, refl, tt) }
 
 -- What was entered as a part was entered as the shape that it means.
 pub enters_shape : {p : Showing} {s : Shape} {a b : _} {r : Result (Unit {0}) Refusal} → Entered true p a b r →
     Means true p (shape_shows s) → EntersShape s a b r
 enters_shape h m = record { entered = entered_as h m }
+
+-- Two shapes with the same forest are entered alike.
+pub enters_same : {s t : Shape} {a b : _} {r : Result (Unit {0}) Refusal} → forest_of s ≡ forest_of t →
+    EntersShape s a b r → EntersShape t a b r
+enters_same e h = enters_shape h.entered (record {
+  means = λ f a. is_shape (shown_alone a ∙ e);
+  declared = λ j (f, a, c). (f, is_shape (shown_alone a ∙ sym e), c);
+})
 
 -- A call that enters nothing and returns Ok has entered the entry of a sum that is not there.
 pub enters_none : (x : Width) {k : Key} {sum : Sum} {s : Shape} (a : _) → sum.is_there ≡ false →

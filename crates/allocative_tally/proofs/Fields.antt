@@ -1,14 +1,14 @@
 -- How values of structs and enums are counted, by their fields.
 use Rattle.std.proofs.Common.{◌≡◌, ◌≤◌, ◌<◌, ◌+◌, ◌*◌, mul-add, ℕ, Option, Some, None, refl, sym, ap, subst, arith, ◌∙◌}
-use Rattle.allocative_described.specs.Sizes.{size_sum, size_max, size_up}
 use Rattle.allocative_graph.specs.Owned.{direct}
-use Rattle.allocative.proofs.Common.{Key, Forest, Showing, Nothing, Both, Field}
+use Rattle.allocative.proofs.Common.{Key, Forest, Showing, Nothing, Both, Inside, Field}
 use Rattle.allocative_tally.specs.Shapes.{Shape, NoEntry, Beside, IsNothing, bytes_times, entries, sum_of, sum_times}
 use Rattle.allocative_tally.specs.Tallies.{Tallies, TalliesNext, TalliesFields, TalliesOwn, AddsEntry, IsDeclared}
 use Rattle.allocative_tally.specs.Tallies.{both_bounds}
-use Rattle.allocative_tally.proofs.Counting.{counted_field, counted_inline, tallies_both, tallies_none, tallies_as}
-use Rattle.allocative_tally.proofs.Sizes.{HasRoom, room_up, room_sum, room_second, room_max_first, room_max_second}
-use Rattle.allocative_tally.proofs.Sizes.{room_then, room_both, room_grouped, fits_room}
+use Rattle.allocative_tally.proofs.Counting.{counted_leaf, counted_field, counted_inline, tallies_both, tallies_none}
+use Rattle.allocative_tally.proofs.Counting.{tallies_as}
+use Rattle.allocative_tally.proofs.Sizes.{HoldsBound, holds_up, holds_both, holds_first, holds_second, holds_first_of}
+use Rattle.allocative_tally.proofs.Sizes.{holds_second_of, holds_itself, holds_bytes, holds_nothing, holds_grouped}
 
 -- ---- sums
 -- Entries have more bytes.
@@ -56,75 +56,19 @@ starts_both s t a b = record { is_empty = rw (a.is_empty, b.is_empty) refl; hold
 -- The lemmas for what shows nothing.
 pub ruleset starting = (starts_entry, starts_both)
 
--- ---- room for the fields
--- Whatever a bound allows fits a declared size.
-pub record Holds (size w : Option ℕ) : Type 0 where
-  pub room : HasRoom size w
-
--- A size holds itself.
-pub holds_itself : {w : Option ℕ} → Holds w w
-holds_itself = record { room = λ d h. h }
-
--- A size holds what is not more.
-pub holds_bytes : {m n : ℕ} → m ≤ n → Holds (Some n) (Some m)
-holds_bytes h = record { room = λ d i. omega (arith, h, i) }
-
--- The last field of a list.
-pub holds_last : (u : Option ℕ) {w : Option ℕ} → Holds u w → Holds (size_sum u (Some 0)) w
-holds_last u {w} a = record {
-  room = room_then (size_sum u (Some 0)) (both_bounds u (Some 0)) w (room_sum u (Some 0)) (last u w a.room);
-}
-  where
-    last : (u w : Option ℕ) → HasRoom u w → HasRoom (both_bounds u (Some 0)) w
-    last None w a d h = tt
-    last (Some m) w a d h = omega (arith, a d h)
-
--- Two lists of fields.
-pub holds_both : (u v w x : Option ℕ) → Holds u w → Holds v x → Holds (size_sum u v) (both_bounds w x)
-holds_both u v w x a b = record {
-  room = room_then (size_sum u v) (both_bounds u v) (both_bounds w x) (room_sum u v) (room_both u v w x a.room b.room);
-}
-
--- Fields can be grouped either way.
-pub holds_grouped : (u v w : Option ℕ) {size : Option ℕ} → Holds size (both_bounds (both_bounds u v) w) →
-    Holds size (both_bounds u (both_bounds v w))
-holds_grouped u v w {size} a = record {
-  room = room_then size (both_bounds (both_bounds u v) w) (both_bounds u (both_bounds v w)) a.room (room_grouped u v w);
-}
-
--- The fields behind a tag.
-pub holds_second : (u v : Option ℕ) {w : Option ℕ} → Holds v w → Holds (size_sum u v) w
-holds_second u v {w} a = record { room = room_then (size_sum u v) v w (room_second u v) a.room }
-
--- The fields of one variant.
-pub holds_first_of : (u v : Option ℕ) {w : Option ℕ} → Holds u w → Holds (size_max u v) w
-holds_first_of u v {w} a = record { room = room_then (size_max u v) u w (room_max_first u v) a.room }
-
--- The fields of a later variant.
-pub holds_second_of : (u v : Option ℕ) {w : Option ℕ} → Holds v w → Holds (size_max u v) w
-holds_second_of u v {w} a = record { room = room_then (size_max u v) v w (room_max_second u v) a.room }
-
--- A size that is rounded up.
-pub holds_up : (u : Option ℕ) (a : ℕ) {w : Option ℕ} → Holds u w → Holds (size_up u a) w
-holds_up u a {w} h = record { room = room_then (size_up u a) u w (room_up u a) h.room }
-
--- Whatever is within nothing is within any size.
-pub holds_nothing : (u : Option ℕ) → Holds u (Some 0)
-holds_nothing None = record { room = λ d h. tt }
-holds_nothing (Some m) = record { room = λ d h. omega (arith, h) }
-
 -- ---- fields
 -- What was counted within a bound is within a size that holds the bound.
-pub tallies_within : {w : Option ℕ} {p : Showing} {s t : Shape} (v : Option ℕ) → Holds v w → Tallies w p s t →
+pub tallies_within : {w : Option ℕ} {p : Showing} {s t : Shape} (v : Option ℕ) → HoldsBound v w → Tallies w p s t →
     Tallies v p s t
 tallies_within v h t =
     record { counted = t.counted; allowed = t.allowed; within = h.room _ t.within; merged = t.merged }
 
 -- A value is its own entry with its fields inside it.
 whole_counted : (n m : ℕ) {b : ℕ} {size w : Option ℕ} {k : Key} {p : Showing} {s t : Shape} → size ≡ Some b → m ≡ n + 1 →
-    Tallies w p s t → Holds size w → Tallies size (Field k size p) (entries k size n s) (entries k size m t)
+    Tallies w p s t → HoldsBound size w → Tallies size (Field k size p) (entries k size n s) (entries k size m t)
 whole_counted n m {size = size} {w} sized more fields holds =
-    counted_field sized (counted_inline (one_more size n m sized more) fields (fits_room w sized holds.room))
+    counted_field sized (counted_inline (one_more size n m sized more) fields
+    (subst (λ (v : Option ℕ). HoldsBound v w) sized holds))
 
 -- What a value shows, counted as the only field.
 pub next_value : {v : Option ℕ} {p : Showing} {s t : ℕ → Shape} → TalliesNext v p s t → TalliesFields v p s t
@@ -149,9 +93,19 @@ nothing_counted = tallies_none refl
 pub next_nothing : TalliesFields (Some 0) Nothing (λ n. NoEntry) (λ n. NoEntry)
 next_nothing = record { next = λ n. nothing_counted }
 
+-- An entry of a size that is written, with nothing inside it.
+pub fixed_counted : {k : Key} {z : ℕ} (n m : ℕ) → m ≡ n + 1 →
+    Tallies (Some z) (Inside k z Nothing) (entries k (Some z) n NoEntry) (entries k (Some z) m NoEntry)
+fixed_counted {z = z} n m e = counted_leaf (one_more (Some z) n m refl e)
+
+-- A field of a size that is written.
+pub next_fixed : {k : Key} {z : ℕ} → TalliesFields (Some z) (Inside k z Nothing) (λ n. entries k (Some z) n NoEntry)
+    (λ n. entries k (Some z) n NoEntry)
+next_fixed = record { next = λ n. fixed_counted n (n + 1) refl }
+
 -- A value is its own entry with its fields inside it.
 pub next_whole : {size w : Option ℕ} {k : Key} {p : Showing} {s t : ℕ → Shape} → IsDeclared size →
-    TalliesFields w p s t → Holds size w →
+    TalliesFields w p s t → HoldsBound size w →
     TalliesNext size (Field k size p) (λ n. entries k size n (s n)) (λ n. entries k size n (t n))
 next_whole d fields holds = record { declared = d; next = λ n. whole_counted n (n + 1) d.sized refl (fields.next n) holds }
 
@@ -171,28 +125,26 @@ next_leaf {size} up d = record {
 -- ---- cases
 -- A value is its own entry, with what its case shows inside it, whatever the number of the values.
 pub next_case : {size w : Option ℕ} {k : Key} {p : Showing} {s t : Shape} → IsDeclared size → Tallies w p s t →
-    Holds size w → TalliesNext size (Field k size p) (λ n. entries k size n s) (λ n. entries k size n t)
+    HoldsBound size w → TalliesNext size (Field k size p) (λ n. entries k size n s) (λ n. entries k size n t)
 next_case d inside holds = next_whole d (record { next = λ n. inside }) holds
+
+-- A case of several fields is its entry, with the fields inside it.
+pub case_counted : {v w : Option ℕ} {k : Key} {p : Showing} {n m : ℕ} {s t : ℕ → Shape} → IsDeclared v → m ≡ n + 1 →
+    TalliesFields w p s t → HoldsBound v w → Tallies v (Field k v p) (entries k v n (s n)) (entries k v m (t m))
+case_counted {v} {k = k} {p} {n} {m} {s} {t} d more fields holds =
+    subst (λ (i : ℕ). Tallies v (Field k v p) (entries k v n (s n)) (entries k v i (t i))) (sym more)
+    (whole_counted n (n + 1) d.sized refl (fields.next n) holds)
 
 -- A case of one value is its entry, with what the value shows.
 pub own_counted : {v : Option ℕ} {k : Key} {p : Showing} {n m : ℕ} {s t : ℕ → Shape} → TalliesOwn v p n s m t →
     Tallies v (Field k v p) (entries k v n (s n)) (entries k v m (t m))
-own_counted {v} {k} {p} {n} {m} {s} {t} a =
-    subst (λ (i : ℕ). Tallies v (Field k v p) (entries k v n (s n)) (entries k v i (t i))) (sym a.more)
-    ((next_field a.value).next n)
-
--- A case of several fields is its entry, with the fields inside it.
-pub case_counted : {v w : Option ℕ} {k : Key} {p : Showing} {n m : ℕ} {s t : ℕ → Shape} → IsDeclared v → m ≡ n + 1 →
-    TalliesFields w p s t → Holds v w → Tallies v (Field k v p) (entries k v n (s n)) (entries k v m (t m))
-case_counted {v} {k = k} {p} {n} {m} {s} {t} d more fields holds =
-    subst (λ (i : ℕ). Tallies v (Field k v p) (entries k v n (s n)) (entries k v i (t i))) (sym more)
-    (whole_counted n (n + 1) d.sized refl (fields.next n) holds)
+own_counted a = case_counted a.value.declared a.more (next_value a.value) holds_itself
 
 -- The lemmas for what a declared size has room for.
 pub ruleset holding = (
   holds_up,
   holds_both,
-  holds_last,
+  holds_first,
   holds_second,
   holds_first_of,
   holds_second_of,
@@ -203,3 +155,16 @@ pub ruleset holding = (
 
 -- The lemmas for what the sizes of tuples have room for.
 pub ruleset holding_tuples = (holds_grouped, holds_up, holds_both, holds_itself)
+
+-- The lemmas for tuples: what shows nothing, and what is counted.
+pub ruleset tupling = (
+  starts_entry,
+  starts_both,
+  next_whole,
+  next_both,
+  next_field,
+  holds_grouped,
+  holds_up,
+  holds_both,
+  holds_itself,
+)

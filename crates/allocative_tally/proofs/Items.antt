@@ -1,41 +1,101 @@
--- How arrays, boxes, maps and the packs are counted.
-use Rattle.std.proofs.Common.{◌≡◌, ◌≤◌, ◌<◌, ◌+◌, ◌*◌, ◌^◌, ℕ, true, false, codes, Option, Some, None, List, []}
-use Rattle.std.proofs.Common.{◌∷◌, length, refl, sym, ap, subst, ◌∙◌, arith, inl, inr, le_refl, Bool, Result}
+-- How items are counted, one by one, and those of arrays, boxes, maps and the packs.
+use Rattle.std.proofs.Common.{◌≡◌, ◌≤◌, ◌<◌, ◌+◌, ◌*◌, ◌^◌, ℕ, true, false, codes, Option, Some, None, List, [], ◌∷◌}
+use Rattle.std.proofs.Common.{length, refl, sym, ap, subst, ◌∙◌, arith, inl, inr, le_refl, Bool, Result, mul-suc, ◌++◌}
+use Rattle.std.proofs.Common.{length-append}
 use Rattle.std.proofs.lemmas.List.Sorted.{IsPermutation-refl}
 use Rattle.std.proofs.lemmas.Nat.{mul-le}
 use Rattle.smallvec.specs.SmallVec.{SmallVec, IsSpilled}
-use Rattle.allocative_described.specs.Sizes.{IsRawTableSize}
-use Rattle.allocative_described.specs.Sizes.{size_sum, checked, size_max, size_product, size_up}
+use Rattle.allocative_described.specs.Sizes.{IsRawTableSize, size_sum, checked, size_max, size_product, size_up}
 use Rattle.allocative_graph.specs.Owned.{direct}
 use Rattle.allocative_graph.proofs.Owned.{direct-following}
 use Rattle.allocative.specs.Runs.{field_of, pair_shows}
 use Rattle.allocative.specs.StdShows.{in_any_order}
 use Rattle.allocative.specs.Bodies.{data_shows}
 use Rattle.allocative.specs.PackShows.{index_data_shows, is_index_data, small_vec_inside, lies_inline, is_spilled}
-use Rattle.allocative.proofs.Common.{Key, Forest, Showing, Both, Inside, InsideAs, Field, sized, each_shows, table_shows}
-use Rattle.allocative.proofs.Common.{Refusal, Entered}
+use Rattle.allocative.proofs.Common.{Key, Forest, Showing, Both, Inside, InsideAs, Field, sized, each_shows}
+use Rattle.allocative.proofs.Common.{table_shows, Refusal, Entered, Empty}
 use Rattle.allocative.specs.declared.visitor.Visitor.{Visitor}
-use Rattle.allocative_tally.specs.Shapes.{Shape, Unique, Wide, NoEntry, Beside, EntryAt, forest_of, entries}
-use Rattle.allocative_tally.specs.Shapes.{sum_of, sum_times, bytes_times, top_bytes, pairs_shape, data_shape, buffer_shape}
+use Rattle.allocative_tally.specs.Shapes.{Shape, Unique, Wide, NoEntry, Beside, EntryAt, forest_of, entries, sum_of}
+use Rattle.allocative_tally.specs.Shapes.{sum_times, bytes_times, top_bytes, pairs_shape, data_shape, buffer_shape}
 use Rattle.allocative_tally.specs.Shapes.{table_shape, shape_shows, IsNothing}
 use Rattle.allocative_tally.specs.Tallies.{Tallies, TalliesNext, TalliesMany, TalliesEach, FitsWord, IsDeclared}
-use Rattle.allocative_tally.specs.Tallies.{IsWithin, both_bounds, size_times}
-use Rattle.allocative_tally.specs.Places.{AddsPlaces, FitsData}
+use Rattle.allocative_tally.specs.Tallies.{IsWithin, both_bounds, size_times, AddsPlaces, CountsData, TalliesFields}
+use Rattle.allocative_tally.specs.Tallies.{HoldsOfRun, EntersShape}
 use Rattle.allocative_tally.specs.declared.places.Places.{Places}
-use Rattle.allocative_tally.proofs.Counting.{counted_field, counted_inline, counted_narrow, counted_unique, counted_leaf}
-use Rattle.allocative_tally.proofs.Counting.{tallies_none, tallies_both, tallies_as, first_counted, second_counted, fits_bytes}
-use Rattle.allocative_tally.proofs.Counting.{shape_direct, entry_direct}
-use Rattle.allocative_tally.proofs.Sizes.{HasRoom, room_checked, room_sum, not_greater, checked_is}
-use Rattle.allocative_tally.proofs.Fields.{Holds, holds_up, holds_second, holds_first_of, holds_second_of}
-use Rattle.allocative_tally.proofs.Fields.{holds_bytes, adds_of, one_more, next_case, tallies_within, starts_both}
-use Rattle.allocative_tally.proofs.Fields.{starts_entry}
+use Rattle.allocative_tally.proofs.Counting.{counted_field, counted_inline, counted_narrow, counted_unique}
+use Rattle.allocative_tally.proofs.Counting.{counted_leaf, tallies_none, tallies_both, tallies_as, first_counted}
+use Rattle.allocative_tally.proofs.Counting.{second_counted, shape_direct, entry_direct, tallies_more}
+use Rattle.allocative_tally.proofs.Sizes.{holds_bytes, room_checked, not_greater, checked_is, HoldsBound, holds_up}
+use Rattle.allocative_tally.proofs.Sizes.{holds_second, holds_first_of, holds_second_of, holds_both, holds_itself}
+use Rattle.allocative_tally.proofs.Fields.{adds_of, one_more, next_case, tallies_within, starts_both, starts_entry}
+use Rattle.allocative_tally.proofs.Fields.{next_value, next_field, next_both}
 use Rattle.allocative_tally.proofs.Entering.{entered_counted, counts}
-use Rattle.allocative_tally.proofs.Buffers.{next_container, places_fit, pointer_counted, places_counted}
-use Rattle.allocative_tally.proofs.Buffers.{times_counted, most_direct}
+use Rattle.allocative_tally.proofs.Buffers.{next_container, places_fit, pointer_counted, places_counted, times_counted}
+use Rattle.allocative_tally.proofs.Buffers.{most_direct}
+use Rattle.std.proofs.lemmas.Iterator.{YieldsList, items_from_drains}
+
+-- ---- one by one
+-- The bytes of one more value.
+times_more : (w : Option ℕ) (n m : ℕ) → m ≡ n + 1 → both_bounds (size_times w n) w ≡ size_times w m
+times_more None n m e = refl
+times_more (Some s) n m e = ap Some (omega (arith, mul-suc s n, ap (λ (i : ℕ). s * i) e))
+
+-- No value more was counted.
+many_none : {w : Option ℕ} {p : Showing} {s : ℕ → Shape} → p Empty → TalliesMany w 0 p s s
+many_none {w} {p} {s} x = record {
+  next = λ n m e. let same : n ≡ m = omega (arith, e) in
+      subst (λ (k : ℕ). Tallies (size_times w 0) p (s n) (s k)) same (tallies_none x);
+}
+
+-- One more item was counted.
+many_more : {T : Type 0} {w : Option ℕ} (p : T → Showing) (xs : List T) (x : T) {s t u : ℕ → Shape} →
+    TalliesMany w (length xs) (each_shows p xs) s t → TalliesFields w (p x) t u →
+    TalliesMany w (length (xs ++ x ∷ [])) (each_shows p (xs ++ x ∷ [])) s u
+many_more {w = w} p xs x {s} {t} {u} a b = record {
+  next = λ n m e.
+      let count : length (xs ++ x ∷ []) ≡ length xs + 1 = length-append xs (x ∷ []) in
+      let same : n + length xs + 1 ≡ m = omega (arith, e, count) in
+      let bound = times_more w (length xs) (length (xs ++ x ∷ [])) count in
+      subst (λ (z : Option ℕ). Tallies z (each_shows p (xs ++ x ∷ [])) (s n) (u m)) bound
+      (subst (λ (k : ℕ). Tallies (both_bounds (size_times w (length xs)) w) (each_shows p (xs ++ x ∷ [])) (s n) (u k))
+      same (tallies_more p xs x (a.next n (n + length xs) refl) (b.next (n + length xs))));
+}
+
+-- No item was counted.
+pub each_none : {T : Type 0} {w : Option ℕ} (p : T → Showing) {s : ℕ → Shape} → TalliesEach w p [] s s
+each_none p = record { items = many_none refl; fields = λ k. many_none refl }
+
+-- One more item was counted.
+pub each_more : {T : Type 0} {w : Option ℕ} (p : T → Showing) (xs : List T) (x : T) {s t u : ℕ → Shape} →
+    TalliesEach w p xs s t → TalliesNext w (p x) t u → TalliesEach w p (xs ++ x ∷ []) s u
+each_more {w = w} p xs x a b = record {
+  items = many_more p xs x a.items (next_value b);
+  fields = λ k. many_more (field_of k w p) xs x (a.fields k) (next_field b);
+}
+
+-- No pair was counted.
+pub pairs_none : {K V : Type 0} (v w : Option ℕ) (p : K → Showing) (q : V → Showing) {s : ℕ → Shape} →
+    TalliesMany (both_bounds v w) 0 (each_shows (pair_shows v p w q) []) s s
+pairs_none v w p q = many_none refl
+
+-- One more pair was counted.
+pub pairs_more : {K V : Type 0} (v w : Option ℕ) (p : K → Showing) (q : V → Showing) (es : List (K × V)) (e : K × V)
+    {r : ℕ → Shape} {s s' t t' : ℕ → Shape} →
+    TalliesMany (both_bounds v w) (length es) (each_shows (pair_shows v p w q) es) r (pairs_shape v w s t) →
+    TalliesNext v (p e.0) s s' → TalliesNext w (q e.1) t t' →
+    TalliesMany (both_bounds v w) (length (es ++ e ∷ [])) (each_shows (pair_shows v p w q) (es ++ e ∷ [])) r
+    (pairs_shape v w s' t')
+pairs_more v w p q es e a key value = many_more (pair_shows v p w q) es e a (next_both (next_field key) (next_field value))
+
+-- What holds of the items of a run holds of those that every run gives.
+pub of_run : {S A B : Type 0} {steps : S → Option A → S → Type 0} {s : S} {v : A → B} {r : List B → Type 0}
+    {all : List B} → YieldsList steps v s all → HoldsOfRun steps s v r → r all
+of_run {r = r} y o =
+    let d = o.drained in subst r (items_from_drains o.given (d.1.0, d.1.1, λ _. (d.0, d.1.2)) y) o.holds
 
 -- ---- arrays
 -- A size that has room for n items has room for at most n items.
-holds_items : (l n : ℕ) (w : Option ℕ) → l ≤ n → Holds (size_product (Some n) w) (size_times w l)
+holds_items : (l n : ℕ) (w : Option ℕ) → l ≤ n → HoldsBound (size_product (Some n) w) (size_times w l)
 holds_items l n None h = record { room = λ d i. tt }
 holds_items l n (Some s) h = record {
   room = λ d i. room_checked (n * s) d (omega (arith, i, mul-le l s n s h (omega arith)));
@@ -150,26 +210,26 @@ keys_direct (Some m) n k p (y ∷ ys) f e (g, h, x, z, j) =
     )
 
 -- A size that has room for a bound has room for so many times the bound.
-pub items_within : {size w : Option ℕ} {z : ℕ} (l : ℕ) {p : Showing} {s t : Shape} → Holds size w → size ≡ Some z →
+pub items_within : {size w : Option ℕ} {z : ℕ} (l : ℕ) {p : Showing} {s t : Shape} → HoldsBound size w → size ≡ Some z →
     Tallies (size_times w l) p s t → Tallies (Some (z * l)) p s t
 items_within {w = w} {z} l holds e c =
-    let y = not_greater w z (subst (λ (v : Option ℕ). HasRoom v w) e holds.room) in
+    let y = not_greater w z (subst (λ (v : Option ℕ). HoldsBound v w) e holds) in
     tallies_within (Some (z * l)) (holds_bytes (mul-le y.0 l z l y.2 (omega arith)))
     (times_counted l y.1 c)
 
 -- The pair of two sizes has room for both.
-pub holds_pair : (v w : Option ℕ) → Holds (size_sum v w) (both_bounds v w)
-holds_pair v w = record { room = room_sum v w }
+pub holds_pair : (v w : Option ℕ) → HoldsBound (size_sum v w) (both_bounds v w)
+holds_pair v w = holds_both v w v w holds_itself holds_itself
 
 -- The size of a tuple of two has room for both.
-pub holds_tuple : (v w : Option ℕ) (align : ℕ) → Holds (size_up (size_sum v w) align) (both_bounds v w)
+pub holds_tuple : (v w : Option ℕ) (align : ℕ) → HoldsBound (size_up (size_sum v w) align) (both_bounds v w)
 holds_tuple v w align = holds_up (size_sum v w) align (holds_pair v w)
 
 -- Pairs have at most the bytes of a size that has room for both at the top.
-pub pairs_most : {size : Option ℕ} (v w : Option ℕ) {z : ℕ} (i : ℕ) (s t : ℕ → Shape) → Holds size (both_bounds v w) →
+pub pairs_most : {size : Option ℕ} (v w : Option ℕ) {z : ℕ} (i : ℕ) (s t : ℕ → Shape) → HoldsBound size (both_bounds v w) →
     size ≡ Some z → direct (forest_of (pairs_shape v w s t i)) ≤ z * i
 pairs_most {size} v w {z} i s t holds e =
-    let y = not_greater (both_bounds v w) z (subst (λ (x : Option ℕ). HasRoom x (both_bounds v w)) e holds.room) in
+    let y = not_greater (both_bounds v w) z (subst (λ (x : Option ℕ). HoldsBound x (both_bounds v w)) e holds) in
     omega (arith, shape_direct (pairs_shape v w s t i), both v w y.0 y.1, mul-le y.0 i z i y.2 (omega arith))
   where
     both : (v w : Option ℕ) (y : ℕ) → both_bounds v w ≡ Some y → bytes_times v i + bytes_times w i ≤ y * i
@@ -183,36 +243,40 @@ inside_as : (k : Key) {p q : Showing} → ((f : Forest) → p f → q f) → (h 
 inside_as k up h (f, x, e) = (f, up f x, e)
 
 -- Items that have at most 8 bytes were counted.
-pub small_counted : {found size w : Option ℕ} {m l : ℕ} (n b : ℕ) {k : Key} {q u : Showing} {old new : Places}
-    {s t : ℕ → Shape} {r : Shape} → 8 ≤ n → n < 2 ^ 64 → ((f : Forest) → q f → u f) → Holds size w → found ≡ size →
-    (fits : FitsData found m true) → m ≡ l → AddsPlaces found m 0 old new → TalliesMany w l q s t →
-    TalliesNext (Some n) (Field k (Some n) (Inside (codes "data") 8 u))
+pub small_counted : {found size w : Option ℕ} {m l : ℕ} {is : Bool} (n b : ℕ) {k : Key} {q u : Showing}
+    {old new other other' : Places} {s t : ℕ → Shape} {r : Shape} → 8 ≤ n → n < 2 ^ 64 → ((f : Forest) → q f → u f) →
+    HoldsBound size w → found ≡ size → CountsData found m old new other other' is → is ≡ true → m ≡ l →
+    TalliesMany w l q s t → TalliesNext (Some n) (Field k (Some n) (Inside (codes "data") 8 u))
     (λ i. entries k (Some n) i (data_shape old.buffers (s old.items) b r))
     (λ i. entries k (Some n) i (data_shape new.buffers (t new.items) b r))
-small_counted {l = l} n b {old = old} {new} room bound up holds e fits same a items =
+small_counted {l = l} n b {old = old} {new} room bound up holds e counted is same items =
+    let a = (counted.if_small is).1 in
     let more : new.items ≡ old.items + l = omega (arith, a.items, same) in
-    let least : fits.item * l ≤ 8 = omega (arith, fits.if_fits refl, ap (λ (i : ℕ). fits.item * i) same) in
+    let least : counted.item * l ≤ 8 =
+    omega (arith, (counted.if_small is).0, ap (λ (i : ℕ). counted.item * i) same) in
     next_container n room bound (first_counted (tallies_as (inside_as (codes "data") up)
     (counted_inline (one_more (Some 8) old.buffers new.buffers refl a.buffers)
-    (items_within l holds (sym e ∙ fits.is_size) (items.next old.items new.items more)) (fits_bytes least))))
+    (items_within l holds (sym e ∙ counted.sized) (items.next old.items new.items more)) (holds_bytes least))))
 
 -- Items that have at least 8 bytes were counted.
-pub large_counted : {found size w : Option ℕ} {m l : ℕ} (n b : ℕ) {k : Key} {q u : Showing} {old new : Places}
-    {s t : ℕ → Shape} {r : Shape} → 8 ≤ n → n < 2 ^ 64 → ((f : Forest) → q f → u f) → Holds size w → found ≡ size →
-    (fits : FitsData found m false) → m ≡ l → (a : AddsPlaces found m 0 old new) → TalliesMany w l q s t →
-    ((z i : ℕ) → size ≡ Some z → direct (forest_of (s i)) ≤ z * i) →
+pub large_counted : {found size w : Option ℕ} {m l : ℕ} {is : Bool} (n b : ℕ) {k : Key} {q u : Showing}
+    {old new other other' : Places} {s t : ℕ → Shape} {r : Shape} → 8 ≤ n → n < 2 ^ 64 → ((f : Forest) → q f → u f) →
+    HoldsBound size w → found ≡ size → CountsData found m other other' old new is → is ≡ false → m ≡ l →
+    TalliesMany w l q s t → ((z i : ℕ) → size ≡ Some z → direct (forest_of (s i)) ≤ z * i) →
     ((z : ℕ) (f : Forest) → size ≡ Some z → q f → direct f ≡ z * l) →
     TalliesNext (Some n) (Field k (Some n) (Inside (codes "data") 8 u))
     (λ i. entries k (Some n) i (data_shape b r old.buffers (s old.items)))
     (λ i. entries k (Some n) i (data_shape b r new.buffers (t new.items)))
-large_counted {m = m} {l} n b {old = old} {new} room bound up holds e fits same a items most bytes =
+large_counted {m = m} {l} n b {old = old} {new} room bound up holds e counted is same items most bytes =
+    let a = (counted.if_large is).1 in
     let more : new.items ≡ old.items + l = omega (arith, a.items, same) in
     let z = a.bytes in
     let is_size = sym e ∙ a.sized in
     let all = items_within l holds is_size (items.next old.items new.items more) in
     let before = most z old.items is_size in
-    let item : fits.item ≡ z = let i = sym fits.is_size ∙ a.sized in cc in
-    let least : 8 ≤ z * l = omega (arith, fits.if_more refl, ap (λ (i : ℕ). i * m) item, ap (λ (i : ℕ). z * i) same) in
+    let item : counted.item ≡ z = let i = sym counted.sized ∙ a.sized in cc in
+    let least : 8 ≤ z * l =
+    omega (arith, (counted.if_large is).0, ap (λ (i : ℕ). i * m) item, ap (λ (i : ℕ). z * i) same) in
     next_container n room bound (second_counted (tallies_as (inside_as (codes "data") up)
     (counted_narrow (one_more (Some 8) old.buffers new.buffers refl a.buffers) all
     (λ r. omega (arith, before, all.within, places_fit a, ap (λ (i : ℕ). z * i) same))
@@ -239,7 +303,7 @@ table_counted a a' c c' {b = b} {bytes} some is size more buckets fits =
 
 -- A container in the order of insertion is its own entry, with its items, its unused places and its table inside it.
 pub index_counted : {found size w : Option ℕ} {m l u places n : ℕ} {k : Key} {p : Showing} {old new : Places}
-    {s t : ℕ → Shape} {r r' : Shape} → Holds size w → found ≡ size → m ≡ l → u ≡ places → n ≡ l →
+    {s t : ℕ → Shape} {r r' : Shape} → HoldsBound size w → found ≡ size → m ≡ l → u ≡ places → n ≡ l →
     AddsPlaces found m u old new → TalliesMany w l p s t →
     ((z i : ℕ) → size ≡ Some z → direct (forest_of (s i)) ≤ z * i) → Tallies (Some 8) (table_shows n) r r' →
     TalliesNext (Some 72) (Field k (Some 72) (Both (index_data_shows size p places) (table_shows l)))
@@ -254,6 +318,17 @@ index_counted {size = size} {l = l} {places = places} {old = old} {new} holds e 
     (items_within l holds a.sized (items.next old.items new.items a.items)))) (rw count at table))
 
 -- ---- what is entered
+-- Items that were counted from nothing, and entered, were entered as each of them shows.
+pub entered_all : {T : Type 0} {size : Option ℕ} {x : Bool} {p : T → Showing} {xs : List T} {n : ℕ} {s t : ℕ → Shape}
+    {a b : Visitor} {r : Result (Unit {0}) Refusal} → IsNothing (s 0) → TalliesEach size p xs s t →
+    FitsWord size (length xs) → n ≡ length xs → EntersShape (t n) a b r → Entered x (each_shows p xs) a b r
+entered_all {size = size} {p = p} {xs} {n} {s} {t} none each room count entered =
+    let items : Tallies (size_times size (length xs)) (each_shows p xs) (s 0) (t n) =
+    each.items.next 0 n (omega (arith, count)) in
+    let bound : size_times size (length xs) ≡ Some (room.bytes * length xs) =
+    ap (λ (w : Option ℕ). size_times w (length xs)) room.sized in
+    entered_counted (counts none items bound room.fits) entered.entered
+
 -- Pairs that were counted from nothing, and entered, were entered as each of them shows.
 pub entered_pairs : {x : Bool} {n l : ℕ} {q u : Showing} (v w : Option ℕ) (s s' t t' : ℕ → Shape) {a b : Visitor}
     {r : Result (Unit {0}) Refusal} → ((f : Forest) → q f → u f) → IsNothing (s 0) → IsNothing (t 0) →

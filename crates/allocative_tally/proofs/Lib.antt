@@ -1,9 +1,7 @@
-pub mod Unshared
 pub mod Merging
-pub mod Entering
-pub mod Counting
 pub mod Sizes
+pub mod Counting
+pub mod Entering
 pub mod Fields
-pub mod Many
 pub mod Buffers
 pub mod Items

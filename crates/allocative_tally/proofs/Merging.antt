@@ -1,22 +1,79 @@
--- How merged forests compose.
-use Rattle.std.proofs.Common.{◌≡◌, ℕ, suc, ◌+◌, ◌-◌, ◌<◌, ◌^◌, Bool, true, false, cond, List, [], ◌∷◌, ◌++◌}
-use Rattle.std.proofs.Common.{refl, sym, ap, subst, ◌∙◌, arith, append-nil}
+-- Forests without shared entries, and how merged forests compose.
+use Rattle.std.proofs.Common.{◌≡◌, ℕ, suc, ◌+◌, ◌-◌, ◌<◌, ◌^◌, Bool, true, false, cond, List, [], ◌∷◌, ◌++◌, refl, sym}
+use Rattle.std.proofs.Common.{ap, subst, ◌∙◌, arith, append-nil}
 use Rattle.allocative.proofs.Common.{Key, Forest, Empty, First, Again, followed_by, entry_of, add_all, held, all_bytes}
+use Rattle.allocative.proofs.Common.{ShowsContents, Kind, OfGraph, OfSum, Takes}
 use Rattle.std.proofs.lemmas.List.Sums.{fold-append, sum_by-append}
 use Rattle.allocative_graph.specs.Path.{Path}
-use Rattle.allocative_graph.specs.Forest.{Inline, Unique, Entry, Bag, Mark, AsInline, AsUnique, own_behind}
+use Rattle.allocative_graph.specs.Forest.{Inline, Unique, Entry, Bag, Mark, AsInline, AsUnique, own_behind, contents}
+use Rattle.allocative_graph.specs.Forest.{Fits, met_after}
 use Rattle.allocative_graph.specs.Sums.{Sums, add}
-use Rattle.allocative_graph.specs.Owned.{inline_bytes}
-use Rattle.allocative_graph.specs.Owned.{direct, owned}
+use Rattle.allocative_graph.specs.Owned.{inline_bytes, direct}
 use Rattle.allocative_graph.proofs.Basics.{same_path_itself}
 use Rattle.allocative_graph.proofs.Sums.{add_all-same, get-add, same_sums}
 use Rattle.allocative_graph.proofs.Showings.{own-following}
 use Rattle.allocative_graph.proofs.Owned.{direct-following, owned-following}
 use Rattle.allocative.specs.Strict.{FitsWords}
 use Rattle.allocative.proofs.Strict.{followed_by_assoc}
-use Rattle.allocative_tally.specs.Merged.{IsPlain, Merged}
-use Rattle.allocative_tally.proofs.Unshared.{plain_both, plain_entry}
+use Rattle.allocative_tally.specs.Shapes.{IsPlain, Merged}
+use Rattle.allocative_graph.specs.Identity.{Identities}
 
+-- Two forests without shared entries have none one after another.
+pub plain_both : (f g : Forest) → IsPlain f → IsPlain g → IsPlain (followed_by f g)
+plain_both Empty g h l = l
+plain_both (Inline k n f after) g h l = (h.0, plain_both after g h.1 l)
+plain_both (Unique k n f after) g h l = (h.0, plain_both after g h.1 l)
+plain_both (First k n j f after) g h l = absurd h
+plain_both (Again k n j after) g h l = absurd h
+
+-- Neither of two forests has a shared entry if they have none one after another.
+pub plain_parts : (f g : Forest) → IsPlain (followed_by f g) → IsPlain f × IsPlain g
+plain_parts Empty g h = (tt, h)
+plain_parts (Inline k n f after) g h = let r = plain_parts after g h.1 in ((h.0, r.0), r.1)
+plain_parts (Unique k n f after) g h = let r = plain_parts after g h.1 in ((h.0, r.0), r.1)
+plain_parts (First k n j f after) g h = absurd h
+plain_parts (Again k n j after) g h = absurd h
+
+-- An entry is not shared if what is inside it is not.
+pub plain_entry : (u : Bool) (k : Key) (n : ℕ) (f : Forest) → IsPlain f → IsPlain (entry_of u k n f)
+plain_entry true k n f h = (h, tt)
+plain_entry false k n f h = (h, tt)
+
+-- What is inside an entry that is not shared has no shared entry.
+pub plain_inside : (u : Bool) (k : Key) (n : ℕ) (f : Forest) → IsPlain (entry_of u k n f) → IsPlain f
+plain_inside true k n f h = h.0
+plain_inside false k n f h = h.0
+
+-- A forest without shared entries has no contents.
+pub plain_contents : (f : Forest) → IsPlain f → contents f ≡ []
+plain_contents Empty h = refl
+plain_contents (Inline k n f after) h = λ i. plain_contents f h.0 i ++ plain_contents after h.1 i
+plain_contents (Unique k n f after) h = λ i. plain_contents f h.0 i ++ plain_contents after h.1 i
+plain_contents (First k n j f after) h = absurd h
+plain_contents (Again k n j after) h = absurd h
+
+-- A forest without shared entries fits any identities.
+pub plain_fits : (s : Identities) (f : Forest) → IsPlain f → Fits s f
+plain_fits s Empty h = tt
+plain_fits s (Inline k n f after) h = (plain_fits s f h.0, plain_fits (met_after s f) after h.1)
+plain_fits s (Unique k n f after) h = (plain_fits s f h.0, plain_fits (met_after s f) after h.1)
+plain_fits s (First k n j f after) h = absurd h
+plain_fits s (Again k n j after) h = absurd h
+
+-- A forest without shared entries shows all its contents.
+pub plain_shows : (f : Forest) → IsPlain f → ShowsContents f
+plain_shows Empty h = tt
+plain_shows (Inline k n f after) h = (plain_shows f h.0, plain_shows after h.1)
+plain_shows (Unique k n f after) h = (plain_shows f h.0, plain_shows after h.1)
+plain_shows (First k n j f after) h = absurd h
+plain_shows (Again k n j after) h = absurd h
+
+-- Each collector takes a forest without shared entries.
+pub plain_taken : (c : Kind) (f : Forest) → IsPlain f → Takes c f
+plain_taken (OfGraph c) f h = plain_fits c.met f h
+plain_taken (OfSum s) f h = rw (plain_contents f h) tt
+
+-- ---- merged forests
 -- A forest with no shared entry merges itself.
 pub merged_same : (f : Forest) → IsPlain f → Merged f f
 merged_same f h = record {
@@ -165,76 +222,52 @@ one_entry s u p k n m = same_sums _ _ (λ q. grind (
   same_path_itself (p ++ k ∷ []),
 ))
 
--- Two entries of one key and mark have the inline bytes of the one that merges them.
-inline_entry : (u : Bool) (k : Key) (n m : ℕ) (f g : Forest) → inline_bytes (followed_by (entry_of u k n f)
-    (entry_of u k m g)) ≡ inline_bytes (entry_of u k (n + m) (followed_by f g))
-inline_entry true k n m f g = refl
-inline_entry false k n m f g = omega arith
-
--- Two entries of one key and mark have the held bytes of the one that merges them.
-held_entry : (u : Bool) (k : Key) (n m : ℕ) (f g : Forest) → held (followed_by (entry_of u k n f)
-    (entry_of u k m g)) ≡ held (entry_of u k (n + m) (followed_by f g))
-held_entry true k n m f g = omega (arith, inline_both f g, held_both f g)
-held_entry false k n m f g = omega (arith, held_both f g)
-
--- Two entries of one key and mark have all bytes of the one that merges them.
-bytes_entry : (u : Bool) (k : Key) (n m : ℕ) (f g : Forest) → all_bytes (followed_by (entry_of u k n f)
-    (entry_of u k m g)) ≡ all_bytes (entry_of u k (n + m) (followed_by f g))
-bytes_entry true k n m f g = omega (arith, bytes_both f g)
-bytes_entry false k n m f g = omega (arith, bytes_both f g)
-
--- Two entries of one key and mark have the bytes at the top of the one that merges them.
-direct_entry : (u : Bool) (k : Key) (n m : ℕ) (f g : Forest) → direct (followed_by (entry_of u k n f)
-    (entry_of u k m g)) ≡ direct (entry_of u k (n + m) (followed_by f g))
-direct_entry true k n m f g = omega arith
-direct_entry false k n m f g = omega arith
-
 -- Two inline entries own as much as the merged one if both or neither have bytes beyond those directly inside.
 abbrev pub KeepsOwned : Bool → ℕ → ℕ → Forest → Forest → Type 0
 KeepsOwned u n m f g = u ≡ false → (n - direct f) + (m - direct g) ≡ (n + m) - (direct f + direct g)
 
--- Two entries of one key and mark own what the one that merges them owns.
-owned_entry : (u : Bool) (k : Key) (n m : ℕ) (f g : Forest) → KeepsOwned u n m f g →
-    owned (followed_by (entry_of u k n f) (entry_of u k m g)) ≡ owned (entry_of u k (n + m) (followed_by f g))
-owned_entry true k n m f g e = omega (arith, owned-following f g)
-owned_entry false k n m f g e = omega (arith, owned-following f g, direct-following f g, e refl)
-
--- The entry that merges two exceeds no word if neither of them does, and their bytes fit a word.
-fits_entry : (u : Bool) (k : Key) (n m : ℕ) (f g : Forest) (o : ℕ) → n + m < 2 ^ 64 →
-    FitsWords o (followed_by (entry_of u k n f) (entry_of u k m g)) →
-    FitsWords o (entry_of u k (n + m) (followed_by f g))
-fits_entry true k n m f g o room w = (room, w.1, words_both (suc o) f g w.2 w.3.2, tt)
-fits_entry false k n m f g o room w = (room, w.1, words_both (suc o) f g w.2 w.3.2, tt)
+-- Adding two entries of one key and mark adds the entry of the bytes of both, with both insides.
+sums_entry : (u : Bool) (k : Key) (n m : ℕ) (f g : Forest) (s : Sums) (p : Path) →
+    add_all s (own_behind p (followed_by (entry_of u k n f) (entry_of u k m g)))
+    ≡ add_all s (own_behind p (entry_of u k (n + m) (followed_by f g)))
+sums_entry u k n m f g s p =
+    let e = entry_at u p k n in
+    let d = entry_at u p k m in
+    let q = p ++ k ∷ [] in
+    sums_both s p (entry_of u k n f) (entry_of u k m g)
+    ∙ ap (λ b. add_all (add_all s b) (own_behind p (entry_of u k m g))) (own_entry u p k n f)
+    ∙ ap (add_all (add_all (add s e) (own_behind q f))) (own_entry u p k m g)
+    ∙ ap (λ t. add_all t (own_behind q g)) (sym (fold-append add (add s e) (own_behind q f) (d ∷ []))
+    ∙ swaps (own_behind q f) (d ∷ []) (add s e) ∙ ap (λ t. add_all t (own_behind q f)) (one_entry s u p k n m))
+    ∙ sym (sums_both (add s (entry_at u p k (n + m))) q f g)
+    ∙ sym (ap (add_all s) (own_entry u p k (n + m) (followed_by f g)))
 
 -- Two entries of one key and mark are one entry of the bytes of both, with both insides.
 pub merged_entry : (u : Bool) (k : Key) (n m : ℕ) (f g : Forest) → IsPlain f → IsPlain g → n + m < 2 ^ 64 →
     KeepsOwned u n m f g → Merged (followed_by (entry_of u k n f) (entry_of u k m g)) (entry_of u k (n + m)
     (followed_by f g))
-merged_entry u k n m f g x y room keeps = record {
-  plain = plain_both (entry_of u k n f) (entry_of u k m g) (plain_entry u k n f x) (plain_entry u k m g y);
-  plain_merged = plain_entry u k (n + m) (followed_by f g) (plain_both f g x y);
-  same_sums = λ s p. sums_entry s p;
-  same_inline = inline_entry u k n m f g;
-  same_held = held_entry u k n m f g;
-  same_direct = direct_entry u k n m f g;
-  same_owned = owned_entry u k n m f g keeps;
-  same_bytes = bytes_entry u k n m f g;
-  fits = λ o w. fits_entry u k n m f g o room w;
+merged_entry true k n m f g x y room keeps = record {
+  plain = (x, (y, tt));
+  plain_merged = (plain_both f g x y, tt);
+  same_sums = sums_entry true k n m f g;
+  same_inline = refl;
+  same_held = omega (arith, inline_both f g, held_both f g);
+  same_direct = omega arith;
+  same_owned = omega (arith, owned-following f g);
+  same_bytes = omega (arith, bytes_both f g);
+  fits = λ o w. (room, w.1, words_both (suc o) f g w.2 w.3.2, tt);
 }
-  where
-    sums_entry : (s : Sums) (p : Path) → add_all s (own_behind p (followed_by (entry_of u k n f)
-        (entry_of u k m g))) ≡ add_all s (own_behind p (entry_of u k (n + m) (followed_by f g)))
-    sums_entry s p =
-        let e = entry_at u p k n in
-        let d = entry_at u p k m in
-        let q = p ++ k ∷ [] in
-        sums_both s p (entry_of u k n f) (entry_of u k m g)
-        ∙ ap (λ b. add_all (add_all s b) (own_behind p (entry_of u k m g))) (own_entry u p k n f)
-        ∙ ap (add_all (add_all (add s e) (own_behind q f))) (own_entry u p k m g)
-        ∙ ap (λ t. add_all t (own_behind q g)) (sym (fold-append add (add s e) (own_behind q f) (d ∷ []))
-        ∙ swaps (own_behind q f) (d ∷ []) (add s e) ∙ ap (λ t. add_all t (own_behind q f)) (one_entry s u p k n m))
-        ∙ sym (sums_both (add s (entry_at u p k (n + m))) q f g)
-        ∙ sym (ap (add_all s) (own_entry u p k (n + m) (followed_by f g)))
+merged_entry false k n m f g x y room keeps = record {
+  plain = (x, (y, tt));
+  plain_merged = (plain_both f g x y, tt);
+  same_sums = sums_entry false k n m f g;
+  same_inline = omega arith;
+  same_held = omega (arith, held_both f g);
+  same_direct = omega arith;
+  same_owned = omega (arith, owned-following f g, direct-following f g, keeps refl);
+  same_bytes = omega (arith, bytes_both f g);
+  fits = λ o w. (room, w.1, words_both (suc o) f g w.2 w.3.2, tt);
+}
 
 -- The same entry with what merges its inside.
 pub merged_inside : (u : Bool) (k : Key) (n : ℕ) {f g : Forest} → Merged f g →

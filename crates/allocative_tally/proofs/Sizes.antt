@@ -1,18 +1,12 @@
 -- Declared sizes have room for what is inside.
-use Rattle.std.proofs.Common.{◌≡◌, ◌≤◌, ◌+◌, ◌^◌, ℕ, suc, Bool, true, false, nat_lt}
-use Rattle.std.proofs.Common.{Option, Some}
-use Rattle.std.proofs.Common.{None, refl, subst, arith, if◌then◌else◌}
+use Rattle.std.proofs.Common.{◌≡◌, ◌≤◌, ◌+◌, ◌^◌, ℕ, suc, Bool, true, false, nat_lt, Option, Some, None, refl, subst}
+use Rattle.std.proofs.Common.{arith, if◌then◌else◌}
 use Rattle.allocative_described.specs.Sizes.{checked, up, size_sum, size_max, size_up}
 use Rattle.allocative_tally.specs.Tallies.{IsWithin, both_bounds}
-use Rattle.allocative_tally.proofs.Counting.{FitsEntry}
 
--- Whatever is within the first bound is within the second.
-abbrev pub HasRoom : Option ℕ → Option ℕ → Type 0
-HasRoom v w = (d : ℕ) → IsWithin d w → IsWithin d v
-
--- If v has room for w, and u for v, then u has room for w.
-pub room_then : (u v w : Option ℕ) → HasRoom u v → HasRoom v w → HasRoom u w
-room_then u v w a b d h = a d (b d h)
+-- Whatever a bound allows is within a declared size.
+pub record HoldsBound (size w : Option ℕ) : Type 0 where
+  pub room : (d : ℕ) → IsWithin d w → IsWithin d size
 
 -- A size that is checked and there is the size itself.
 pub checked_is : (m n : ℕ) → checked m ≡ Some n → m ≡ n
@@ -30,62 +24,68 @@ room_checked m d h = by_test (nat_lt m (2 ^ 64))
     by_test true = h
     by_test false = tt
 
--- A size that is rounded up has room for the size.
-pub room_up : (w : Option ℕ) (a : ℕ) → HasRoom (size_up w a) w
-room_up None a d h = tt
-room_up (Some m) a d h = room_checked (up m a) d (omega (arith, h))
+-- A size holds itself.
+pub holds_itself : {w : Option ℕ} → HoldsBound w w
+holds_itself = record { room = λ d h. h }
 
--- The sum of two sizes has room for both.
-pub room_sum : (w v : Option ℕ) → HasRoom (size_sum w v) (both_bounds w v)
-room_sum None v d h = tt
-room_sum (Some m) None d h = tt
-room_sum (Some m) (Some n) d h = room_checked (m + n) d h
+-- A size holds what is not more.
+pub holds_bytes : {m n : ℕ} → m ≤ n → HoldsBound (Some n) (Some m)
+holds_bytes h = record { room = λ d i. omega (arith, h, i) }
 
--- The sum of two sizes has room for the second.
-pub room_second : (w v : Option ℕ) → HasRoom (size_sum w v) v
-room_second None v d h = tt
-room_second (Some m) None d h = tt
-room_second (Some m) (Some n) d h = room_checked (m + n) d (omega (arith, h))
+-- Whatever is within nothing is within any size.
+pub holds_nothing : (u : Option ℕ) → HoldsBound u (Some 0)
+holds_nothing None = record { room = λ d h. tt }
+holds_nothing (Some m) = record { room = λ d h. omega (arith, h) }
 
--- The greater of two sizes has room for the first.
-pub room_max_first : (w v : Option ℕ) → HasRoom (size_max w v) w
-room_max_first None v d h = tt
-room_max_first (Some m) None d h = tt
-room_max_first (Some m) (Some n) d h = omega (arith, h)
+-- A size that is rounded up.
+pub holds_up : (u : Option ℕ) (a : ℕ) {w : Option ℕ} → HoldsBound u w → HoldsBound (size_up u a) w
+holds_up None a h = record { room = λ d i. tt }
+holds_up (Some m) a h = record { room = λ d i. room_checked (up m a) d (omega (arith, h.room d i)) }
 
--- The greater of two sizes has room for the second.
-pub room_max_second : (w v : Option ℕ) → HasRoom (size_max w v) v
-room_max_second None v d h = tt
-room_max_second (Some m) None d h = tt
-room_max_second (Some m) (Some n) d h = omega (arith, h)
+-- The first of two fields.
+pub holds_first : (u v : Option ℕ) {w : Option ℕ} → HoldsBound u w → HoldsBound (size_sum u v) w
+holds_first None v h = record { room = λ d i. tt }
+holds_first (Some m) None h = record { room = λ d i. tt }
+holds_first (Some m) (Some n) h = record { room = λ d i. room_checked (m + n) d (omega (arith, h.room d i)) }
 
--- What has a bound has room only for what has one that is not greater.
-pub not_greater : (w : Option ℕ) (m : ℕ) → HasRoom (Some m) w → (k : ℕ) × (w ≡ Some k) × (k ≤ m)
-not_greater None m h = absurd (omega (arith, h (suc m) tt))
-not_greater (Some k) m h = (k, refl, h k (omega arith))
+-- The fields behind a tag.
+pub holds_second : (u v : Option ℕ) {w : Option ℕ} → HoldsBound v w → HoldsBound (size_sum u v) w
+holds_second None v h = record { room = λ d i. tt }
+holds_second (Some m) None h = record { room = λ d i. tt }
+holds_second (Some m) (Some n) h = record { room = λ d i. room_checked (m + n) d (omega (arith, h.room d i)) }
 
--- If each bound has room for another, both have room for both.
-pub room_both : (v w v' w' : Option ℕ) → HasRoom v v' → HasRoom w w' → HasRoom (both_bounds v w) (both_bounds v' w')
-room_both None w v' w' a b d h = tt
-room_both (Some m) None v' w' a b d h = tt
-room_both (Some m) (Some n) v' w' a b d h =
-    let x = not_greater v' m a in
-    let y = not_greater w' n b in
-    omega (
-      arith,
-      x.2,
-      y.2,
-      subst (λ u. IsWithin d (both_bounds u (Some y.0))) x.1 (subst (λ u. IsWithin d
-          (both_bounds v' u)) y.1 h),
-    )
+-- The fields of one variant.
+pub holds_first_of : (u v : Option ℕ) {w : Option ℕ} → HoldsBound u w → HoldsBound (size_max u v) w
+holds_first_of None v h = record { room = λ d i. tt }
+holds_first_of (Some m) None h = record { room = λ d i. tt }
+holds_first_of (Some m) (Some n) h = record { room = λ d i. omega (arith, h.room d i) }
 
--- Bounds of three can be grouped either way.
-pub room_grouped : (u v w : Option ℕ) → HasRoom (both_bounds (both_bounds u v) w) (both_bounds u (both_bounds v w))
-room_grouped None v w d h = tt
-room_grouped (Some m) None w d h = tt
-room_grouped (Some m) (Some n) None d h = tt
-room_grouped (Some m) (Some n) (Some k) d h = omega (arith, h)
+-- The fields of a later variant.
+pub holds_second_of : (u v : Option ℕ) {w : Option ℕ} → HoldsBound v w → HoldsBound (size_max u v) w
+holds_second_of None v h = record { room = λ d i. tt }
+holds_second_of (Some m) None h = record { room = λ d i. tt }
+holds_second_of (Some m) (Some n) h = record { room = λ d i. omega (arith, h.room d i) }
 
--- An entry of a size that has room for a bound fits what is within the bound.
-pub fits_room : {size : Option ℕ} (w : Option ℕ) {n : ℕ} → size ≡ Some n → HasRoom size w → FitsEntry w n
-fits_room w e h = record { fits = subst (λ (s : Option ℕ). HasRoom s w) e h }
+-- A size holds only a bound that is there and not greater.
+pub not_greater : (w : Option ℕ) (m : ℕ) → HoldsBound (Some m) w → (k : ℕ) × (w ≡ Some k) × (k ≤ m)
+not_greater None m h = absurd (omega (arith, h.room (suc m) tt))
+not_greater (Some k) m h = (k, refl, h.room k (omega arith))
+
+-- Two lists of fields.
+pub holds_both : (u v w x : Option ℕ) → HoldsBound u w → HoldsBound v x → HoldsBound (size_sum u v) (both_bounds w x)
+holds_both None v w x a b = record { room = λ d h. tt }
+holds_both (Some m) None w x a b = record { room = λ d h. tt }
+holds_both (Some m) (Some n) w x a b =
+    let y = not_greater w m a in
+    let z = not_greater x n b in
+    let sums = λ (d : ℕ) (h : IsWithin d (both_bounds w x)). subst (λ (u : Option ℕ). IsWithin d
+    (both_bounds u (Some z.0))) y.1 (subst (λ (u : Option ℕ). IsWithin d (both_bounds w u)) z.1 h) in
+    record { room = λ d h. room_checked (m + n) d (omega (arith, y.2, z.2, sums d h)) }
+
+-- Fields can be grouped either way.
+pub holds_grouped : (u v w : Option ℕ) {size : Option ℕ} → HoldsBound size (both_bounds (both_bounds u v) w) →
+    HoldsBound size (both_bounds u (both_bounds v w))
+holds_grouped None v w a = a
+holds_grouped (Some m) None w a = a
+holds_grouped (Some m) (Some n) None a = a
+holds_grouped (Some m) (Some n) (Some k) a = record { room = λ d h. a.room d (omega (arith, h)) }

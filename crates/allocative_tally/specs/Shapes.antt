@@ -1,10 +1,35 @@
--- What a tally shows.
-use Rattle.std.specs.Prelude.{◌≡◌, ◌≤◌, ◌*◌, ◌-◌, ◌^◌, ◌+◌, ◌==◌, min, not, ℕ, Bool, true, false, cond, ⊤, Option, None, Some, codes}
-use Rattle.allocative_graph.specs.Path.{Key}
-use Rattle.allocative_graph.specs.Forest.{Forest, Empty, followed_by, entry_of}
-use Rattle.allocative_graph.specs.Owned.{direct}
-use Rattle.allocative_tally.specs.Merged.{IsPlain}
+-- What a tally shows, and when one forest shows another one with its entries merged: the entries of one place and one
+-- mark as one entry.
+use Rattle.std.specs.Prelude.{◌≡◌, ◌≤◌, ◌*◌, ◌-◌, ◌^◌, ◌+◌, ◌==◌, min, not, ℕ, Bool, true, false, cond, ⊤, Option, None}
+use Rattle.std.specs.Prelude.{Some, codes}
+use Rattle.allocative_graph.specs.Path.{Key, Path}
+use Rattle.allocative_graph.specs.Forest.{Forest, Empty, Inline, First, Again, followed_by, entry_of, own_behind}
+use Rattle.allocative_graph.specs.Forest.{Unique as unique_entry}
+use Rattle.allocative_graph.specs.Sums.{Sums, add_all}
+use Rattle.allocative_graph.specs.Owned.{held, inline_bytes, direct, owned}
+use Rattle.allocative.specs.Strict.{all_bytes, FitsWords}
 use Rattle.allocative_tally.specs.declared.tally.Sum.{Sum}
+
+-- No entry is shared.
+abbrev pub IsPlain : Forest → Type 0
+IsPlain Empty = ⊤
+IsPlain (Inline k n inside after) = IsPlain inside × IsPlain after
+IsPlain (unique_entry k n inside after) = IsPlain inside × IsPlain after
+IsPlain (First k n i inside after) = ⊥
+IsPlain (Again k n i after) = ⊥
+
+-- Neither forest has a shared entry, and no collector tells them apart: they add the same to all sums at each place,
+-- they hold and own the same bytes, inside any entry, and if f exceeds no bound, g exceeds none.
+pub record Merged (f g : Forest) : Type 0 where
+  pub plain : IsPlain f
+  pub plain_merged : IsPlain g
+  pub same_sums : (s : Sums) (p : Path) → add_all s (own_behind p f) ≡ add_all s (own_behind p g)
+  pub same_inline : inline_bytes f ≡ inline_bytes g
+  pub same_held : held f ≡ held g
+  pub same_direct : direct f ≡ direct g
+  pub same_owned : owned f ≡ owned g
+  pub same_bytes : all_bytes f ≡ all_bytes g
+  pub fits : (open_visitors : ℕ) → FitsWords open_visitors f → FitsWords open_visitors g
 
 -- Each entry of one place is unique, or inline with at least the bytes directly inside it, or inline with at most
 -- those. Merging entries of one kind keeps what they own.

@@ -1,6 +1,6 @@
 -- What counting a value does to what was counted before.
-use Rattle.std.specs.Prelude.{◌≡◌, ◌≤◌, ◌<◌, ◌+◌, ◌*◌, ◌^◌, ℕ, Bool, true, List, length, map, Option}
-use Rattle.std.specs.Prelude.{None, Some, Result, ⊤}
+use Rattle.std.specs.Prelude.{◌≡◌, ◌≤◌, ◌<◌, ◌+◌, ◌-◌, ◌*◌, ◌^◌, ℕ, Bool, true, false, List, length, map, Option, None}
+use Rattle.std.specs.Prelude.{Some, Result, ⊤, codes}
 use Rattle.std.specs.Iterator.{Drains}
 use Rattle.allocative_graph.specs.Path.{Key}
 use Rattle.allocative_graph.specs.Forest.{Forest, followed_by}
@@ -11,9 +11,10 @@ use Rattle.allocative.specs.Bodies.{are_shown_each}
 use Rattle.allocative.specs.Runs.{field_of}
 use Rattle.allocative.specs.Visited.{Entered}
 use Rattle.allocative.specs.declared.visitor.Visitor.{Visitor}
-use Rattle.allocative_tally.specs.Merged.{Merged}
-use Rattle.allocative_tally.specs.Shapes.{Shape, forest_of, Holds, IsRight, shape_shows, entries, items_shape}
+use Rattle.allocative_tally.specs.Shapes.{Merged, Shape, forest_of, Holds, IsRight, shape_shows, entries, items_shape}
+use Rattle.allocative_tally.specs.Shapes.{buffer_shape, bytes_times}
 use Rattle.allocative_tally.specs.declared.tally.Sum.{Sum}
+use Rattle.allocative_tally.specs.declared.places.Places.{Places}
 
 -- The bound of two values, one after another.
 abbrev pub both_bounds : Option ℕ → Option ℕ → Option ℕ
@@ -100,3 +101,37 @@ pub record AddsEntry (n : ℕ) (old new : Sum) : Type 0 where
 -- The shape was entered, exactly.
 pub record EntersShape (s : Shape) (old new : Visitor) (r : Result (Unit {0}) Refusal) : Type 0 where
   pub entered : Entered true (shape_shows s) old new r
+
+-- No buffer.
+abbrev pub no_places : Places
+no_places = record { buffers = 0; items = 0; unused = 0 }
+
+-- Buffers of items of a declared name and size, by what so many items show.
+abbrev pub buffer_of : Key → Option ℕ → Bool → Places → (ℕ → Shape) → Shape
+buffer_of name size needs_drop places s = buffer_shape (codes "ptr") places.buffers
+    (items_shape (are_shown_each needs_drop size) name places.buffers (bytes_times size places.items) (s places.items))
+    (bytes_times size places.unused)
+
+-- A buffer with so many used and spare places of a declared size each was added, and the bytes of all fit a word.
+pub record AddsPlaces (size : Option ℕ) (used spare : ℕ) (old new : Places) : Type 0 where
+  pub bytes : ℕ
+  pub sized : size ≡ Some bytes
+  pub buffers : new.buffers ≡ old.buffers + 1
+  pub items : new.items ≡ old.items + used
+  pub unused : new.unused ≡ old.unused + spare
+  pub fits : bytes * (new.items + new.unused) < 2 ^ 64
+
+-- A buffer of n items of a declared size, with room for so many, was added, if there is one; otherwise nothing.
+pub data CountsRoom (size : Option ℕ) (n capacity : ℕ) (old new : Places) : Bool → Type 0 where
+  no_bytes : size ≡ Some 0 → new ≡ old → CountsRoom size n capacity old new false
+  no_room : (item : ℕ) → size ≡ Some item → n ≡ 0 → capacity ≡ 0 → new ≡ old → CountsRoom size n capacity old new false
+  is_room : {item : ℕ} → size ≡ Some item → 0 < item → 0 < n + capacity → AddsPlaces size n (capacity - n) old new
+      → CountsRoom size n capacity old new true
+
+-- An entry `data` of n items of a declared size was added to those whose items have at most 8 bytes, or to those whose
+-- items have more.
+pub record CountsData (size : Option ℕ) (n : ℕ) (small small' large large' : Places) (is_small : Bool) : Type 0 where
+  pub item : ℕ
+  pub sized : size ≡ Some item
+  pub if_small : is_small ≡ true → (item * n ≤ 8) × AddsPlaces size n 0 small small' × (large' ≡ large)
+  pub if_large : is_small ≡ false → (8 ≤ item * n) × AddsPlaces size n 0 large large' × (small' ≡ small)

@@ -19,10 +19,7 @@ impl<T: Tallied> Tallied for Option<T> {
     ghost bounded = { λ t n. le_refl _ };
 
     fn none_counted() -> Self::Tally {
-        OwnTally {
-            count: 0,
-            values: T::none_counted(),
-        }
+        OwnTally::none(T::none_counted())
     }
 
     fn show(tally: &Self::Tally, count: usize, visitor: &mut Visitor<'_>) -> Result<(), Refusal> {
@@ -61,26 +58,16 @@ impl<T: Tallied, E: Tallied> Tallied for Result<T, E> {
 
     fn none_counted() -> Self::Tally {
         EitherTally {
-            first: OwnTally {
-                count: 0,
-                values: T::none_counted(),
-            },
-            second: OwnTally {
-                count: 0,
-                values: E::none_counted(),
-            },
+            first: OwnTally::none(T::none_counted()),
+            second: OwnTally::none(E::none_counted()),
         }
     }
 
     fn show(tally: &Self::Tally, count: usize, visitor: &mut Visitor<'_>) -> Result<(), Refusal> {
         let ok = FieldMany::<T>("Ok", &tally.first.values, tally.first.count);
         let err = FieldMany::<E>("Err", &tally.second.values, tally.second.count);
-        InlineSum(
-            "Result",
-            Sum::times(<Result<T, E>>::size(), count),
-            (ok, err),
-        )
-        .enter(visitor)
+        let size = Sum::times(<Result<T, E>>::size(), count);
+        InlineSum("Result", size, (ok, err)).enter(visitor)
     }
 
     #[inline(always)]
@@ -110,26 +97,16 @@ impl<L: Tallied, R: Tallied> Tallied for Either<L, R> {
 
     fn none_counted() -> Self::Tally {
         EitherTally {
-            first: OwnTally {
-                count: 0,
-                values: L::none_counted(),
-            },
-            second: OwnTally {
-                count: 0,
-                values: R::none_counted(),
-            },
+            first: OwnTally::none(L::none_counted()),
+            second: OwnTally::none(R::none_counted()),
         }
     }
 
     fn show(tally: &Self::Tally, count: usize, visitor: &mut Visitor<'_>) -> Result<(), Refusal> {
         let left = FieldMany::<L>("Left", &tally.first.values, tally.first.count);
         let right = FieldMany::<R>("Right", &tally.second.values, tally.second.count);
-        InlineSum(
-            "Either",
-            Sum::times(<Either<L, R>>::size(), count),
-            (left, right),
-        )
-        .enter(visitor)
+        let size = Sum::times(<Either<L, R>>::size(), count);
+        InlineSum("Either", size, (left, right)).enter(visitor)
     }
 
     #[inline(always)]

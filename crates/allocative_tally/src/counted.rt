@@ -9,15 +9,13 @@ ghost use Rattle.allocative.specs.Visited.{Entered};
 ghost use Rattle.allocative_tally.specs.Tallies.{TalliesEach, HoldsOfRun, FitsWord};
 
 use crate::tally::{CountError, Tallied, all_fit};
-use allocative::{Allocative, Described, Each, Part, Refusal, Visitor};
+use allocative::{Allocative, Described, Part, Refusal, Visitor};
 
 /// Counts what each item shows. It returns `Err` as `Tallied::tally` does.
 pub fn count_each<T: Tallied>(items: &[T], tally: &mut T::Tally) -> Result<(), CountError>
     ensures { IfOk result (λ _. TalliesEach T.size T.may_show items.now (T.shape tally.old) (T.shape tally.new)) }
 {
-    for item in items {
-        item.tally(tally)?;
-    }
+    count_run(items.iter(), tally)?;
     Ok(())
 }
 
@@ -109,11 +107,7 @@ impl<'a, T: Tallied> Part for CountedEach<&'a Vec<T>> {
     ghost is_strict = { T.is_strict };
 
     fn enter(self, visitor: &mut Visitor<'_>) -> Result<(), Refusal> {
-        let mut tally = T::none_counted();
-        match count_all(self.0, &mut tally) {
-            Ok(()) => T::show(&tally, self.0.len(), visitor),
-            Err(_) => Each(self.0).enter(visitor),
-        }
+        CountedEach(self.0.as_slice()).enter(visitor)
     }
 }
 

@@ -1,7 +1,7 @@
 //! Entries of declared sizes, and values with a number of their own.
 #![tactic(auto)]
 
-ghost use Rattle.std.specs.Prelude.{IfOk};
+ghost use Rattle.std.specs.Prelude.{◌≡◌, IfOk};
 ghost use Rattle.allocative_tally.specs.Shapes.{entries};
 ghost use Rattle.allocative_tally.specs.Tallies.{TalliesOwn};
 ghost use Rattle.allocative.specs.Shows as shows;
@@ -40,6 +40,15 @@ impl<'a, T: Tallied> Entries for FieldMany<'a, T> {
 pub struct OwnTally<S> {
     pub count: usize,
     pub values: S,
+}
+
+impl<S: Drop> OwnTally<S> {
+    /// No value, by a tally of nothing.
+    pub fn none(values: S) -> OwnTally<S>
+        ensures { result ≡ record { count = 0; values = values } }
+    {
+        OwnTally { count: 0, values }
+    }
 }
 
 /// Counts one more value of a number of its own. It returns `Err` as `Tallied::tally` does.

@@ -1,4 +1,5 @@
-//! Maps, which show the fields `key` and `value` for each pair, inside an inline entry `data` of 8 bytes.
+//! Maps and sets. They show a field `key` for each key, and maps a field `value` beside it, inside an inline entry `data`
+//! of 8 bytes.
 #![tactic(auto)]
 
 ghost use Rattle.std.specs.Prelude.{◌≡◌, ◌&&◌, ◌≤◌, ◌<◌, ◌*◌, true, false, codes, IfOk, Some, length};
@@ -10,14 +11,14 @@ ghost use Rattle.allocative_graph.specs.Shows.{each_shows};
 ghost use Rattle.allocative.specs.Runs.{pair_shows};
 ghost use Rattle.allocative.specs.StdShows.{in_any_order};
 ghost use Rattle.allocative_tally.specs.Shapes.{entries, pairs_shape, data_shape};
-ghost use Rattle.allocative_tally.specs.Tallies.{TalliesMany, HoldsOfRun, FitsWord, both_bounds};
-ghost use Rattle.allocative_tally.specs.Places.{FitsData};
+ghost use Rattle.allocative_tally.specs.Tallies.{TalliesMany, HoldsOfRun, FitsWord, both_bounds, CountsData, no_places};
 
+use crate::counted::count_run;
 use crate::field::FieldMany;
-use crate::places::{Buffers, Places};
-use crate::tally::{CountError, Entries, InlineSum, NarrowSum, Sum, Tallied, all_fit};
+use crate::places::Places;
+use crate::tally::{CountError, Entries, InlineSum, Sum, Tallied, all_fit};
 use allocative::{Described, Pairs, Part, Refusal, Visitor};
-use std::collections::{BTreeMap, HashMap};
+use std::collections::{BTreeMap, BTreeSet, HashMap, HashSet};
 use std::hash::Hash;
 
 /// The fields of so many pairs, by the tallies of their keys and values.
@@ -34,30 +35,9 @@ impl<'a, K: Tallied, V: Tallied> Entries for PairsMany<'a, K, V> {
     }
 }
 
-/// Counts each pair that an iterator gives. It returns `Err` as `Tallied::tally` does.
+/// Counts each of so many pairs that an iterator gives. It returns `Err` as `Tallied::tally` does, and if the bytes of so
+/// many pairs do not fit a word.
 pub fn count_pairs<'a, K: Tallied + 'a, V: Tallied + 'a, I: Iterator<Item = (&'a K, &'a V)> + Drop>(
-    pairs: I,
-    tally: &mut (K::Tally, V::Tally),
-) -> Result<(), CountError>
-    requires can { I.can_next pairs }
-    requires ends { IsFinite (I.remaining pairs) }
-    ensures { IfOk result (λ _. HoldsOfRun I.next_gives pairs deref_pair (λ es.
-        TalliesMany (both_bounds K.size V.size) (length es)
-        (each_shows (pair_shows K.size K.may_show V.size V.may_show) es)
-        (pairs_shape K.size V.size (K.shape tally.old.0) (V.shape tally.old.1))
-        (pairs_shape K.size V.size (K.shape tally.new.0) (V.shape tally.new.1)))) }
-{
-    for pair in pairs {
-        let (key, value) = pair;
-        key.tally(&mut tally.0)?;
-        value.tally(&mut tally.1)?;
-    }
-    Ok(())
-}
-
-// Counts each pair that an iterator gives, if the bytes of so many pairs fit a word. It returns `Err` as
-// `Tallied::tally` does.
-fn count_all<'a, K: Tallied + 'a, V: Tallied + 'a, I: Iterator<Item = (&'a K, &'a V)> + Drop>(
     pairs: I,
     count: usize,
     tally: &mut (K::Tally, V::Tally),
@@ -72,7 +52,11 @@ fn count_all<'a, K: Tallied + 'a, V: Tallied + 'a, I: Iterator<Item = (&'a K, &'
     ensures fits { IfOk result (λ _. FitsWord (size_sum K.size V.size) count) }
 {
     all_fit(pair_size::<K, V>(), count)?;
-    count_pairs(pairs, tally)?;
+    for pair in pairs {
+        let (key, value) = pair;
+        key.tally(&mut tally.0)?;
+        value.tally(&mut tally.1)?;
+    }
     Ok(())
 }
 
@@ -83,35 +67,69 @@ pub(crate) fn pair_size<K: Described, V: Described>() -> Option<usize>
     K::size()?.checked_add(V::size()?)
 }
 
-/// Whether so many items of a declared size have at most the 8 bytes of the entry `data`. `Err` if the size is missing.
-pub(crate) fn fits_data(size: Option<usize>, count: usize) -> Result<bool, CountError>
-    ensures { IfOk result (FitsData size count) }
-{
-    let Some(bytes) = size else {
-        return Err(CountError);
-    };
-    Ok(bytes.saturating_mul(count) <= 8)
-}
-
 /// Entries `data` of maps and sets, counted: those whose items have at most its 8 bytes, and those whose items have
 /// more. No place in them is unused.
 #[derive(Drop)]
 pub struct DataTally<S> {
-    pub(crate) small: Buffers<S>,
-    pub(crate) large: Buffers<S>,
+    small: Places,
+    large: Places,
+    small_values: S,
+    large_values: S,
 }
 
-/// Entries `data`, by how many there are, with entries inside those whose items have at most 8 bytes, and with others
-/// inside the rest.
-#[derive(Drop)]
-pub struct DataMany<P, Q>(pub usize, pub P, pub usize, pub Q);
+impl<S: Drop> DataTally<S> {
+    // No entry, by two tallies of nothing.
+    fn none(small_values: S, large_values: S) -> DataTally<S>
+        ensures { result ≡ record {
+          small = no_places;
+          large = no_places;
+          small_values = small_values;
+          large_values = large_values;
+        } }
+    {
+        DataTally {
+            small: Places::none(),
+            large: Places::none(),
+            small_values,
+            large_values,
+        }
+    }
+}
 
-impl<P: Entries, Q: Entries> Entries for DataMany<P, Q> {
-    ghost shape = { λ e. data_shape e.0 (P.shape e.1) e.2 (Q.shape e.3) };
+// Adds an entry `data` of so many items of a declared size to those whose items have at most its 8 bytes, or to the
+// others, and returns which. It returns `Err` as `Places::add` does.
+fn add_data(
+    size: Option<usize>,
+    count: usize,
+    small: &mut Places,
+    large: &mut Places,
+) -> Result<bool, CountError>
+    ensures { IfOk result (CountsData size count small.old small.new large.old large.new) }
+{
+    let Some(bytes) = size else {
+        return Err(CountError);
+    };
+    if bytes.saturating_mul(count) <= 8 {
+        small.add(size, count, 0)?;
+        return Ok(true);
+    }
+    large.add(size, count, 0)?;
+    Ok(false)
+}
+
+/// The entries `data` of a tally, with entries inside those whose items have at most 8 bytes, and with others inside
+/// the rest.
+#[derive(Drop)]
+struct DataMany<'a, S, P, Q>(&'a DataTally<S>, P, Q);
+
+impl<'a, S, P: Entries, Q: Entries> Entries for DataMany<'a, S, P, Q> {
+    ghost shape = { λ e. data_shape e.0.now.small.buffers (P.shape e.1)
+        e.0.now.large.buffers (Q.shape e.2) };
 
     fn enter(self, visitor: &mut Visitor<'_>) -> Result<(), Refusal> {
-        let small = InlineSum("data", Sum::times(Some(8), self.0), self.1);
-        let large = NarrowSum("data", Sum::times(Some(8), self.2), self.3);
+        let DataMany(tally, small, large) = self;
+        let small = InlineSum("data", Sum::times(Some(8), tally.small.buffers), small);
+        let large = InlineSum("data", Sum::times(Some(8), tally.large.buffers), large);
         (small, large).enter(visitor)
     }
 }
@@ -119,49 +137,34 @@ impl<P: Entries, Q: Entries> Entries for DataMany<P, Q> {
 impl<K: Tallied + Eq + Hash, V: Tallied> Tallied for HashMap<K, V> {
     type Tally = DataTally<(K::Tally, V::Tally)>;
 
-    ghost shape = { λ t n. entries (codes "HashMap") (Some 48) n (data_shape t.small.places.buffers
-        (pairs_shape K.size V.size (K.shape t.small.values.0) (V.shape t.small.values.1) t.small.places.items)
-        t.large.places.buffers
-        (pairs_shape K.size V.size (K.shape t.large.values.0) (V.shape t.large.values.1) t.large.places.items)) };
+    ghost shape = { λ t n. entries (codes "HashMap") (Some 48) n (data_shape t.small.buffers
+        (pairs_shape K.size V.size (K.shape t.small_values.0) (V.shape t.small_values.1) t.small.items)
+        t.large.buffers
+        (pairs_shape K.size V.size (K.shape t.large_values.0) (V.shape t.large_values.1) t.large.items)) };
 
     ghost bounded = { λ t n. le_refl _ };
 
     fn none_counted() -> Self::Tally {
-        DataTally {
-            small: Buffers {
-                places: Places::none(),
-                values: (K::none_counted(), V::none_counted()),
-            },
-            large: Buffers {
-                places: Places::none(),
-                values: (K::none_counted(), V::none_counted()),
-            },
-        }
+        let small = (K::none_counted(), V::none_counted());
+        let large = (K::none_counted(), V::none_counted());
+        DataTally::none(small, large)
     }
 
     fn show(tally: &Self::Tally, count: usize, visitor: &mut Visitor<'_>) -> Result<(), Refusal> {
-        let small = PairsMany::<K, V>(&tally.small.values, tally.small.places.items);
-        let large = PairsMany::<K, V>(&tally.large.values, tally.large.places.items);
-        let data = DataMany(
-            tally.small.places.buffers,
-            small,
-            tally.large.places.buffers,
-            large,
-        );
+        let small = PairsMany::<K, V>(&tally.small_values, tally.small.items);
+        let large = PairsMany::<K, V>(&tally.large_values, tally.large.items);
+        let data = DataMany(tally, small, large);
         InlineSum("HashMap", Sum::times(Some(48), count), data).enter(visitor)
     }
 
     fn tally(&self, tally: &mut Self::Tally) -> Result<(), CountError> {
-        let size = pair_size::<K, V>();
-        let count = self.len();
-        let is_small = fits_data(size, count)?;
+        let (size, count) = (pair_size::<K, V>(), self.len());
+        let is_small = add_data(size, count, &mut tally.small, &mut tally.large)?;
         if is_small {
-            tally.small.places.add(size, count, 0)?;
-            count_pairs(self.iter(), &mut tally.small.values)?;
+            count_pairs(self.iter(), count, &mut tally.small_values)?;
             return Ok(());
         }
-        tally.large.places.add(size, count, 0)?;
-        count_pairs(self.iter(), &mut tally.large.values)?;
+        count_pairs(self.iter(), count, &mut tally.large_values)?;
         Ok(())
     }
 }
@@ -169,49 +172,100 @@ impl<K: Tallied + Eq + Hash, V: Tallied> Tallied for HashMap<K, V> {
 impl<K: Tallied + Ord, V: Tallied> Tallied for BTreeMap<K, V> {
     type Tally = DataTally<(K::Tally, V::Tally)>;
 
-    ghost shape = { λ t n. entries (codes "BTreeMap") (Some 24) n (data_shape t.small.places.buffers
-        (pairs_shape K.size V.size (K.shape t.small.values.0) (V.shape t.small.values.1) t.small.places.items)
-        t.large.places.buffers
-        (pairs_shape K.size V.size (K.shape t.large.values.0) (V.shape t.large.values.1) t.large.places.items)) };
+    ghost shape = { λ t n. entries (codes "BTreeMap") (Some 24) n (data_shape t.small.buffers
+        (pairs_shape K.size V.size (K.shape t.small_values.0) (V.shape t.small_values.1) t.small.items)
+        t.large.buffers
+        (pairs_shape K.size V.size (K.shape t.large_values.0) (V.shape t.large_values.1) t.large.items)) };
 
     ghost bounded = { λ t n. le_refl _ };
 
     fn none_counted() -> Self::Tally {
-        DataTally {
-            small: Buffers {
-                places: Places::none(),
-                values: (K::none_counted(), V::none_counted()),
-            },
-            large: Buffers {
-                places: Places::none(),
-                values: (K::none_counted(), V::none_counted()),
-            },
-        }
+        let small = (K::none_counted(), V::none_counted());
+        let large = (K::none_counted(), V::none_counted());
+        DataTally::none(small, large)
     }
 
     fn show(tally: &Self::Tally, count: usize, visitor: &mut Visitor<'_>) -> Result<(), Refusal> {
-        let small = PairsMany::<K, V>(&tally.small.values, tally.small.places.items);
-        let large = PairsMany::<K, V>(&tally.large.values, tally.large.places.items);
-        let data = DataMany(
-            tally.small.places.buffers,
-            small,
-            tally.large.places.buffers,
-            large,
-        );
+        let small = PairsMany::<K, V>(&tally.small_values, tally.small.items);
+        let large = PairsMany::<K, V>(&tally.large_values, tally.large.items);
+        let data = DataMany(tally, small, large);
         InlineSum("BTreeMap", Sum::times(Some(24), count), data).enter(visitor)
     }
 
     fn tally(&self, tally: &mut Self::Tally) -> Result<(), CountError> {
-        let size = pair_size::<K, V>();
-        let count = self.len();
-        let is_small = fits_data(size, count)?;
+        let (size, count) = (pair_size::<K, V>(), self.len());
+        let is_small = add_data(size, count, &mut tally.small, &mut tally.large)?;
         if is_small {
-            tally.small.places.add(size, count, 0)?;
-            count_pairs(self.iter(), &mut tally.small.values)?;
+            count_pairs(self.iter(), count, &mut tally.small_values)?;
             return Ok(());
         }
-        tally.large.places.add(size, count, 0)?;
-        count_pairs(self.iter(), &mut tally.large.values)?;
+        count_pairs(self.iter(), count, &mut tally.large_values)?;
+        Ok(())
+    }
+}
+
+impl<K: Tallied + Eq + Hash> Tallied for HashSet<K> {
+    type Tally = DataTally<K::Tally>;
+
+    ghost shape = { λ t n. entries (codes "HashSet") (Some 48) n (data_shape t.small.buffers
+        (entries (codes "key") K.size t.small.items (K.shape t.small_values t.small.items))
+        t.large.buffers
+        (entries (codes "key") K.size t.large.items (K.shape t.large_values t.large.items))) };
+
+    ghost bounded = { λ t n. le_refl _ };
+
+    fn none_counted() -> Self::Tally {
+        DataTally::none(K::none_counted(), K::none_counted())
+    }
+
+    fn show(tally: &Self::Tally, count: usize, visitor: &mut Visitor<'_>) -> Result<(), Refusal> {
+        let small = FieldMany::<K>("key", &tally.small_values, tally.small.items);
+        let large = FieldMany::<K>("key", &tally.large_values, tally.large.items);
+        let data = DataMany(tally, small, large);
+        InlineSum("HashSet", Sum::times(Some(48), count), data).enter(visitor)
+    }
+
+    fn tally(&self, tally: &mut Self::Tally) -> Result<(), CountError> {
+        let (size, count) = (K::size(), self.len());
+        let is_small = add_data(size, count, &mut tally.small, &mut tally.large)?;
+        if is_small {
+            count_run(self.iter(), &mut tally.small_values)?;
+            return Ok(());
+        }
+        count_run(self.iter(), &mut tally.large_values)?;
+        Ok(())
+    }
+}
+
+impl<K: Tallied + Ord> Tallied for BTreeSet<K> {
+    type Tally = DataTally<K::Tally>;
+
+    ghost shape = { λ t n. entries (codes "BTreeSet") (Some 24) n (data_shape t.small.buffers
+        (entries (codes "key") K.size t.small.items (K.shape t.small_values t.small.items))
+        t.large.buffers
+        (entries (codes "key") K.size t.large.items (K.shape t.large_values t.large.items))) };
+
+    ghost bounded = { λ t n. le_refl _ };
+
+    fn none_counted() -> Self::Tally {
+        DataTally::none(K::none_counted(), K::none_counted())
+    }
+
+    fn show(tally: &Self::Tally, count: usize, visitor: &mut Visitor<'_>) -> Result<(), Refusal> {
+        let small = FieldMany::<K>("key", &tally.small_values, tally.small.items);
+        let large = FieldMany::<K>("key", &tally.large_values, tally.large.items);
+        let data = DataMany(tally, small, large);
+        InlineSum("BTreeSet", Sum::times(Some(24), count), data).enter(visitor)
+    }
+
+    fn tally(&self, tally: &mut Self::Tally) -> Result<(), CountError> {
+        let (size, count) = (K::size(), self.len());
+        let is_small = add_data(size, count, &mut tally.small, &mut tally.large)?;
+        if is_small {
+            count_run(self.iter(), &mut tally.small_values)?;
+            return Ok(());
+        }
+        count_run(self.iter(), &mut tally.large_values)?;
         Ok(())
     }
 }
@@ -228,7 +282,7 @@ impl<'a, K: Tallied + Ord, V: Tallied> Part for CountedPairs<&'a BTreeMap<K, V>>
     fn enter(self, visitor: &mut Visitor<'_>) -> Result<(), Refusal> {
         let count = self.0.len();
         let mut tally = (K::none_counted(), V::none_counted());
-        match count_all(self.0.iter(), count, &mut tally) {
+        match count_pairs(self.0.iter(), count, &mut tally) {
             Ok(()) => PairsMany::<K, V>(&tally, count).enter(visitor),
             Err(_) => Pairs(self.0).enter(visitor),
         }
@@ -243,7 +297,7 @@ impl<'a, K: Tallied + Eq + Hash, V: Tallied> Part for CountedPairs<&'a HashMap<K
     fn enter(self, visitor: &mut Visitor<'_>) -> Result<(), Refusal> {
         let count = self.0.len();
         let mut tally = (K::none_counted(), V::none_counted());
-        match count_all(self.0.iter(), count, &mut tally) {
+        match count_pairs(self.0.iter(), count, &mut tally) {
             Ok(()) => PairsMany::<K, V>(&tally, count).enter(visitor),
             Err(_) => Pairs(self.0).enter(visitor),
         }

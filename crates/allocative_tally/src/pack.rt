@@ -3,12 +3,10 @@
 
 ghost use Rattle.std.specs.Prelude.{codes, IfOk, Some};
 ghost use Rattle.std.proofs.Common.{le_refl};
-ghost use Rattle.slab.specs.Slab.{values};
 ghost use Rattle.allocative.specs.Bodies.{table_shows};
 ghost use Rattle.allocative_tally.specs.Shapes.{Unique as unique_width, EntryAt, Beside, NoEntry, entries, sum_times};
 ghost use Rattle.allocative_tally.specs.Shapes.{buffer_shape, bytes_times, pairs_shape, table_shape};
-ghost use Rattle.allocative_tally.specs.Tallies.{Tallies, TalliesEach};
-ghost use Rattle.allocative_tally.specs.Places.{buffer_of};
+ghost use Rattle.allocative_tally.specs.Tallies.{Tallies, buffer_of};
 
 use crate::counted::{count_each, count_run};
 use crate::field::{FieldMany, OwnTally};
@@ -24,48 +22,40 @@ use slab::Slab;
 use smallvec::SmallVec;
 use std::hash::Hash;
 
-/// How many hash tables there are, and the bytes of their buckets.
-#[derive(Clone, Copy)]
-pub struct Tables {
-    count: usize,
-    buckets: usize,
-}
-
-/// Containers in the order of insertion, counted.
+/// Containers in the order of insertion, counted: their items, how many hash tables there are, and the bytes of their
+/// buckets.
 #[derive(Drop)]
 pub struct IndexTally<S> {
     items: Buffers<S>,
-    tables: Tables,
+    tables: usize,
+    buckets: usize,
 }
 
-/// What containers in the order of insertion show inside their entries: by the places of their data and the size of
-/// one, the entries of their items, and the tables.
+/// What containers in the order of insertion show inside their entries: by their tally, the size of a place, and the
+/// entries of their items.
 #[derive(Drop)]
-struct IndexMany<P>(Places, Option<usize>, P, Tables);
+struct IndexMany<'a, S, P>(&'a IndexTally<S>, Option<usize>, P);
 
-impl<P: Entries> Entries for IndexMany<P> {
-    ghost shape = { λ e. Beside
-        (buffer_shape (codes "data") e.0.buffers (P.shape e.2) (bytes_times e.1 e.0.unused))
-        (table_shape e.3.count e.3.buckets) };
+impl<'a, S, P: Entries> Entries for IndexMany<'a, S, P> {
+    ghost shape = { λ e. Beside (buffer_shape (codes "data") e.0.now.items.places.buffers (P.shape e.2)
+        (bytes_times e.1 e.0.now.items.places.unused)) (table_shape e.0.now.tables e.0.now.buckets) };
 
     fn enter(self, visitor: &mut Visitor<'_>) -> Result<(), Refusal> {
-        let IndexMany(places, size, items, tables) = self;
+        let IndexMany(tally, size, items) = self;
+        let places = tally.items.places;
         let unused = Sum::of(places.buffers, bytes_of(size, places.unused));
         let inside = (items, InlineSum("unused_capacity", unused, ()));
         let data = UniqueSum("data", Sum::times(Some(8), places.buffers), inside);
-        let buckets = InlineSum("alloc", Sum::of(tables.count, tables.buckets), ());
-        (
-            data,
-            UniqueSum("raw_table", Sum::times(Some(8), tables.count), buckets),
-        )
-            .enter(visitor)
+        let buckets = InlineSum("alloc", Sum::of(tally.tables, tally.buckets), ());
+        let table = UniqueSum("raw_table", Sum::times(Some(8), tally.tables), buckets);
+        (data, table).enter(visitor)
     }
 }
 
-/// Counts the hash table of `count` items. It returns `Err` if a number exceeds a word.
-fn count_table(count: usize, tables: &mut Tables) -> Result<(), CountError>
+// Counts the hash table of `count` items. It returns `Err` if a number exceeds a word.
+fn count_table(count: usize, tables: &mut usize, buckets: &mut usize) -> Result<(), CountError>
     ensures { IfOk result (λ _. Tallies (Some 8) (table_shows count)
-        (table_shape tables.old.count tables.old.buckets) (table_shape tables.new.count tables.new.buckets)) }
+        (table_shape tables.old buckets.old) (table_shape tables.new buckets.new)) }
 {
     if count == 0 {
         return Ok(());
@@ -73,9 +63,8 @@ fn count_table(count: usize, tables: &mut Tables) -> Result<(), CountError>
     let Some(bytes) = raw_table_alloc_size_for_len::<u64>(count) else {
         return Err(CountError);
     };
-    let count = added(tables.count, 1)?;
-    let buckets = added(tables.buckets, bytes)?;
-    *tables = Tables { count, buckets };
+    *tables = added(*tables, 1)?;
+    *buckets = added(*buckets, bytes)?;
     Ok(())
 }
 
@@ -85,38 +74,29 @@ impl<K: Tallied + Eq + Hash, V: Tallied> Tallied for IndexMap<K, V> {
     ghost shape = { λ t n. entries (codes "IndexMap") (Some 72) n (Beside (buffer_shape (codes "data") t.items.places.buffers
         (pairs_shape K.size V.size (K.shape t.items.values.0) (V.shape t.items.values.1) t.items.places.items)
         (bytes_times ⟦<(K, V) as Described>⟧.size t.items.places.unused))
-        (table_shape t.tables.count t.tables.buckets)) };
+        (table_shape t.tables t.buckets)) };
 
     ghost bounded = { λ t n. le_refl _ };
 
     fn none_counted() -> Self::Tally {
         IndexTally {
-            items: Buffers {
-                places: Places::none(),
-                values: (K::none_counted(), V::none_counted()),
-            },
-            tables: Tables {
-                count: 0,
-                buckets: 0,
-            },
+            items: Buffers::none((K::none_counted(), V::none_counted())),
+            tables: 0,
+            buckets: 0,
         }
     }
 
     fn show(tally: &Self::Tally, count: usize, visitor: &mut Visitor<'_>) -> Result<(), Refusal> {
-        let places = tally.items.places;
-        let items = PairsMany::<K, V>(&tally.items.values, places.items);
-        let inside = IndexMany(places, <(K, V)>::size(), items, tally.tables);
+        let items = PairsMany::<K, V>(&tally.items.values, tally.items.places.items);
+        let inside = IndexMany(tally, <(K, V)>::size(), items);
         InlineSum("IndexMap", Sum::times(Some(72), count), inside).enter(visitor)
     }
 
     fn tally(&self, tally: &mut Self::Tally) -> Result<(), CountError> {
-        let unused = self.capacity() - self.len();
-        tally
-            .items
-            .places
-            .add(<(K, V)>::size(), self.len(), unused)?;
-        count_pairs(self.iter(), &mut tally.items.values)?;
-        count_table(self.len(), &mut tally.tables)?;
+        let (size, unused) = (<(K, V)>::size(), self.capacity() - self.len());
+        tally.items.places.add(size, self.len(), unused)?;
+        count_pairs(self.iter(), self.len(), &mut tally.items.values)?;
+        count_table(self.len(), &mut tally.tables, &mut tally.buckets)?;
         Ok(())
     }
 }
@@ -127,27 +107,21 @@ impl<T: Tallied + Eq + Hash> Tallied for IndexSet<T> {
     ghost shape = { λ t n. entries (codes "IndexSet") (Some 72) n (Beside (buffer_shape (codes "data") t.items.places.buffers
         (entries (codes "value") T.size t.items.places.items (T.shape t.items.values t.items.places.items))
         (bytes_times T.size t.items.places.unused))
-        (table_shape t.tables.count t.tables.buckets)) };
+        (table_shape t.tables t.buckets)) };
 
     ghost bounded = { λ t n. le_refl _ };
 
     fn none_counted() -> Self::Tally {
         IndexTally {
-            items: Buffers {
-                places: Places::none(),
-                values: T::none_counted(),
-            },
-            tables: Tables {
-                count: 0,
-                buckets: 0,
-            },
+            items: Buffers::none(T::none_counted()),
+            tables: 0,
+            buckets: 0,
         }
     }
 
     fn show(tally: &Self::Tally, count: usize, visitor: &mut Visitor<'_>) -> Result<(), Refusal> {
-        let places = tally.items.places;
-        let items = FieldMany::<T>("value", &tally.items.values, places.items);
-        let inside = IndexMany(places, T::size(), items, tally.tables);
+        let items = FieldMany::<T>("value", &tally.items.values, tally.items.places.items);
+        let inside = IndexMany(tally, T::size(), items);
         InlineSum("IndexSet", Sum::times(Some(72), count), inside).enter(visitor)
     }
 
@@ -155,7 +129,7 @@ impl<T: Tallied + Eq + Hash> Tallied for IndexSet<T> {
         let unused = self.capacity() - self.len();
         tally.items.places.add(T::size(), self.len(), unused)?;
         count_run(self.iter(), &mut tally.items.values)?;
-        count_table(self.len(), &mut tally.tables)?;
+        count_table(self.len(), &mut tally.tables, &mut tally.buckets)?;
         Ok(())
     }
 }
@@ -179,14 +153,8 @@ impl<T: Tallied, const N: usize> Tallied for SmallVec<T, N> {
 
     fn none_counted() -> Self::Tally {
         SmallVecTally {
-            in_place: OwnTally {
-                count: 0,
-                values: T::none_counted(),
-            },
-            spilled: Buffers {
-                places: Places::none(),
-                values: T::none_counted(),
-            },
+            in_place: OwnTally::none(T::none_counted()),
+            spilled: Buffers::none(T::none_counted()),
         }
     }
 
@@ -215,16 +183,6 @@ impl<T: Tallied, const N: usize> Tallied for SmallVec<T, N> {
     }
 }
 
-/// Counts what each value of a slab shows, by rising key.
-fn count_values<T: Tallied>(slab: &Slab<T>, tally: &mut T::Tally) -> Result<(), CountError>
-    ensures { IfOk result (λ _. TalliesEach T.size T.may_show (values slab.now) (T.shape tally.old) (T.shape tally.new)) }
-{
-    for (_key, value) in slab.iter() {
-        value.tally(tally)?;
-    }
-    Ok(())
-}
-
 impl<T: Tallied> Tallied for Slab<T> {
     type Tally = Buffers<T::Tally>;
 
@@ -234,10 +192,7 @@ impl<T: Tallied> Tallied for Slab<T> {
     ghost bounded = { λ t n. le_refl _ };
 
     fn none_counted() -> Self::Tally {
-        Buffers {
-            places: Places::none(),
-            values: T::none_counted(),
-        }
+        Buffers::none(T::none_counted())
     }
 
     fn show(tally: &Self::Tally, count: usize, visitor: &mut Visitor<'_>) -> Result<(), Refusal> {
@@ -251,7 +206,7 @@ impl<T: Tallied> Tallied for Slab<T> {
             return Ok(());
         }
         if are_shown_each::<T>() {
-            count_values(self, &mut tally.values)?;
+            count_run(self.iter().map(|(_key, value)| value), &mut tally.values)?;
             return Ok(());
         }
         Ok(())

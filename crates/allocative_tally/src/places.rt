@@ -2,7 +2,7 @@
 #![tactic(auto)]
 
 ghost use Rattle.std.specs.Prelude.{◌≡◌, IfOk};
-ghost use Rattle.allocative_tally.specs.Places.{no_places, AddsPlaces};
+ghost use Rattle.allocative_tally.specs.Tallies.{no_places, AddsPlaces};
 
 use crate::tally::{CountError, added};
 
@@ -60,4 +60,14 @@ impl Places {
 pub struct Buffers<S> {
     pub(crate) places: Places,
     pub(crate) values: S,
+}
+
+impl<S: Drop> Buffers<S> {
+    /// No buffer, by a tally of nothing.
+    pub fn none(values: S) -> Buffers<S>
+        ensures { result ≡ record { places = no_places; values = values } }
+    {
+        let places = Places::none();
+        Buffers { places, values }
+    }
 }

@@ -1,22 +1,65 @@
-//! Vectors, deques and arrays.
+//! Texts, boxes, vectors, deques and arrays.
 #![tactic(auto)]
 
 ghost use Rattle.std.specs.Prelude.{◌≡◌, codes, IfOk, Some, length};
 ghost use Rattle.std.proofs.Common.{le_refl};
 ghost use Rattle.allocative_graph.specs.Shows.{slice_shows};
 ghost use Rattle.allocative.specs.Bodies.{are_shown_each as is_each};
-ghost use Rattle.allocative_tally.specs.Shapes.{entries, items_shape, bytes_times};
-ghost use Rattle.allocative_tally.specs.Places.{buffer_of, CountsRoom};
+ghost use Rattle.allocative_tally.specs.Shapes.{Unique, Wide, EntryAt, Beside, NoEntry, entries, items_shape};
+ghost use Rattle.allocative_tally.specs.Shapes.{bytes_times, sum_of, sum_times, unused_shape};
+ghost use Rattle.allocative_tally.specs.Tallies.{buffer_of, CountsRoom};
 ghost use Rattle.allocative_tally.specs.Tallies.{TalliesSlice};
 
 use crate::counted::count_each;
-use crate::field::{FieldMany, OwnTally};
+use crate::field::{FieldMany, Many, OwnTally};
 use crate::places::{Buffers, Places};
 use crate::tally::{
     CountError, Entries, InlineSum, Sum, Tallied, UniqueSum, added, bytes_of, declared,
 };
 use allocative::{Described, Refusal, Visitor};
 use std::collections::VecDeque;
+
+/// Texts, counted: the bytes of their buffers, and how many of these are used and unused.
+#[derive(Drop)]
+pub struct TextTally {
+    capacity: usize,
+    used: usize,
+    unused: usize,
+}
+
+impl Tallied for String {
+    type Tally = TextTally;
+
+    ghost shape = { λ t n. entries (codes "String") (Some 24) n (EntryAt Unique (codes "ptr") (sum_times (Some 8) n)
+        (EntryAt Wide (codes "capacity") (sum_of n t.capacity)
+        (Beside (EntryAt Wide (codes "u8") (sum_of n t.used) NoEntry) (unused_shape n t.unused)))) };
+
+    ghost bounded = { λ t n. le_refl _ };
+
+    fn none_counted() -> TextTally {
+        TextTally {
+            capacity: 0,
+            used: 0,
+            unused: 0,
+        }
+    }
+
+    fn show(tally: &Self::Tally, count: usize, visitor: &mut Visitor<'_>) -> Result<(), Refusal> {
+        let used = InlineSum("u8", Sum::of(count, tally.used), ());
+        let unused = InlineSum("unused_capacity", Sum::of(count, tally.unused), ());
+        let capacity = InlineSum("capacity", Sum::of(count, tally.capacity), (used, unused));
+        let pointer = UniqueSum("ptr", Sum::times(Some(8), count), capacity);
+        InlineSum("String", Sum::times(Some(24), count), pointer).enter(visitor)
+    }
+
+    #[inline(always)]
+    fn tally(&self, tally: &mut TextTally) -> Result<(), CountError> {
+        tally.capacity = added(tally.capacity, self.capacity())?;
+        tally.used = added(tally.used, self.len())?;
+        tally.unused = added(tally.unused, self.capacity() - self.len())?;
+        Ok(())
+    }
+}
 
 /// Whether items of a type are shown one by one in a slice.
 #[inline(always)]
@@ -102,6 +145,32 @@ pub fn count_room<T: Described>(
     Ok(true)
 }
 
+impl<T: Tallied> Tallied for Box<T> {
+    type Tally = Buffers<T::Tally>;
+
+    ghost shape = { λ t n. entries (codes "Box") (Some 8) n
+        (EntryAt Unique (codes "ptr") (sum_times (Some 8) t.places.buffers) (T.shape t.values t.places.items)) };
+
+    ghost bounded = { λ t n. le_refl _ };
+
+    fn none_counted() -> Self::Tally {
+        Buffers::none(T::none_counted())
+    }
+
+    fn show(tally: &Self::Tally, count: usize, visitor: &mut Visitor<'_>) -> Result<(), Refusal> {
+        let values = Many::<T>(&tally.values, tally.places.items);
+        let pointer = UniqueSum("ptr", Sum::times(Some(8), tally.places.buffers), values);
+        InlineSum("Box", Sum::times(Some(8), count), pointer).enter(visitor)
+    }
+
+    #[inline(always)]
+    fn tally(&self, tally: &mut Self::Tally) -> Result<(), CountError> {
+        tally.places.add(T::size(), 1, 0)?;
+        (**self).tally(&mut tally.values)?;
+        Ok(())
+    }
+}
+
 impl<T: Tallied> Tallied for Vec<T> {
     type Tally = Buffers<T::Tally>;
 
@@ -111,10 +180,7 @@ impl<T: Tallied> Tallied for Vec<T> {
     ghost bounded = { λ t n. le_refl _ };
 
     fn none_counted() -> Self::Tally {
-        Buffers {
-            places: Places::none(),
-            values: T::none_counted(),
-        }
+        Buffers::none(T::none_counted())
     }
 
     fn show(tally: &Self::Tally, count: usize, visitor: &mut Visitor<'_>) -> Result<(), Refusal> {
@@ -142,10 +208,7 @@ impl<T: Tallied> Tallied for VecDeque<T> {
     ghost bounded = { λ t n. le_refl _ };
 
     fn none_counted() -> Self::Tally {
-        Buffers {
-            places: Places::none(),
-            values: T::none_counted(),
-        }
+        Buffers::none(T::none_counted())
     }
 
     fn show(tally: &Self::Tally, count: usize, visitor: &mut Visitor<'_>) -> Result<(), Refusal> {
@@ -175,10 +238,7 @@ impl<T: Tallied, const N: usize> Tallied for [T; N] {
     ghost bounded = { λ t n. le_refl _ };
 
     fn none_counted() -> Self::Tally {
-        OwnTally {
-            count: 0,
-            values: T::none_counted(),
-        }
+        OwnTally::none(T::none_counted())
     }
 
     fn show(tally: &Self::Tally, count: usize, visitor: &mut Visitor<'_>) -> Result<(), Refusal> {

@@ -2,7 +2,7 @@
 #![tactic(auto)]
 
 ghost use Rattle.std.specs.Prelude.{◌≡◌, ◌≤◌, ◌+◌, ℕ, true, IfOk};
-ghost use Rattle.allocative_tally.specs.Shapes.{Shape, NoEntry, Beside, EntryAt, Wide, Narrow, Unique as unique_width};
+ghost use Rattle.allocative_tally.specs.Shapes.{Shape, NoEntry, Beside, EntryAt, Wide, Unique as unique_width};
 ghost use Rattle.allocative_tally.specs.Shapes.{IsNothing, shape_shows, bytes_times, sum_of, sum_times, top_bytes};
 ghost use Rattle.allocative_tally.specs.Tallies.{TalliesNext, EntersShape, IsDeclared, FitsWord};
 
@@ -182,21 +182,5 @@ impl<K: IntoKey, P: Entries> Entries for UniqueSum<K, P> {
             return Ok(());
         }
         Unique(self.0, self.1.bytes, EntriesPart(self.2)).enter(visitor)
-    }
-}
-
-/// The inline entry of a sum that has at most the bytes directly inside it, with entries inside it; no entry if none
-/// was counted.
-#[derive(Drop)]
-pub struct NarrowSum<K, P>(pub K, pub Sum, pub P);
-
-impl<K: IntoKey, P: Entries> Entries for NarrowSum<K, P> {
-    ghost shape = { λ e. EntryAt Narrow (K.key e.0) e.1 (P.shape e.2) };
-
-    fn enter(self, visitor: &mut Visitor<'_>) -> Result<(), Refusal> {
-        if !self.1.is_there {
-            return Ok(());
-        }
-        Inside(self.0, self.1.bytes, EntriesPart(self.2)).enter(visitor)
     }
 }

@@ -2,7 +2,7 @@
 use Rattle.std.proofs.Common.{map}
 use Rattle.std.proofs.lemmas.List.{map-append}
 use Rattle.std.specs.Map.Iter.{deref}
-use Rattle.allocative_tally.proofs.Many.{each_none, each_more}
+use Rattle.allocative_tally.proofs.Items.{each_none, each_more}
 use Rattle.allocative_tally.proofs.counted.count_run.Goals as goal
 
 pub loop-item-init : goal.loop-item-init

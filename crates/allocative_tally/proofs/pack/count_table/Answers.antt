@@ -7,5 +7,5 @@ pub returns-then-count-eq0 : goal.returns-then-count-eq0
 returns-then-count-eq0 c = no_table_counted c.if-count-eq0.true
 
 pub returns : goal.returns
-returns c = table_counted _ _ _ _ (omega arith) c.raw_table_alloc_size_for_len.ensures c.in-Some.is c.in_ok-count.ensures
+returns c = table_counted _ _ _ _ (omega arith) c.raw_table_alloc_size_for_len.ensures c.in-Some.is c.in_ok-tables.ensures
     c.in_ok-buckets.ensures (omega arith)

@@ -1,6 +1,6 @@
 -- of what enters counted items: the tally's shape merges the forests of the items
 use Rattle.std.proofs.Common.{rules}
-use Rattle.allocative_tally.proofs.Many.{entered_all}
+use Rattle.allocative_tally.proofs.Items.{entered_all}
 use Rattle.allocative_tally.proofs.counted.CountedEachRefSlicePart.enter.Goals as goal
 
 pub returns-in-Ok : goal.returns-in-Ok

@@ -1,8 +1,13 @@
 -- of the tally of `Slab`: its buffer, if there is one
-use Rattle.std.proofs.Common.{◌≡◌, length, sym, ◌∙◌, arith, rules}
+use Rattle.std.proofs.Common.{◌≡◌, ◌∙◌, ℕ, length, sym, arith, rules}
+use denote.Ref.{Bor}
+use Rattle.std.specs.Map.Iter.{deref}
+use Rattle.std.proofs.lemmas.Iterator.{YieldsList-from_map_by}
+use Rattle.std.proofs.lemmas.Iterator.Consumers.{YieldsList-from_first}
 use Rattle.slab.specs.Slab.{values}
-use Rattle.allocative.proofs.Runs.{values_count}
+use Rattle.allocative.proofs.Runs.{values_count, values_from}
 use Rattle.allocative_tally.proofs.Buffers.{next_inside, buffer_counted, buffer_missing, slice_each, slice_one}
+use Rattle.allocative_tally.proofs.Items.{of_run}
 use Rattle.allocative_tally.proofs.pack.SlabTallied.tally.Goals as goal
 
 pub returns-then-not-is_there : goal.returns-then-not-is_there
@@ -11,10 +16,15 @@ returns-then-not-is_there g c = next_inside 40 (omega arith) (omega arith)
 
 pub returns-then-are_shown_each : goal.returns-then-are_shown_each
 returns-then-are_shown_each g c =
-    let count : c.len.result ≡ length (values c.args.self.now) = c.len.ensures ∙ sym (values_count c.args.self.now.slots) in
+    let slab = c.args.self.now in
+    let count : c.len.result ≡ length (values slab) = c.len.ensures ∙ sym (values_count slab.slots) in
+    let entries = YieldsList-from_first {A = ℕ × Bor g.row.T.Denot} (λ e. (e.0, e.1.now)) (λ rest. rest)
+    _ (c.map.ensures.source ∙ c.iter.ensures.rest) in
     next_inside {m = 8} 40 (omega arith) (omega arith) (rw (← c.len.ensures, count) (buffer_counted _ _ c.in_ok-is_there.ensures
     (search rules) count (search rules) (g.met.T.Tallied.bounded c.args.tally.now.values)
-    (slice_each _ _ _ _ (values c.args.self.now) (search rules) c.in_ok-count_values.ensures)))
+    (slice_each _ _ _ _ (values slab) (search rules) (of_run (rw (← values_from 0 slab.slots)
+    (YieldsList-from_map_by _ deref (λ (e : ℕ × g.row.T.Denot). e.1) entries c.map.ensures.closure
+    (λ x r q k. search rules))) c.in_ok-count_run.ensures))))
 
 pub returns : goal.returns
 returns g c =

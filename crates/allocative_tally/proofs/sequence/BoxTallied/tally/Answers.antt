@@ -2,7 +2,7 @@
 use Rattle.std.proofs.Common.{arith}
 use Rattle.allocative_tally.proofs.Buffers.{next_container}
 use Rattle.allocative_tally.proofs.Items.{box_counted}
-use Rattle.allocative_tally.proofs.pointer.BoxTallied.tally.Goals as goal
+use Rattle.allocative_tally.proofs.sequence.BoxTallied.tally.Goals as goal
 
 pub returns : goal.returns
 returns g c = next_container 8 (omega arith) (omega arith)

@@ -1,5 +1,5 @@
 -- of what enters texts: the entries of the sums
-use Rattle.allocative_tally.proofs.text.StringTallied.show.Goals as goal
+use Rattle.allocative_tally.proofs.sequence.StringTallied.show.Goals as goal
 
 pub returns : goal.returns
 returns c =

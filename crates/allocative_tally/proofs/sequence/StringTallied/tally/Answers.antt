@@ -1,7 +1,7 @@
 -- of a text's tally: the text's entries
 use Rattle.std.proofs.Common.{arith}
 use Rattle.allocative_tally.proofs.Buffers.{text_counted}
-use Rattle.allocative_tally.proofs.text.StringTallied.tally.Goals as goal
+use Rattle.allocative_tally.proofs.sequence.StringTallied.tally.Goals as goal
 
 pub returns : goal.returns
 returns c = text_counted (omega arith) (omega arith) (omega arith) (omega arith) (omega arith)

@@ -1,9 +1,0 @@
--- of what enters counted items: the tally's shape merges the forests of the items
-use Rattle.std.proofs.Common.{rules}
-use Rattle.allocative_tally.proofs.Many.{entered_all}
-use Rattle.allocative_tally.proofs.counted.CountedEachRefVecPart.enter.Goals as goal
-
-pub returns-in-Ok : goal.returns-in-Ok
-returns-in-Ok g c =
-    let counted = (rw c.deref.ensures.value at c.in-Ok.ensures) in
-    entered_all c.none_counted-tally.ensures counted.each counted.fits (search rules) c.show.ensures

@@ -1,0 +1,7 @@
+-- of what enters entries `data`: both are inline
+use Rattle.std.proofs.Common.{refl}
+use Rattle.allocative_tally.proofs.Entering.{enters_same}
+use Rattle.allocative_tally.proofs.map.DataManyEntries.enter.Goals as goal
+
+pub returns : goal.returns
+returns g c = enters_same refl (rw (c.times.ensures, c.times-2.ensures) at c.enter.ensures)
