@@ -11,6 +11,6 @@ pub use Rattle.allocative_graph.specs.Rows.{total_of}
 pub use Rattle.allocative_graph.specs.declared.flamegraph.Child.{Child}
 pub use Rattle.allocative_picture.specs.Boxes.{is_drawn}
 pub use Rattle.allocative_picture.specs.Escape.{escaped_char}
-pub use Rattle.allocative_picture.specs.Page.{warning_lines}
+pub use Rattle.allocative_picture.specs.Picture.{warning_lines}
 pub use Rattle.allocative_picture.specs.Frames.{FrameData, before_in, frame_from, frame_of, frames_from, frame_data}
 pub use Rattle.allocative_picture.specs.declared.frame.Mark.{Mark}

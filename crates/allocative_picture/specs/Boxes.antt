@@ -1,4 +1,4 @@
--- The box of a frame: its place and its element.
+-- Figures as texts, and the box of a frame: its place and its element.
 use Rattle.std.specs.Prelude.{ℕ, ◌+◌, ◌-◌, ◌*◌, ◌/◌, ◌%◌, ◌==◌, ◌&&◌, Bool, not, cond, nat_lt, max, length, List, []}
 use Rattle.std.specs.Prelude.{◌∷◌, ◌++◌, codes, decimal}
 use Rattle.std.specs.List.{concat}
@@ -6,10 +6,60 @@ use Rattle.std.specs.Str.{bytes_eq}
 use Rattle.allocative_graph.specs.Path.{Key}
 use Rattle.allocative_graph.specs.Path.{fnv}
 use Rattle.allocative_picture.specs.Escape.{escaped}
-use Rattle.allocative_picture.specs.Figures.{is_bytes, amount_text, full_text, percent_text, place_text}
 use Rattle.allocative_picture.specs.Frames.{FrameData}
 use Rattle.allocative_picture.specs.declared.frame.Mark.{Mark}
 use Rattle.allocative_picture.specs.declared.frame.Mark.TheVariants.{Plain, Warned, Changed}
+
+-- ---- figures as texts
+-- The greatest binary unit, in bytes, that n bytes reach.
+abbrev pub unit_bytes : ℕ → ℕ
+unit_bytes n =
+    cond (nat_lt n 0x400) 1
+    (cond (nat_lt n 0x100000) 0x400
+    (cond (nat_lt n 0x40000000) 0x100000
+    (cond (nat_lt n 0x10000000000) 0x40000000
+    (cond (nat_lt n 0x4000000000000) 0x10000000000
+    (cond (nat_lt n 0x1000000000000000) 0x4000000000000 0x1000000000000000)))))
+
+-- The name of the greatest binary unit that n bytes reach.
+abbrev pub unit_name : ℕ → List ℕ
+unit_name n =
+    cond (nat_lt n 0x400) (codes "B")
+    (cond (nat_lt n 0x100000) (codes "KiB")
+    (cond (nat_lt n 0x40000000) (codes "MiB")
+    (cond (nat_lt n 0x10000000000) (codes "GiB")
+    (cond (nat_lt n 0x4000000000000) (codes "TiB")
+    (cond (nat_lt n 0x1000000000000000) (codes "PiB") (codes "EiB"))))))
+
+-- Bytes in their greatest binary unit, for example `1.5 KiB`: a whole number below 1 KiB, and otherwise with one
+-- decimal, rounded down.
+unfoldable pub size_text : ℕ → List ℕ
+size_text n =
+    cond (nat_lt n 0x400) (decimal n)
+    (decimal (n / unit_bytes n) ++ codes "." ++ decimal (n % unit_bytes n * 10 / unit_bytes n))
+    ++ codes " " ++ unit_name n
+
+-- Whether a unit is that of bytes.
+abbrev pub is_bytes : List ℕ → Bool
+is_bytes unit = bytes_eq unit (codes "bytes")
+
+-- An amount in a unit: bytes in their greatest binary unit, and any other as a plain number with the unit, as
+-- `1536 samples`.
+unfoldable pub amount_text : List ℕ → ℕ → List ℕ
+amount_text unit n = cond (is_bytes unit) (size_text n) (decimal n ++ codes " " ++ unit)
+
+-- An amount in full: bytes also in their greatest binary unit, for example `1.5 KiB (1536 bytes)`.
+unfoldable pub full_text : List ℕ → ℕ → List ℕ
+full_text unit n =
+    cond (is_bytes unit) (size_text n ++ codes " (" ++ decimal n ++ codes " bytes)") (decimal n ++ codes " " ++ unit)
+
+-- Millionths of all as a number of percent with two decimals, rounded down, for example `12.34`.
+unfoldable pub percent_text : ℕ → List ℕ
+percent_text u = decimal (u / 10000) ++ codes "." ++ decimal (u / 1000 % 10) ++ decimal (u / 100 % 10)
+
+-- Millionths of the width in percent with four decimals, for example `12.3456%`.
+unfoldable pub place_text : ℕ → List ℕ
+place_text u = percent_text u ++ decimal (u / 10 % 10) ++ decimal (u % 10) ++ codes "%"
 
 -- ---- where a box is placed
 -- The place of a number of bytes on a line of a million units that stands for all bytes, rounded down. It is 0 if all
@@ -87,7 +137,7 @@ paint_text Plain r = []
 paint_text Warned r = []
 paint_text (Changed before) r = change_paint before (r.whole - before)
 
--- ---- figures
+-- ---- figures of a box
 -- The difference between two amounts in a unit, with a sign.
 unfoldable pub change_text : List ℕ → ℕ → ℕ → List ℕ
 change_text unit before after =
@@ -108,19 +158,18 @@ declared_text unit u r =
     concat (full_text unit r.whole ∷ codes ", " ∷ percent_text u
     ∷ cond (r.own == r.whole) (codes "% of all") (codes "% of all\n" ++ full_text unit r.own ++ codes " of its own") ∷ [])
 
--- The bytes of a path in the earlier profile and in the later one, and their difference. Those of another unit are not
--- said twice.
+-- The bytes of a path in the earlier profile and in the later one. Those of another unit are not said twice.
 unfoldable pub both_text : List ℕ → ℕ → ℕ → List ℕ
 both_text unit before after =
     (amount_text unit before ++ codes " before, " ++ amount_text unit after ++ codes " after")
-    ++ (cond (is_bytes unit) (codes " (" ++ decimal before ++ codes " and " ++ decimal after ++ codes " bytes)") []
-    ++ codes "\n" ++ change_text unit before after)
+    ++ cond (is_bytes unit) (codes " (" ++ decimal before ++ codes " and " ++ decimal after ++ codes " bytes)") []
 
 -- The title of a frame's box after the key, by its mark, from the share of its bytes in millionths.
 unfoldable pub title_text : List ℕ → ℕ → Mark → FrameData → List ℕ
 title_text unit u Plain r = declared_text unit u r
 title_text unit u Warned r = declared_text unit u r ++ codes "\ndeclared smaller than its parts: see the warnings"
-title_text unit u (Changed before) r = both_text unit before (r.whole - before)
+title_text unit u (Changed before) r =
+    both_text unit before (r.whole - before) ++ codes "\n" ++ change_text unit before (r.whole - before)
 
 -- ---- the element
 -- The beginning of a frame's box, a viewport that clips its texts.

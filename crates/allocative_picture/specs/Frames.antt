@@ -1,14 +1,16 @@
 -- What a frame shows, and the frames of a flame graph.
-use Rattle.std.specs.Prelude.{ℕ, ◌+◌, Bool, cond, length, List, [], ◌∷◌, map, sum_by, codes}
+use Rattle.std.specs.Prelude.{ℕ, ◌+◌, Bool, cond, length, List, [], ◌∷◌, map, sum_by, codes, ◌==◌, Option, None, Some}
 use Rattle.std.specs.List.{list_any}
 use Rattle.std.specs.Ordering.{is_lt}
 use Rattle.std.specs.FinMap.{entries}
 use Rattle.allocative_graph.specs.Path.{Key, Path, path_cmp, is_same_path}
-use Rattle.allocative_graph.specs.Graph.{Graph, Warned, total_at}
+use Rattle.allocative_graph.specs.Graph.{Graph, Warned, total_at, size_at}
 use Rattle.allocative_graph.specs.Rows.{Figures}
 use Rattle.allocative_picture.specs.declared.frame.Frame.{Frame}
 use Rattle.allocative_picture.specs.declared.frame.Mark.{Mark}
 use Rattle.allocative_picture.specs.declared.frame.Mark.TheVariants.{Plain, Changed}
+use Rattle.allocative_picture.specs.declared.frames.Marks.{Marks}
+use Rattle.allocative_picture.specs.declared.frames.Marks.TheVariants as marks
 use Rattle.allocative_picture.specs.declared.frame.Mark.TheVariants as mark
 
 -- A frame whose key is a text, not a borrow.
@@ -76,3 +78,17 @@ warned_mark ws p = cond (is_warned ws p) mark.Warned Plain
 -- The mark of a path in the sum of two profiles, of which g is the earlier one.
 abbrev pub changed_mark : Graph → Path → Mark
 changed_mark g p = Changed (total_at g p)
+
+-- The mark of a path with so many bytes of its own in the other graph, and so many with all below it.
+abbrev pub mark_with : Marks → ℕ → ℕ → Mark
+mark_with marks.Warned own whole = cond (own == 0) Plain mark.Warned
+mark_with marks.Earlier own whole = Changed whole
+
+-- The mark of a path, by its bytes in the graph g.
+abbrev pub mark_by : Marks → Graph → Path → Mark
+mark_by m g p = mark_with m (size_at g p) (total_at g p)
+
+-- The mark of a path, by its bytes in a graph if there is one, and else by none.
+abbrev pub mark_in : Marks → Option Graph → Path → Mark
+mark_in m None p = mark_with m 0 0
+mark_in m (Some g) p = mark_by m g p

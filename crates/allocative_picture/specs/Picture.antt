@@ -1,15 +1,71 @@
 -- Pictures as the text of an SVG document.
-use Rattle.std.specs.Prelude.{ℕ, ◌+◌, ◌*◌, List, ◌++◌, length, map, filter, flat_map}
-use Rattle.allocative_graph.specs.Graph.{Graph, total, sum_of}
+use Rattle.std.specs.Prelude.{ℕ, ◌+◌, ◌*◌, List, ◌++◌, length, map, filter, flat_map, ◌-◌, ◌==◌, max, cond, [], ◌∷◌}
+use Rattle.std.specs.Prelude.{fold, codes, decimal}
+use Rattle.allocative_graph.specs.Graph.{Graph, total, sum_of, Warned, warning_text}
 use Rattle.allocative_collectors.specs.Warned.{warning_of}
 use Rattle.allocative_picture.specs.Escape.{escaped}
 use Rattle.allocative_picture.specs.Frames.{FrameData, frames_of, warned_mark, changed_mark}
-use Rattle.allocative_picture.specs.Boxes.{is_drawn, element}
-use Rattle.allocative_picture.specs.Page.{all_of, legend_of, levels, opening, heading, warning_lines}
-use Rattle.allocative_picture.specs.declared.fixed.TheConstants.{CLOSING}
+use Rattle.allocative_picture.specs.Boxes.{is_drawn, element, both_text, change_text, full_text, is_bytes}
+use Rattle.allocative_picture.specs.declared.fixed.TheConstants.{CLOSING, STYLE, TOOLS, LEGEND}
 use Rattle.allocative_picture.specs.declared.options.Options.{Options}
 use Rattle.allocative_picture.specs.declared.page.Subject.{Subject}
 use Rattle.allocative_picture.specs.declared.page.Subject.TheVariants.{Profile, Change}
+use Rattle.std.specs.List.{concat}
+
+-- The bytes that the whole width stands for.
+abbrev pub all_of : Subject → ℕ
+all_of (Profile bytes) = bytes
+all_of (Change before after) = before + after
+
+-- The legend of the colours of a change, and no text for a profile.
+abbrev pub legend_of : Subject → List ℕ
+legend_of (Profile bytes) = []
+legend_of (Change before after) = LEGEND.now
+
+-- The height of the legend in pixels.
+abbrev pub legend_height_of : Subject → ℕ
+legend_height_of (Profile bytes) = 0
+legend_height_of (Change before after) = 16
+
+-- The totals of the subject of a picture, in a unit.
+unfoldable pub subject_text : List ℕ → Subject → List ℕ
+subject_text unit (Profile bytes) = full_text unit bytes ++ cond (is_bytes unit) (codes " declared") (codes " in all")
+subject_text unit (Change before after) = both_text unit before after ++ codes ", " ++ change_text unit before after
+
+-- The number of levels of boxes that some frames need.
+unfoldable pub levels : List FrameData → ℕ
+levels rs = fold (λ n r. max n (r.depth + 1)) 0 rs
+
+-- The beginning of a picture of some height, with the style and the title of the document.
+unfoldable pub opening : ℕ → List ℕ → List ℕ
+opening height title =
+    concat (codes "<svg xmlns=\"http://www.w3.org/2000/svg\" width=\"100%\" height=\"" ∷ decimal height
+    ∷ codes "\" font-size=\"12\">\n" ∷ STYLE.now ∷ codes "<title>" ∷ title ∷ codes "</title>\n" ∷ [])
+
+-- The number of paths without a box, with the arguments of `bin/allocative-picture` that help if there are any.
+unfoldable pub narrow_text : ℕ → List ℕ
+narrow_text n =
+    cond (n == 0) (codes "0 too narrow even for zoom")
+    (decimal n ++ codes " too narrow even for zoom: see --depth, --fold and --narrowest")
+
+-- The title above a picture, the totals, the number of paths with a box, the number of the others, which are too
+-- narrow for one, and the labels that the script makes clickable.
+unfoldable pub heading : List ℕ → List ℕ → Subject → ℕ → ℕ → List ℕ
+heading title unit s drawn paths =
+    concat (codes "<text class=\"title\" x=\"8\" y=\"22\">" ∷ title
+    ∷ codes "</text>\n<text class=\"sum say\" x=\"8\" y=\"42\">" ∷ subject_text unit s ∷ codes "; " ∷ decimal drawn
+    ∷ codes " paths drawn, " ∷ narrow_text (paths - drawn) ∷ codes "</text>\n" ∷ TOOLS.now ∷ [])
+
+-- The line of a path's warning at a height.
+unfoldable pub warning_line : ℕ → Warned → List ℕ
+warning_line y w =
+    concat (codes "<text class=\"warn\" x=\"8\" y=\"" ∷ decimal y ∷ codes "\">" ∷ escaped (warning_text w) ∷ codes
+    "</text>\n" ∷ [])
+
+-- The lines of the warnings of some paths, one below the other, with the first at a height.
+abbrev pub warning_lines : ℕ → List Warned → List ℕ
+warning_lines y [] = []
+warning_lines y (w ∷ ws) = warning_line y w ++ warning_lines (y + 16) ws
 
 -- A height in pixels: ten pixels below the lowest box.
 abbrev pub bottom : List FrameData → ℕ
@@ -20,7 +76,8 @@ bottom ws = 64 + 18 * levels ws
 -- the legend, the boxes, the warnings and the end.
 unfoldable pub drawing_of : Subject → Options → List FrameData → ℕ → List ℕ
 drawing_of s o ws n =
-    opening (bottom ws + 8 + 16 * length o.warned.now) ++ heading o.title.now (escaped o.unit.now) s (length ws) n ++ legend_of s
+    opening (bottom ws + 8 + 16 * length o.warned.now + legend_height_of s) (escaped o.title.now)
+    ++ heading (escaped o.title.now) (escaped o.unit.now) s (length ws) n ++ legend_of s
     ++ flat_map (element (escaped o.unit.now) (all_of s)) ws ++ warning_lines (bottom ws + 14) (map warning_of o.warned.now)
     ++ CLOSING.now
 

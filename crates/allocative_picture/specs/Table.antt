@@ -4,8 +4,7 @@ use Rattle.std.specs.Prelude.{take, AllPairs, IsPermutation}
 use Rattle.allocative_graph.specs.declared.flamegraph.Row.{Row}
 use Rattle.allocative_graph.specs.Graph.{Graph, joined, total}
 use Rattle.allocative_graph.specs.Rows.{Figures, figures}
-use Rattle.allocative_picture.specs.Boxes.{edge}
-use Rattle.allocative_picture.specs.Figures.{percent_text}
+use Rattle.allocative_picture.specs.Boxes.{edge, percent_text}
 
 -- The first path has no fewer bytes of its own than the second.
 abbrev pub HasNoLess : Figures → Figures → Type 0

@@ -1,16 +1,169 @@
-//! The boxes of frames.
-ghost use Rattle.std.specs.Prelude.{◌≡◌, ◌+◌, ◌*◌, ◌^◌, ◌<◌, Some, OnOk};
+//! The boxes of frames: their places, classes, colours and figures.
+ghost use Rattle.std.specs.Prelude.{◌≡◌, ◌+◌, ◌*◌, ◌^◌, ◌<◌, Some, OnOk, ◌-◌, ◌≤◌};
 ghost use Rattle.allocative_graph.specs.Format.{AppendsText};
 ghost use Rattle.allocative_picture.specs.Frames.{frame_data};
-ghost use Rattle.allocative_picture.specs.Boxes.{edge, left_edge, width, is_drawn, figure_text, declared_text, title_text, viewport, element};
+ghost use Rattle.allocative_picture.specs.Boxes.{edge, left_edge, width, is_drawn, figure_text, declared_text, title_text, viewport, element, shade, paint_text, change_text, both_text, class_text, change_class, fit_text};
 
-use crate::change::{Comparison, Difference, Paint};
-use crate::class::{Class, fit};
 use crate::escape::escaped;
 use crate::figures::{Amount, Full, Percent, Place};
 use crate::frame::{Frame, Mark};
+use allocative_graph::key::Key;
 use std::alloc::{AllocError, Global};
 use std::fmt;
+
+/// The bytes of a path in an earlier profile and in a later one, and their unit. They are printed as their difference
+/// with a sign, for example `+1.5 KiB`, or as `unchanged`.
+#[derive(Clone, Copy)]
+pub(crate) struct Difference<'a> {
+    pub before: usize,
+    pub after: usize,
+    pub unit: &'a str,
+}
+
+/// A change, printed as the amounts before and after.
+#[derive(Clone, Copy)]
+pub(crate) struct Comparison<'a>(pub Difference<'a>);
+
+/// A frame, printed as the paint of its box: red if bytes grew, blue if they shrank, and none if they are equal
+/// or the class gives the colour.
+#[derive(Clone, Copy)]
+pub(crate) struct Paint<'a>(pub Frame<'a>);
+
+/// One component of a colour. It is 236 if nothing changed, and reaches `full` when `change` is `all`.
+fn shade(full: u128, change: usize, all: u128) -> u128
+    requires full { full ≤ 236 }
+    requires some { 0 < all }
+    ensures { result ≡ shade full change all }
+{
+    236_u128.saturating_sub((236 - full) * change as u128 / all)
+}
+
+#[tactic(auto, unfolding(crate::specs::Boxes::change_text))]
+impl fmt::Display for Difference<'_> {
+    ghost output = { λ c. Some (change_text c.unit.now c.before c.after) };
+
+    fn fmt<W: fmt::Write>(&self, f: &mut fmt::Formatter<W>) -> fmt::Result {
+        let Difference {
+            before,
+            after,
+            unit,
+        } = *self;
+        if before == after {
+            write!(f, "unchanged")
+        } else if before < after {
+            write!(f, "+{}", Amount(after - before, unit))
+        } else {
+            write!(f, "-{}", Amount(before - after, unit))
+        }
+    }
+}
+
+#[tactic(auto, unfolding(crate::specs::Boxes::both_text))]
+impl fmt::Display for Comparison<'_> {
+    ghost output = { λ c. Some (both_text c.0.unit.now c.0.before c.0.after) };
+
+    fn fmt<W: fmt::Write>(&self, f: &mut fmt::Formatter<W>) -> fmt::Result {
+        let Difference {
+            before,
+            after,
+            unit,
+        } = self.0;
+        let (earlier, later) = (Amount(before, unit), Amount(after, unit));
+        write!(f, "{earlier} before, {later} after")?;
+        if unit == "bytes" {
+            write!(f, " ({before} and {after} bytes)")?;
+        }
+        Ok(())
+    }
+}
+
+#[tactic(auto, unfolding(crate::specs::Boxes::paint_text, crate::specs::Boxes::change_paint))]
+impl fmt::Display for Paint<'_> {
+    ghost output = { λ p. Some (paint_text (p.0).mark (frame_data p.0)) };
+
+    fn fmt<W: fmt::Write>(&self, f: &mut fmt::Formatter<W>) -> fmt::Result {
+        let Mark::Changed { was } = self.0.mark else {
+            return Ok(());
+        };
+        let (before, after) = (was, self.0.whole.saturating_sub(was));
+        if before == after {
+            return Ok(());
+        }
+        let all = before as u128 + after as u128;
+        let ((red, green, blue), change) = if before < after {
+            ((214, 40, 40), after - before)
+        } else {
+            ((29, 95, 191), before - after)
+        };
+        let (red, green, blue) = (
+            shade(red, change, all),
+            shade(green, change, all),
+            shade(blue, change, all),
+        );
+        write!(f, " style=\"fill:rgb({red},{green},{blue})\"")
+    }
+}
+
+/// A frame, printed as the class of its box.
+#[derive(Clone, Copy)]
+pub(crate) struct Class<'a>(pub Frame<'a>);
+
+#[tactic(auto, unfolding(crate::specs::Boxes::class_text, crate::specs::Boxes::key_class))]
+impl fmt::Display for Class<'_> {
+    ghost output = { λ c. Some (class_text (c.0).mark (frame_data c.0)) };
+
+    fn fmt<W: fmt::Write>(&self, f: &mut fmt::Formatter<W>) -> fmt::Result {
+        let Frame {
+            depth,
+            key,
+            whole,
+            mark,
+            ..
+        } = self.0;
+        match mark {
+            Mark::Plain if depth == 0 => write!(f, "root"),
+            Mark::Plain if key == "unused_capacity" => write!(f, "spare"),
+            Mark::Plain => write!(f, "k{}", Key::hash_of(key) % 12),
+            Mark::Warned => write!(f, "warned"),
+            Mark::Changed { was } => write!(f, "{}", change_class(was, whole.saturating_sub(was))),
+        }
+    }
+}
+
+/// The class of a path by its bytes before and after.
+#[tactic(auto, unfolding(crate::specs::Boxes::change_class))]
+fn change_class(before: usize, after: usize) -> &'static str
+    ensures { result.now ≡ change_class before after }
+{
+    let difference = if before < after {
+        after - before
+    } else {
+        before - after
+    };
+    if before == after {
+        "same"
+    } else if before as u128 + (after as u128) < 2 * difference as u128 {
+        "full"
+    } else {
+        "moved"
+    }
+}
+
+/// The classes that hide the texts which do not fit into a box that is so many millionths wide, in a window of 1000
+/// pixels, with a key of so many bytes: the key and the figure, or the figure alone.
+#[tactic(auto, unfolding(crate::specs::Boxes::fit_text))]
+pub(crate) fn fit(units: u128, bytes: usize) -> &'static str
+    ensures { result.now ≡ fit_text units bytes }
+{
+    let key = 24_u128.max(8 * bytes as u128 + 8);
+    if units < 1000 * key {
+        " thin brief"
+    } else if units < 1000 * (8 * bytes as u128 + 120) {
+        " brief"
+    } else {
+        ""
+    }
+}
 
 /// The place of a number of bytes on a line of a million units that stands for all bytes, rounded down.
 pub(crate) fn edge(all: u128, bytes: u128) -> u128
@@ -96,7 +249,7 @@ impl fmt::Display for Title<'_> {
                     after,
                     unit: declared.unit,
                 };
-                write!(f, "{}", Comparison(change))
+                write!(f, "{}\n{change}", Comparison(change))
             }
         }
     }

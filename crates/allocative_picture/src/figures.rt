@@ -1,6 +1,6 @@
 //! Figures as texts.
 ghost use Rattle.std.specs.Prelude.{◌≡◌, ◌*◌, ◌<◌, Some};
-ghost use Rattle.allocative_picture.specs.Figures.{unit_bytes, unit_name, size_text, amount_text, full_text, percent_text, place_text};
+ghost use Rattle.allocative_picture.specs.Boxes.{unit_bytes, unit_name, size_text, amount_text, full_text, percent_text, place_text};
 
 use std::fmt;
 
@@ -41,7 +41,7 @@ fn unit(bytes: usize) -> (usize, &'static str)
     }
 }
 
-#[tactic(auto, unfolding(crate::specs::Figures::size_text))]
+#[tactic(auto, unfolding(crate::specs::Boxes::size_text))]
 impl fmt::Display for Size {
     ghost output = { λ s. Some (size_text s.0) };
 
@@ -57,7 +57,7 @@ impl fmt::Display for Size {
     }
 }
 
-#[tactic(auto, unfolding(crate::specs::Figures::amount_text))]
+#[tactic(auto, unfolding(crate::specs::Boxes::amount_text))]
 impl fmt::Display for Amount<'_> {
     ghost output = { λ a. Some (amount_text a.1.now a.0) };
 
@@ -70,7 +70,7 @@ impl fmt::Display for Amount<'_> {
     }
 }
 
-#[tactic(auto, unfolding(crate::specs::Figures::full_text))]
+#[tactic(auto, unfolding(crate::specs::Boxes::full_text))]
 impl fmt::Display for Full<'_> {
     ghost output = { λ a. Some (full_text a.1.now a.0) };
 
@@ -83,7 +83,7 @@ impl fmt::Display for Full<'_> {
     }
 }
 
-#[tactic(auto, unfolding(crate::specs::Figures::percent_text))]
+#[tactic(auto, unfolding(crate::specs::Boxes::percent_text))]
 impl fmt::Display for Percent {
     ghost output = { λ p. Some (percent_text p.0) };
 
@@ -94,7 +94,7 @@ impl fmt::Display for Percent {
     }
 }
 
-#[tactic(auto, unfolding(crate::specs::Figures::place_text))]
+#[tactic(auto, unfolding(crate::specs::Boxes::place_text))]
 impl fmt::Display for Place {
     ghost output = { λ p. Some (place_text p.0) };
 

@@ -23,7 +23,6 @@ svg{font:12px ui-sans-serif,system-ui,"Segoe UI","DejaVu Sans",Helvetica,Arial,s
 .spare rect{fill:url(#spare)}
 .same rect{fill:#eceff3}
 .b.full>text,.b.full .n{fill:#fff;fill-opacity:1}
-@media(max-width:760px){.legend{display:none}}
 .warn{fill:#b3261e}
 @media(max-width:480px){.sum,.warn{font-size:8px}}
 .b.warned>rect{fill:#ffd9d4;stroke:#b3261e;stroke-width:2}
@@ -34,26 +33,27 @@ svg{font:12px ui-sans-serif,system-ui,"Segoe UI","DejaVu Sans",Helvetica,Arial,s
 <rect class="paper" width="100%" height="100%"/>
 "#;
 
-/// The labels `Find` and `Whole`, which the script makes clickable.
+/// The labels `Find` and `Whole`, which the script shows and makes clickable.
 pub(crate) const TOOLS: &str =
-    r#"<svg width="100%" overflow="visible"><text class="tool find" x="100%" dx="-8" y="22" text-anchor="end">Find</text><text class="tool back" x="100%" dx="-48" y="22" text-anchor="end" style="display:none">Whole</text></svg>
+    r#"<svg width="100%" overflow="visible"><text class="tool find" x="100%" dx="-8" y="22" text-anchor="end" style="display:none">Find</text><text class="tool back" x="100%" dx="-48" y="22" text-anchor="end" style="display:none">Whole</text></svg>
 "#;
 
-/// The legend of the colours of a change.
+/// The legend of the colours of a change, in a line of its own at the bottom.
 pub(crate) const LEGEND: &str =
-    r#"<svg width="100%" overflow="visible"><text class="sum legend" x="100%" dx="-8" y="42" text-anchor="end"><tspan style="fill:#1d5fbf">shrank</tspan><tspan dx="8">same</tspan><tspan dx="8" style="fill:#d62828">grew</tspan></text></svg>
+    r#"<svg width="100%" overflow="visible"><text class="sum" x="8" y="100%" dy="-10"><tspan style="fill:#1d5fbf">shrank</tspan><tspan dx="8">same</tspan><tspan dx="8" style="fill:#d62828">grew</tspan></text></svg>
 "#;
 
 /// The script and the end of the document. A viewer that runs no script shows the same boxes.
 pub(crate) const CLOSING: &str = r#"<script><![CDATA[
 (function(){
-var svg=document.currentScript.ownerSVGElement,all=[].slice.call(svg.querySelectorAll('.b')),lines=[].slice.call(svg.querySelectorAll('.say,.warn')),say=svg.querySelector('.say'),back=svg.querySelector('.back'),find=svg.querySelector('.find'),first=say.textContent,was=first;
+var svg=document.currentScript.ownerSVGElement,all=[].slice.call(svg.querySelectorAll('.b')),lines=[].slice.call(svg.querySelectorAll('.title,.say,.warn')),title=lines[0],say=svg.querySelector('.say'),back=svg.querySelector('.back'),find=svg.querySelector('.find'),first=say.textContent,was=first;
 function units(b,a){return Math.round(parseFloat(b.getAttribute(a))*1e4)}
 function key(b){return b.querySelector('title').textContent.split('\n')[0]}
 function above(b,z){return b.l<=z.l&&b.r>=z.r&&b.d<z.d}
 function path(z){return all.filter(function(b,i){return i>0&&(b===z||above(b,z))}).map(key).join(';')||'all'}
-function tell(b){return path(b)+'  \u00b7  '+b.querySelector('title').textContent.split('\n').slice(1).join('  \u00b7  ')}
-function squeeze(t){t.style.fontSize='';var room=svg.getBoundingClientRect().width-16,long=t.getComputedTextLength();
+function short(s){var c=Array.from(s);return c.length>160?c.slice(0,60).join('')+'..'+c.slice(-98).join(''):s}
+function tell(b){return short(path(b))+'  \u00b7  '+b.querySelector('title').textContent.split('\n').slice(1).join('  \u00b7  ')}
+function squeeze(t){t.style.fontSize='';var room=svg.getBoundingClientRect().width-(t===title?112:16),long=t.getComputedTextLength();
 if(room>0&&long>room)t.style.fontSize=parseFloat(getComputedStyle(t).fontSize)*room/long+'px'}
 function write(s){say.textContent=s;squeeze(say)}
 all.forEach(function(b){var t=b.querySelector('text').firstChild;b.t=t.nodeType===3?t:{data:''};b.k=b.t.data;b.l=units(b,'x');b.r=b.l+units(b,'width');b.d=+b.getAttribute('y')});
@@ -63,8 +63,7 @@ all.forEach(function(b){var inside=b.l>=z.l&&b.r<=z.r&&b.d>=z.d,over=above(b,z);
 b.style.display=inside||over?'':'none';b.classList.toggle('past',over);
 b.setAttribute('x',over?'0%':(b.l-z.l)/(z.r-z.l)*100+'%');b.setAttribute('width',over?'100%':(b.r-b.l)/(z.r-z.l)*100+'%')});
 back.style.display=z===all[0]?'none':'';fit()}
-function label(b){var room=b.getBoundingClientRect().width,t=b.querySelector('text'),n=b.k.length,long,cut;
-if(room<24)return{thin:true,brief:true,key:b.k};
+function label(b){var room=b.room,t=b.querySelector('text'),n=b.k.length,long,cut;
 if(t.getComputedTextLength()+16<=room)return{thin:false,brief:false,key:b.k};
 long=n?t.getSubStringLength(0,n):0;
 if(long+8<=room)return{thin:false,brief:true,key:b.k};
@@ -72,8 +71,11 @@ cut=Math.min(n-1,Math.ceil(n*(room-16)/long));
 while(cut>0&&t.getSubStringLength(0,cut)+16>room)cut--;
 if(cut>0&&b.k.charCodeAt(cut-1)>>10===54)cut--;
 return{thin:cut<1,brief:true,key:b.k.slice(0,cut)+'..'}}
-function fit(){all.forEach(function(b){b.classList.remove('thin','brief');b.t.data=b.k});
-all.map(label).forEach(function(m,i){var b=all[i];b.t.data=m.key;b.classList.toggle('thin',m.thin);b.classList.toggle('brief',m.brief)});
+function fit(){var wide;
+all.map(function(b){return b.querySelector('rect').getBoundingClientRect().width}).forEach(function(w,i){all[i].room=w;all[i].classList.toggle('thin',w<24)});
+wide=all.filter(function(b){return b.room>=24});
+wide.forEach(function(b){b.classList.remove('brief');b.t.data=b.k});
+wide.map(label).forEach(function(m,i){var b=wide[i];b.t.data=m.key;b.classList.toggle('thin',m.thin);b.classList.toggle('brief',m.brief)});
 lines.forEach(squeeze)}
 function mark(q){var n=0,last=0;
 all.forEach(function(b){var hit=q&&key(b).toLowerCase().indexOf(q)>=0;b.classList.toggle('hit',!!hit);if(hit&&b.l>=last){n+=b.r-b.l;last=b.r}});
@@ -82,7 +84,7 @@ function ask(){var q=prompt('Part of a key','');if(q!==null)mark(q.toLowerCase()
 svg.addEventListener('click',function(e){var b=e.target.closest('.b');if(b)zoom(b);else if(e.target===back)zoom(all[0]);else if(e.target===find)ask()});
 svg.addEventListener('mouseover',function(e){var b=e.target.closest('.b');write(b?tell(b):was)});
 document.addEventListener('keydown',function(e){if(e.key==='Escape'){zoom(all[0]);mark('')}else if(e.key==='/'){e.preventDefault();ask()}});
-window.addEventListener('resize',fit);fit();
+find.style.display='';window.addEventListener('resize',fit);fit();
 })();
 ]]></script>
 </svg>

@@ -1,19 +1,21 @@
-//! The frames of a flame graph.
-ghost use Rattle.std.specs.Prelude.{◌≡◌, ◌+◌, ◌<◌, ◌^◌, ◌++◌, [], ◌∷◌, OnOk, map, filter, option_copied};
+//! The frames of a flame graph, and what marks its paths.
+ghost use Rattle.std.specs.Prelude.{◌≡◌, ◌+◌, ◌<◌, ◌^◌, ◌++◌, [], ◌∷◌, OnOk, map, filter, option_copied, IfOk};
 ghost use Rattle.std.specs.FinMap.{len};
 ghost use Rattle.allocative_graph.specs.Graph.{total, size_at};
-ghost use Rattle.allocative_graph.specs.Rows as frames;
 ghost use Rattle.allocative_graph.specs.Rows.{figures_behind};
 ghost use Rattle.allocative_graph.specs.Path.{Path};
-ghost use Rattle.allocative_picture.specs.Frames.{frame_data, shown_key, frames_from, frame_from};
+ghost use Rattle.allocative_picture.specs.Frames.{frame_data, shown_key, frames_from, frame_from, mark_by, mark_in, warned_mark};
 ghost use Rattle.allocative_picture.specs.Boxes.{is_drawn};
-ghost use Rattle.allocative_picture.specs.Marks.{mark_by, mark_in};
+ghost use Rattle.allocative_collectors.specs.Warned.{warning_of};
+ghost use Rattle.allocative_picture.specs.declared.frames.Marks.{Marks};
+ghost use Rattle.allocative_graph.specs.Rows as frames;
 
 use crate::boxes::is_drawn;
 use crate::frame::{Frame, Mark};
-use allocative_graph::flamegraph::FlameGraph;
+use allocative_collectors::output::WarnedPath;
+use allocative_graph::flamegraph::{FlameGraph, add_at};
 use allocative_graph::key::Key;
-use std::alloc::AllocError;
+use std::alloc::{AllocError, Global};
 
 /// What marks the paths of a flame graph: their bytes in another graph.
 #[derive(Clone, Copy)]
@@ -142,4 +144,19 @@ pub(crate) fn push_frames(
         path.pop();
     }
     Ok(())
+}
+
+/// A graph that has bytes at the paths that have a warning, and at no others. The only error is that memory runs out.
+pub(crate) fn graph_of_warned(
+    alloc: Global,
+    warned: &[WarnedPath],
+) -> Result<FlameGraph, AllocError>
+    ensures { IfOk result (λ graph. (p : Path)
+        → mark_by Marks.Warned graph p ≡ warned_mark (map warning_of warned.now) p) }
+{
+    let mut graph = FlameGraph::default(alloc);
+    for one in warned {
+        add_at(&mut graph, one.path.as_slice(), 1)?;
+    }
+    Ok(graph)
 }

@@ -23,13 +23,13 @@ pub fn within_law()
 {}
 
 /// Each frame that is wide enough has one box, and no other frame has one.
-#[tactic(auto, using(crate::proofs::Counting::boxes_are))]
+#[tactic(auto, using(crate::proofs::Geometry::boxes_are))]
 pub fn boxes_law()
     ensures { BoxesLaw }
 {}
 
 /// Each path of a graph occurs once among the entries from which the frames are made.
-#[tactic(auto, using(crate::proofs::Counting::stands_once))]
+#[tactic(auto, using(crate::proofs::Geometry::stands_once))]
 pub fn once_law()
     ensures { OnceLaw }
 {}

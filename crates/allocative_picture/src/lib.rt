@@ -5,8 +5,6 @@
 #![tactic(auto)]
 
 mod boxes;
-mod change;
-mod class;
 pub mod escape;
 mod figures;
 mod fixed;
@@ -18,4 +16,3 @@ pub mod page;
 pub mod picture;
 pub mod table;
 pub mod views;
-mod warned;

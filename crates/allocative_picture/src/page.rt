@@ -1,13 +1,12 @@
 //! The parts of a picture around its boxes.
-ghost use Rattle.std.specs.Prelude.{◌≡◌, ◌+◌, ◌*◌, ◌^◌, ◌<◌, ◌≤◌, Some, OnOk, map, flat_map};
+ghost use Rattle.std.specs.Prelude.{◌≡◌, ◌+◌, ◌*◌, ◌^◌, ◌<◌, ◌≤◌, Some, OnOk, map, flat_map, codes};
 ghost use Rattle.allocative_graph.specs.Format.{AppendsText};
 ghost use Rattle.allocative_collectors.specs.Warned.{warning_of};
 ghost use Rattle.allocative_picture.specs.Frames.{frame_data};
 ghost use Rattle.allocative_picture.specs.Boxes.{element};
-ghost use Rattle.allocative_picture.specs.Page.{all_of, legend_of, subject_text, levels, opening, heading, warning_line, warning_lines};
+ghost use Rattle.allocative_picture.specs.Picture.{all_of, legend_of, legend_height_of, subject_text, levels, opening, narrow_text, heading, warning_line, warning_lines};
 
-use crate::boxes::push_element;
-use crate::change::{Comparison, Difference};
+use crate::boxes::{Comparison, Difference, push_element};
 use crate::escape::escaped;
 use crate::figures::Full;
 use crate::fixed::{LEGEND, STYLE, TOOLS};
@@ -53,13 +52,24 @@ impl Subject {
             Subject::Change { .. } => LEGEND,
         }
     }
+
+    /// The height of the legend in pixels.
+    pub(crate) fn legend_height(self) -> u128
+        ensures height { result ≡ legend_height_of self }
+        ensures bound { result ≤ 16 }
+    {
+        match self {
+            Subject::Profile { .. } => 0,
+            Subject::Change { .. } => 16,
+        }
+    }
 }
 
 /// The subject of a picture and its unit, printed as its totals.
 #[derive(Clone, Copy)]
 struct Totals<'a>(Subject, &'a str);
 
-#[tactic(auto, unfolding(crate::specs::Page::subject_text))]
+#[tactic(auto, unfolding(crate::specs::Picture::subject_text))]
 impl fmt::Display for Totals<'_> {
     ghost output = { λ t. Some (subject_text t.1.now t.0) };
 
@@ -76,14 +86,23 @@ impl fmt::Display for Totals<'_> {
                     after,
                     unit,
                 };
-                write!(f, "{}", Comparison(change))
+                write!(f, "{}, {change}", Comparison(change))
             }
         }
     }
 }
 
+/// A subject is printed as its totals in bytes.
+impl fmt::Display for Subject {
+    ghost output = { λ s. Some (subject_text (codes "bytes") s) };
+
+    fn fmt<W: fmt::Write>(&self, f: &mut fmt::Formatter<W>) -> fmt::Result {
+        write!(f, "{}", Totals(*self, "bytes"))
+    }
+}
+
 /// The number of levels of boxes that the frames need.
-#[tactic(auto, unfolding(crate::specs::Page::levels))]
+#[tactic(auto, unfolding(crate::specs::Picture::levels))]
 pub(crate) fn levels(frames: &[Frame<'_>]) -> u128
     ensures levels { result ≡ levels (map frame_data frames.now) }
     ensures bound { result ≤ 2 ^ 64 }
@@ -95,22 +114,42 @@ pub(crate) fn levels(frames: &[Frame<'_>]) -> u128
     levels
 }
 
-/// Appends the beginning of a picture, with the style. Its height is in pixels.
-#[tactic(auto, unfolding(crate::specs::Page::opening))]
-pub(crate) fn push_opening(height: u128, text: &mut String) -> Result<(), AllocError>
-    ensures { OnOk result (AppendsText text.old text.new (opening height)) }
+/// Appends the beginning of a picture, with the style and the title of the document, which is markup. Browsers look for
+/// that title through all boxes if there is none. The height is in pixels.
+#[tactic(auto, unfolding(crate::specs::Picture::opening))]
+pub(crate) fn push_opening(height: u128, title: &str, text: &mut String) -> Result<(), AllocError>
+    ensures { OnOk result (AppendsText text.old text.new (opening height title.now)) }
 {
     write!(
         text,
-        "<svg xmlns=\"http://www.w3.org/2000/svg\" width=\"100%\" height=\"{height}\" font-size=\"12\">\n{STYLE}"
+        "<svg xmlns=\"http://www.w3.org/2000/svg\" width=\"100%\" height=\"{height}\" font-size=\"12\">\n{STYLE}<title>{title}</title>\n"
     )?;
     Ok(())
 }
 
+/// The number of paths without a box, printed with the arguments of `bin/allocative-picture` that help, if there are any.
+#[derive(Clone, Copy)]
+struct Narrow(usize);
+
+#[tactic(auto, unfolding(crate::specs::Picture::narrow_text))]
+impl fmt::Display for Narrow {
+    ghost output = { λ n. Some (narrow_text n.0) };
+
+    fn fmt<W: fmt::Write>(&self, f: &mut fmt::Formatter<W>) -> fmt::Result {
+        let narrow = self.0;
+        if narrow == 0 {
+            return write!(f, "0 too narrow even for zoom");
+        }
+        write!(
+            f,
+            "{narrow} too narrow even for zoom: see --depth, --fold and --narrowest"
+        )
+    }
+}
+
 /// Appends the title of a picture, the totals, the number of paths with a box, the number of the others, which are too
-/// narrow for one, and the labels that the script makes clickable. The unit is markup.
+/// narrow for one, and the labels that the script makes clickable. The title and the unit are markup.
 pub(crate) fn push_heading(
-    alloc: Global,
     title: &str,
     unit: &str,
     subject: Subject,
@@ -120,13 +159,13 @@ pub(crate) fn push_heading(
 ) -> Result<(), AllocError>
     ensures { OnOk result (AppendsText text.old text.new (heading title.now unit.now subject drawn paths)) }
 {
-    let title = escaped(alloc, title)?;
     let totals = Totals(subject, unit);
     let narrow = paths.saturating_sub(drawn);
+    let left_out = Narrow(narrow);
     write!(
         text,
         "<text class=\"title\" x=\"8\" y=\"22\">{title}</text>\n\
-        <text class=\"sum say\" x=\"8\" y=\"42\">{totals}; {drawn} paths drawn, {narrow} too narrow even for zoom</text>\n{TOOLS}"
+        <text class=\"sum say\" x=\"8\" y=\"42\">{totals}; {drawn} paths drawn, {left_out}</text>\n{TOOLS}"
     )?;
     Ok(())
 }

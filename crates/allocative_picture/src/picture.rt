@@ -2,17 +2,15 @@
 ghost use Rattle.std.specs.Prelude.{◌≡◌, ◌↔◌, IfErr, IsErrOf, map};
 ghost use Rattle.allocative_graph.specs.Format.{ReturnsText};
 ghost use Rattle.allocative_graph.specs.Graph.{ExceedWord};
-ghost use Rattle.allocative_picture.specs.Frames.{frame_data, frames_of};
-ghost use Rattle.allocative_picture.specs.Marks.{mark_by};
+ghost use Rattle.allocative_picture.specs.Frames.{frame_data, frames_of, mark_by};
 ghost use Rattle.allocative_picture.specs.Picture.{drawing, drawing_of, profile_drawing, change_drawing};
 
 use crate::escape::escaped;
 use crate::fixed::CLOSING;
 use crate::frame::Frame;
-use crate::frames::{Marks, Shown, push_frames, push_wide};
+use crate::frames::{Marks, Shown, graph_of_warned, push_frames, push_wide};
 use crate::options::Options;
 use crate::page::{Subject, levels, push_boxes, push_heading, push_opening, push_warnings};
-use crate::warned::graph_of_warned;
 use allocative_graph::flamegraph::FlameGraph;
 use allocative_graph::refusal::Refusal;
 use std::alloc::{AllocError, Global};
@@ -126,20 +124,14 @@ fn draw_wide(
         (drawing_of subject options.now (map frame_data frames.now) paths) }
 {
     let bottom = 64 + 18 * levels(frames);
-    let height = bottom + 8 + 16 * options.warned.len() as u128;
+    let height = bottom + 8 + 16 * options.warned.len() as u128 + subject.legend_height();
+    let title = escaped(alloc, options.title)?;
+    let title = title.as_str();
     let unit = escaped(alloc, options.unit)?;
     let unit = unit.as_str();
     let mut text = String::new(alloc);
-    push_opening(height, &mut text)?;
-    push_heading(
-        alloc,
-        options.title,
-        unit,
-        subject,
-        frames.len(),
-        paths,
-        &mut text,
-    )?;
+    push_opening(height, title, &mut text)?;
+    push_heading(title, unit, subject, frames.len(), paths, &mut text)?;
     text.push_str(subject.legend())?;
     push_boxes(alloc, unit, subject.all(), frames, &mut text)?;
     push_warnings(alloc, bottom + 14, options.warned, &mut text)?;

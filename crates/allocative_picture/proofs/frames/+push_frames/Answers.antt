@@ -11,8 +11,8 @@ use Rattle.allocative_graph.proofs.Children.{total-node}
 use Rattle.allocative_graph.proofs.Text.{texts, popped}
 use Rattle.allocative_graph.proofs.Behind.{figured}
 use Rattle.std.proofs.lemmas.List.Sums.{sum_by-take-le}
-use Rattle.allocative_picture.specs.Marks.{mark_by}
-use Rattle.allocative_picture.proofs.Walking.{pushed_key, total_of_more, rows_more, child_rows, node_rows}
+use Rattle.allocative_picture.specs.Frames.{mark_by}
+use Rattle.allocative_picture.proofs.Placing.{pushed_key, total_of_more, rows_more, child_rows, node_rows}
 use Rattle.allocative_picture.proofs.frames.+push_frames.Goals as goal
 
 -- The bytes before the children fit, since all bytes do.

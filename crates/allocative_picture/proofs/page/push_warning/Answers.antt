@@ -1,5 +1,5 @@
 -- of push_warning: the result
-use Rattle.allocative_picture.specs.Page.{warning_line}
+use Rattle.allocative_picture.specs.Picture.{warning_line}
 use Rattle.allocative_picture.proofs.page.push_warning.Goals as goal
 
 -- The line of a warning is appended.

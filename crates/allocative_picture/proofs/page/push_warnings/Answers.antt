@@ -4,7 +4,7 @@ use Rattle.std.proofs.Common.{arith}
 use Rattle.allocative_picture.proofs.Common.{warning_lines}
 use Rattle.std.proofs.lemmas.Grind.{common_steps}
 use Rattle.allocative_graph.specs.Graph.{Warned}
-use Rattle.allocative_picture.specs.Page.{warning_line}
+use Rattle.allocative_picture.specs.Picture.{warning_line}
 use Rattle.allocative_picture.proofs.page.push_warnings.Goals as goal
 
 -- The text of the warnings after one more path.

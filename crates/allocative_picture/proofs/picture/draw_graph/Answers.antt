@@ -2,10 +2,9 @@
 use Rattle.std.proofs.Common.{◌≡◌, ◌++◌, map, ap, ◌∙◌, filter, arith}
 use Rattle.allocative_picture.proofs.Common.{figures_behind, is_drawn, len, frames_from, frame_data}
 use Rattle.allocative_graph.proofs.Text.{texts}
-use Rattle.allocative_picture.specs.Page.{all_of}
-use Rattle.allocative_picture.specs.Marks.{mark_by}
-use Rattle.allocative_picture.proofs.Placing.{frames_from-figures}
-use Rattle.allocative_picture.proofs.Walking.{length-frames_of}
+use Rattle.allocative_picture.specs.Picture.{all_of}
+use Rattle.allocative_picture.specs.Frames.{mark_by}
+use Rattle.allocative_picture.proofs.Placing.{frames_from-figures, length-frames_of}
 use Rattle.allocative_picture.proofs.picture.draw_graph.Goals as goal
 
 -- The frames that are drawn are the wide ones among the graph's.

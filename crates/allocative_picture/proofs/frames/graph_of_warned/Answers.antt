@@ -9,8 +9,8 @@ use Rattle.allocative_graph.proofs.Graphs.{total-default}
 use Rattle.allocative_graph.proofs.Graphs.{size_at-default, total-sum_of}
 use Rattle.allocative_graph.proofs.Text.{texts}
 use Rattle.allocative_graph.proofs.Nodes.{total-path}
-use Rattle.allocative_picture.proofs.Warnings.{warnings_at, warning_more, mark_counted}
-use Rattle.allocative_picture.proofs.warned.graph_of_warned.Goals as goal
+use Rattle.allocative_picture.proofs.Marking.{warnings_at, warning_more, mark_counted}
+use Rattle.allocative_picture.proofs.frames.graph_of_warned.Goals as goal
 
 pub loop-one-init : goal.loop-one-init
 loop-one-init c = record {

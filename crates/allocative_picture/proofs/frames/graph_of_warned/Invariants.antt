@@ -3,8 +3,8 @@ use Rattle.std.proofs.Common.{◌≡◌, map, take}
 use Rattle.allocative_picture.proofs.Common.{Path, total}
 use Rattle.allocative_graph.specs.Graph.{size_at}
 use Rattle.allocative_collectors.specs.Warned.{warning_of}
-use Rattle.allocative_picture.proofs.Warnings.{warnings_at}
-use Rattle.allocative_picture.proofs.warned.graph_of_warned.Given as goal
+use Rattle.allocative_picture.proofs.Marking.{warnings_at}
+use Rattle.allocative_picture.proofs.frames.graph_of_warned.Given as goal
 
 -- Each path has a byte for each of its warnings so far, and there are no more bytes than warnings.
 abbrev pub invariant-loop-one : goal.invariant-loop-one
