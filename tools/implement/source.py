@@ -27,7 +27,7 @@ IMPLEMENTED = re.compile(r"\bimpl\b[^{;]*?\b(Allocative|Described|Tallied)\s+for
 OUTWARD = re.compile(r"(?<![\w:])(self|super)::(\w+)")
 LETTER = re.compile(r"[^\n]")
 LINE = re.compile(r"[^\n]*")
-PRELUDE = {"codes", "length", "true", "◌&&◌"}
+PRELUDE = {"Some", "codes", "length", "true", "◌&&◌"}
 DECLARED = re.compile(r"\b(?:struct|enum)\s+(\w+)")
 
 

@@ -31,7 +31,8 @@ class Part(NamedTuple):
     """What has an entry, with its field of the tally if it has one.
 
     It is a field, with its type and that of its tally, or what has other parts inside it, with the type of its size.
-    `is_own` says that the values of a field have a number of their own.
+    `is_own` says that the values of a field have a number of their own. `bytes` has the size of a field that is shown by
+    its size alone.
     """
 
     name: str
@@ -40,6 +41,16 @@ class Part(NamedTuple):
     kind: str = ""
     is_own: bool = False
     inside: tuple[Part, ...] = ()
+    bytes: int | None = None
+
+    @property
+    def size(self) -> str:
+        """The declared size of an entry, in clauses."""
+        return size_of(self.type) if self.bytes is None else f"(Some {self.bytes})"
+
+    def times(self, count: str) -> str:
+        """The sum of so many entries, in code."""
+        return f"Sum::times({f'<{self.type}>::size()' if self.bytes is None else f'Some({self.bytes})'}, {count})"
 
 
 def reason(scope: Scope, kind: Type, parameters: tuple[str, ...]) -> str:
@@ -61,8 +72,8 @@ def reason_of(source: Source, definition: Definition) -> str:
     types = definition.names("type")
     whys = ["it holds itself"] if definition.name in source.reached(definition.name) else []
     whys += ["it has a lifetime"] if definition.names("lifetime") else []
-    whys += [f"the field {each.name} is not shown whole" for each in definition.members if not each.is_whole]
-    whys += filter(None, (reason(source.scope, each.type, types) for each in definition.members))
+    whys += [f"the field {each.name} is not shown whole" for each in definition.shown if each.foreign]
+    whys += filter(None, (reason(source.scope, each.type, types) for each in definition.shown if each.is_whole))
     if definition.is_enum and types and any(each.is_entry for each in definition.variants):
         whys.append("it has parameters, and a variant of several fields")
     return whys[0] if whys else ""
@@ -97,6 +108,8 @@ class Tally:
         inside = parts if self.definition.is_enum else parts[0].inside
         self.root = Part("", writer.name, writer.name + writer.applied, inside=inside)
         self.flat = [each for part in inside for each in (part, *part.inside)]
+        # Those with a field of the tally: a field that is shown by its size alone has none, but a variant counts.
+        self.kept = [each for each in self.flat if each.bytes is None or (self.definition.is_enum and each in inside)]
         self.parameters = [f"S{number + 1}" for number in range(len(self.kinds))]
         self.name = writer.source.free(writer.name, "Tally")
         self.text = self.struct() + self.tallied()
@@ -111,6 +124,8 @@ class Tally:
 
     def field(self, member: Member, key: str, name: str, is_own: bool = False) -> Part:
         """The part of a field. If its type has parameters, what counts it is a parameter of the tally."""
+        if member.size is not None:
+            return Part(self.free(name), key, "", bytes=member.size)
         kind = f"<{member.type.text} as Tallied>::Tally"
         if any(holds(member.type, each) for each in self.writer.types):
             self.kinds.append(kind)
@@ -120,18 +135,18 @@ class Tally:
     def part(self, variant: Variant) -> Part | None:
         """The part of a variant, or of all fields of a struct."""
         start = f"{HUMP.sub('_', variant.name).lower()}_" if self.definition.is_enum else ""
+        shown = [each for each in variant.members if not each.is_skipped]
         if start and not variant.is_entry:
-            is_there = bool(variant.members)
-            return self.field(variant.members[0], variant.name, f"{start}value", True) if is_there else None
-        names = [name if start or name.isidentifier() else f"part{name}" for name in variant.names]
-        inside = [self.field(each, each.name, start + name) for each, name in zip(variant.members, names)]
+            return self.field(shown[0], variant.name, f"{start}value", True) if shown else None
+        names = [each.name if start or each.name.isidentifier() else f"part{each.name}" for each in shown]
+        inside = [self.field(each, each.name, start + name) for each, name in zip(shown, names)]
         record = self.writer.variant_records[variant.name] if start else ""
         return Part(self.free(f"{start}count") if start else "", variant.name, record, inside=tuple(inside))
 
     # ---- what counts
     def struct(self) -> str:
         lines = ""
-        for part in self.flat:
+        for part in self.kept:
             kind = Type("other", part.kind or "usize")
             kind = Type("path", f"OwnTally<{part.kind}>", (), (kind,)) if part.is_own else kind
             lines += f"    {part.name}: {laid(kind, 4, WIDTH - 7 - len(part.name))},\n"
@@ -144,9 +159,9 @@ class Tally:
         value = f"t.{part.name}"
         if part.is_own:
             value, count = f"{value}.values", f"{value}.count"
-        elif part.name and not part.kind:
+        elif part in self.kept and not part.kind:
             count = value
-        head = f'(entries (codes "{part.key}") {size_of(part.type)} {count}'
+        head = f'(entries (codes "{part.key}") {part.size} {count}'
         shapes = [self.shape(each, count) for each in part.inside]
         inside = paired(shapes, f"(Beside {{}}\n{INDENT}{{}})".format, "NoEntry")
         return f"{head} (⟦<{part.type} as Tallied>⟧.shape {value} {count}))" if part.kind else f"{head}\n{INDENT}{inside})"
@@ -176,12 +191,12 @@ class Tally:
     def none(self) -> str:
         """The lines that make a tally of nothing."""
         lines = ""
-        for part in self.flat:
+        for part in self.kept:
             value = f"<{part.type} as Tallied>::none_counted()" if part.kind else "0"
             if part.is_own:
                 value = f"OwnTally {{\n{' ' * 16}count: 0,\n{' ' * 16}values: {value},\n{' ' * 12}}}"
             lines += f"{' ' * 12}{part.name}: {value},\n"
-        if len(self.flat) == 1 and not self.flat[0].is_own:
+        if len(self.kept) == 1 and not self.kept[0].is_own:
             return f"{INDENT}{self.name} {{ {lines.strip()[:-1]} }}\n"
         return f"{INDENT}{self.name} {{\n{lines}{INDENT}}}\n" if lines else f"{INDENT}{self.name} {{}}\n"
 
@@ -190,7 +205,7 @@ class Tally:
         names = dict(zip(self.flat, bound([part.name for part in self.flat], 52, "visitor tally count size")))
         text = ""
         for part in self.root.inside:
-            count = "count" if part.kind else f"tally.{part.name}"
+            count = f"tally.{part.name}" if part in self.kept and not part.kind else "count"
             text += "".join(INDENT + self.entry(each, names, count) for each in (*part.inside, part))
         inside = paired([names[each] for each in self.root.inside], "({}, {})".format, "()")
         size = called("let size = ", "Sum::times", [f"<{self.root.type}>::size()", "count"], ";", INDENT)
@@ -205,12 +220,13 @@ class Tally:
             arguments = [quoted(part.key), f"&tally.{part.name}", count]
         else:
             inside = paired([names[each] for each in part.inside], "({}, {})".format, "()")
-            sum_of = f"Sum::times(<{part.type}>::size(), {count})"
-            return called(head, "InlineSum", [quoted(part.key), sum_of, inside], ";", INDENT)
+            return called(head, "InlineSum", [quoted(part.key), part.times(count), inside], ";", INDENT)
         return called(head, f"FieldMany::<{part.type}>", arguments, ";", INDENT)
 
     def counting(self, part: Part, value: str, indent: str) -> str:
-        """The line that counts the value of a field."""
+        """The line that counts the value of a field. One that is shown by its size alone needs none."""
+        if part.bytes is not None:
+            return ""
         if part.is_own:
             return indent + called("", "count_own", [f"&mut tally.{part.name}", value], "?;", indent)
         return indent + called("", "Tallied::tally", [value, f"&mut tally.{part.name}"], "?;", indent)
@@ -223,16 +239,22 @@ class Tally:
             return f"{head}Ok(()),\n"
         lines = ""
         if not part.kind:
-            lines = f"{indent}declared::<{part.type}>()?;\n{indent}tally.{part.name} = added(tally.{part.name}, 1)?;\n"
-        lines += "".join(self.counting(each, name, indent) for each, name in zip(part.inside or (part,), names))
+            lines = f"{indent}declared::<{part.type}>()?;\n" if part.bytes is None else ""
+            lines += f"{indent}tally.{part.name} = added(tally.{part.name}, 1)?;\n"
+        shown = [name for each, name in zip(variant.members, names) if not each.is_skipped]
+        inside = part.inside if variant.is_entry else (part,)
+        lines += "".join(self.counting(each, name, indent) for each, name in zip(inside, shown))
         return f"{head}{{\n{lines}{indent}Ok(())\n{' ' * 12}}}\n"
 
     # ---- answers
     def sums(self) -> str:
         """The proof of what is entered: the sums are those of the shape."""
-        sized = [part for part in self.root.inside if not part.kind]
-        facts = [f"c.times{ordinal(at)}.ensures, c.size{ordinal(at)}.ensures" for at in range(1, len(sized) + 1)]
-        facts.append(f"c.times-size.ensures, c.size{ordinal(len(sized) + 1)}.ensures")
+        facts, times, sizes = [], 1, 1
+        for part in (each for inside in self.root.inside for each in (*inside.inside, inside) if not each.kind):
+            facts.append(f"c.times{ordinal(times)}.ensures")
+            facts += [f"c.size{ordinal(sizes)}.ensures"] if part.bytes is None else []
+            times, sizes = times + 1, sizes + (part.bytes is None)
+        facts.append(f"c.times-size.ensures, c.size{ordinal(sizes)}.ensures")
         return f"rw ({', '.join(facts)}) at c.enter.ensures"
 
     def counted(self) -> list[tuple[str, str]]:
@@ -245,11 +267,13 @@ class Tally:
             proof, last = "nothing_counted", f"-{variant.name}"
             if part and part.is_own:
                 proof, last = f"(own_counted c.in_ok-count_own{arm}.ensures)", f"_ok-count_own{arm}"
+            elif part and part.bytes is not None:
+                proof, last = "(fixed_counted _ _ (omega arith))", f"_ok-tally{arm}"
             elif part:
                 case = f"case_counted c.in_ok-declared{arm or '-2'}.ensures (omega arith)"
                 # The first step that is named `tally` is that which adds to the number of the variant.
                 proof = f"({case}\n    {fields(part.inside, arm, 2)}\n    (search (rules, holding)))"
-                last = f"_ok-tally{arm}{ordinal(len(part.inside) + 1)}"
+                last = f"_ok-tally{arm}{ordinal(len([each for each in part.inside if each.kind]) + 1)}"
             proof = placed(paired([*self.root.inside], lambda one, later: [one, later], None), part, proof) if part else proof
             goal = f"returns-in{last}" if arm else "returns"
             found.append((goal, f"next_as (λ f. rw {fact} (λ x. x))\n    ({whole('next_case', proof)})"))
@@ -267,7 +291,10 @@ def ordinal(at: int) -> str:
 
 def fields(parts: tuple[Part, ...], arm: str, start: int = 1) -> str:
     """The proof for fields, which are counted in an arm, by steps that are numbered from a start."""
-    steps = [f"(next_field c.in_ok-tally{arm}{ordinal(at)}.ensures)" for at in range(start, start + len(parts))]
+    steps = []
+    for part in parts:
+        steps.append(f"(next_field c.in_ok-tally{arm}{ordinal(start)}.ensures)" if part.kind else "next_fixed")
+        start += bool(part.kind)
     return paired(steps, "(next_both\n    {}\n    {})".format, "next_nothing")
 
 

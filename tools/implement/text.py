@@ -45,8 +45,8 @@ LEMMAS = {
     "allocative.proofs.Meaning": "entered_loosely strict_same means_field means_same visited_as visited_if",
     "allocative.proofs.Parts": "strict",
     "allocative_tally.proofs.Counting": "first_counted second_counted",
-    "allocative_tally.proofs.Fields": "case_counted holding next_as next_both next_case next_field next_nothing next_whole "
-    "nothing_counted own_counted",
+    "allocative_tally.proofs.Fields": "case_counted fixed_counted holding next_as next_both next_case next_field next_fixed "
+    "next_nothing next_whole nothing_counted own_counted",
 }
 DESCRIBED = {"align": "usize", "needs_drop": "bool", "size": "Option<usize>"}
 

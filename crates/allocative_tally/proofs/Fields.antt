@@ -155,16 +155,3 @@ pub ruleset holding = (
 
 -- The lemmas for what the sizes of tuples have room for.
 pub ruleset holding_tuples = (holds_grouped, holds_up, holds_both, holds_itself)
-
--- The lemmas for tuples: what shows nothing, and what is counted.
-pub ruleset tupling = (
-  starts_entry,
-  starts_both,
-  next_whole,
-  next_both,
-  next_field,
-  holds_grouped,
-  holds_up,
-  holds_both,
-  holds_itself,
-)

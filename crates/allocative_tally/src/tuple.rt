@@ -1,5 +1,5 @@
 //! Tuples, which show one entry for each field.
-#![tactic(auto, using(crate::proofs::Fields::tupling))]
+#![tactic(auto, using(crate::proofs::Fields::starting))]
 
 ghost use Rattle.std.specs.Prelude.{codes};
 ghost use Rattle.std.proofs.Common.{le_refl};

@@ -460,14 +460,25 @@ class CommandTest(unittest.TestCase):
         for text, why in (
             ("struct A(Vec<A>);", "it holds itself"),
             ("struct A<'a, T>(T, PhantomData<&'a T>);", "it has a lifetime"),
-            ("struct A {\n    // allocative: size 8\n    a: u64,\n}", "the field a is not shown whole"),
+            ("struct A {\n    a: PathBuf,\n}", "the field a is not shown whole"),
             ("struct A(Vec<IdRc<u64>>);", "`IdRc<u64>` has none"),
             ("enum A<T> {\n    B(u64, T),\n    C,\n}", "it has parameters, and a variant of several fields"),
         ):
-            text = f"use allocative::IdRc;\nuse std::marker::PhantomData;\n#[derive(Drop)]\n{text}\n"
+            uses = "use allocative::IdRc;\nuse std::marker::PhantomData;\nuse std::path::PathBuf;\n"
+            text = f"{uses}#[derive(Drop)]\n{text}\n"
             status, output, told = self.run_it(text, "--counted")
             self.assertEqual((status, told), (0, [f"implement: A has no tally, as {why}"]))
             self.assertNotIn("Tally", output)
+
+    def test_a_tally_of_fields_by_their_size_alone(self) -> None:
+        size, skip = "    // allocative: size 8\n", "    // allocative: skip\n"
+        text = f"#[derive(Drop)]\nenum A {{\n    B(\n{size}    u64),\n    C {{\n{size}    a: u64,\n{skip}    b: u8,\n}},\n}}\n"
+        status, output, _ = self.run_it(text, "--counted")
+        self.assertEqual(status, 0)
+        for counted in ("b_value", "c_count"):
+            self.assertIn(f"Sum::times(Some(8), tally.{counted})", output)
+            self.assertIn(f"tally.{counted} = added(tally.{counted}, 1)?;", output)
+        self.assertEqual(output.count(": usize,\n"), 2)
 
     def test_fields_with_tallies_in_a_type_without(self) -> None:
         text = "#[derive(Drop)]\nstruct B(Vec<u64>, IdRc<u64>, Vec<A>);\n#[derive(Drop)]\nstruct A(B, Vec<B>);\n"
