@@ -54,6 +54,23 @@ pub enum Cart {
     BoughtItems { count: u64, names: Vec<String> },
 }
 
+/// A parcel: its mark, which is shown by its size, or a name beside fields that are shown so or passed over.
+#[derive(Drop)]
+pub enum Parcel {
+    Empty,
+    Marked(
+        // allocative: size 8
+        u64,
+    ),
+    Named {
+        // allocative: size 16
+        place: (u64, u64),
+        // allocative: skip
+        weight: f64,
+        name: String,
+    },
+}
+
 /// A value of a document.
 #[derive(Drop)]
 pub enum Json {

@@ -1,11 +1,11 @@
 //! What the types of `types` show. `bin/implement` of `allocative` wrote it.
 #![tactic(auto, using(allocative::proofs::Parts::parts))]
 
-ghost use Rattle.std.specs.Prelude.{codes, true, ◌&&◌};
+ghost use Rattle.std.specs.Prelude.{Some, codes, true, ◌&&◌};
 ghost use Rattle.allocative.specs.Shows as shows;
 ghost use Rattle.allocative.specs.Levels.{both, both_levels, box_of, btree_map_of, child, field, first, hash_map_of, opened, option_in, pair_in, plain, recursive, second, vec_in};
 ghost use Rattle.std.proofs.Common.{le_refl};
-ghost use Rattle.allocative_tally.specs.Shapes.{Beside, entries};
+ghost use Rattle.allocative_tally.specs.Shapes.{Beside, NoEntry, entries};
 ghost use Rattle.test_generated_types.specs.declared.types.Job.{out-Job};
 ghost use Rattle.test_generated_types.specs.declared.types.Json.{Json-F, out-Json};
 ghost use Rattle.test_generated_types.specs.declared.types.Payload.{Payload-F, out-Payload};
@@ -433,6 +433,128 @@ impl Tallied for Cart {
                 tally.bought_items_count_ = added(tally.bought_items_count_, 1)?;
                 Tallied::tally(count, &mut tally.bought_items_count)?;
                 Tallied::tally(names, &mut tally.bought_items_names)?;
+                Ok(())
+            }
+        }
+    }
+}
+
+type ParcelLayout = Record<(u8, Or<(u64, ()), ((u64, u64), (f64, (String, ())))>)>;
+
+type ParcelNamedFields = Record<((u64, u64), (f64, (String, ())))>;
+
+impl Described for Parcel {
+    ghost name = { codes "Parcel" };
+
+    ghost align = { ⟦<ParcelLayout as Described>⟧.align };
+
+    ghost needs_drop = { ⟦<ParcelLayout as Described>⟧.needs_drop };
+
+    ghost size = { ⟦<ParcelLayout as Described>⟧.size };
+
+    fn name() -> &'static str {
+        "Parcel"
+    }
+
+    fn align() -> usize {
+        <ParcelLayout>::align()
+    }
+
+    fn needs_drop() -> bool {
+        <ParcelLayout>::needs_drop()
+    }
+
+    fn size() -> Option<usize> {
+        <ParcelLayout>::size()
+    }
+}
+
+impl Allocative for Parcel {
+    ghost use Rattle.test_generated_types.specs.declared.types.Parcel.TheVariants.{Empty, Marked, Named};
+
+    ghost may_show = { λ x. shows.Field (codes "Parcel") ⟦<ParcelLayout as Described>⟧.size (elim x [
+      | Empty ↦ shows.Nothing
+      | Marked a ↦ shows.Inside (codes "Marked") 8 shows.Nothing
+      | Named a b c ↦ shows.Field (codes "Named") ⟦<ParcelNamedFields as Described>⟧.size (shows.Both
+          (shows.Inside (codes "place") 16 shows.Nothing)
+          (shows.Field (codes "name") ⟦<String as Described>⟧.size (⟦<String as Allocative>⟧.may_show c)))
+    ]) };
+
+    ghost is_strict = { true };
+
+    fn visit(&self, visitor: &mut Visitor<'_>) -> Result<(), Refusal> {
+        match self {
+            Parcel::Empty => Whole(self, ()).enter(visitor),
+            Parcel::Marked(_) => {
+                let a = Inside("Marked", 8, ());
+                Whole(self, a).enter(visitor)
+            }
+            Parcel::Named { name, .. } => {
+                let place = Inside("place", 16, ());
+                let name = Field("name", name);
+                let inside = Declared("Named", <ParcelNamedFields>::size(), (place, name));
+                Whole(self, inside).enter(visitor)
+            }
+        }
+    }
+}
+
+/// Values of `Parcel`, counted.
+#[derive(Drop)]
+pub struct ParcelTally {
+    marked_value: usize,
+    named_count: usize,
+    named_name: <String as Tallied>::Tally,
+}
+
+#[tactic(auto, using(allocative_tally::proofs::Fields::starting))]
+impl Tallied for Parcel {
+    type Tally = ParcelTally;
+
+    ghost shape = { λ t n. entries (codes "Parcel") ⟦<Parcel as Described>⟧.size n
+        (Beside (entries (codes "Marked") (Some 8) t.marked_value
+        NoEntry)
+        (entries (codes "Named") ⟦<ParcelNamedFields as Described>⟧.size t.named_count
+        (Beside (entries (codes "place") (Some 16) t.named_count
+        NoEntry)
+        (entries (codes "name") ⟦<String as Described>⟧.size t.named_count (⟦<String as Tallied>⟧.shape t.named_name t.named_count))))) };
+
+    ghost bounded = { λ t n. le_refl _ };
+
+    fn none_counted() -> Self::Tally {
+        ParcelTally {
+            marked_value: 0,
+            named_count: 0,
+            named_name: <String as Tallied>::none_counted(),
+        }
+    }
+
+    fn show(tally: &Self::Tally, count: usize, visitor: &mut Visitor<'_>) -> Result<(), Refusal> {
+        let marked_value = InlineSum("Marked", Sum::times(Some(8), tally.marked_value), ());
+        let named_place = InlineSum("place", Sum::times(Some(16), tally.named_count), ());
+        let named_name = FieldMany::<String>("name", &tally.named_name, tally.named_count);
+        let named_count = InlineSum(
+            "Named",
+            Sum::times(<ParcelNamedFields>::size(), tally.named_count),
+            (named_place, named_name),
+        );
+        let size = Sum::times(<Parcel>::size(), count);
+        InlineSum("Parcel", size, (marked_value, named_count)).enter(visitor)
+    }
+
+    #[inline(always)]
+    fn tally(&self, tally: &mut Self::Tally) -> Result<(), CountError> {
+        declared::<Parcel>()?;
+        match self {
+            Parcel::Empty => Ok(()),
+            Parcel::Marked(_) => {
+                tally.marked_value = added(tally.marked_value, 1)?;
+                Ok(())
+            }
+            Parcel::Named { name, .. } => {
+                declared::<ParcelNamedFields>()?;
+                tally.named_count = added(tally.named_count, 1)?;
+                Tallied::tally(name, &mut tally.named_name)?;
                 Ok(())
             }
         }
