@@ -15,7 +15,8 @@ def buffer(path: str, size: int, length: str, call: str, module: str = "") -> Fo
     return Foreign(path.rpartition("::")[2], f"[Box<()>; {size // 8}]", size, 8, path, length, module, call)
 
 
-# The types by their crates. The sizes are those of Rust on x86-64.
+# The types by their crates. The sizes are those of Rust 1.95 on x86-64, with `url` 2.3, `uuid` 1.2 and `bytes` 1.2. Those
+# of `jiff` were not compared.
 KNOWN = {
     ("uuid", "Uuid"): plain("Uuid", "[u8; 16]", 16, 1),
     ("jiff", "Timestamp"): plain("Timestamp", "[u64; 2]", 16, 8),

@@ -464,7 +464,7 @@ def brought(text: str, prefix: tuple[str, ...] = ()) -> Iterator[tuple[str, tupl
     """The names that the text of a `use` brings in, with their paths."""
     head, brace, inside = text.partition("{")
     path, _, alias = head.partition(" as ")
-    names = prefix + tuple(part.strip() for part in re.split(r"::|\.", path) if part.strip())
+    names = prefix + tuple(" ".join(part.split()) for part in re.split(r"::|\.", path) if part.strip())
     if brace:
         for each in split(inside.rpartition("}")[0], ",", USE_EDGE):
             yield from brought(each, names)

@@ -73,6 +73,7 @@ class ShapesTest(unittest.TestCase):
         self.assertEqual(found.uses, {"C": ("a", "b", "C"), "E": ("a", "d")})
         self.assertEqual(found.ghost_uses, {"z", "◌<◌", "out-A", "shows"})
         self.assertEqual((found.globs, found.implemented), ([("a", "f")], {"A": {"Allocative"}}))
+        self.assertEqual(read("use a\nuse b::C;").uses, {"C": ("a use b", "C")})
 
     def test_all_faults_of_a_module(self) -> None:
         text = "struct r#type;\nstruct A { b }\nunion U { a: u8 }\nenum B { C D }\nstruct E {\n// allocative: sip\na: u8 }\nstruct F;"
