@@ -15,6 +15,8 @@ FIXED |= {"String": (24, 8, 0), "Vec": (24, 8, 1), "VecDeque": (32, 8, 1), "Once
 FIXED |= {"BTreeMap": (24, 8, 2), "BTreeSet": (24, 8, 1), "HashMap": (48, 8, 2), "HashSet": (48, 8, 1)}
 FIXED |= {"IndexMap": (72, 8, 2), "IndexSet": (72, 8, 1), "LruCache": (72, 8, 2), "Slab": (40, 8, 1), "IdRc": (8, 8, 1), "IdArc": (8, 8, 1)}
 FIXED |= {"IpAddr": (17, 1, 0), "Ipv4Addr": (4, 1, 0), "Ipv6Addr": (16, 1, 0), "Infallible": (0, 1, 0)}
+FIXED |= {"BoxedSlice": (16, 8, 1), "BoxedStr": (16, 8, 0), "LinkedList": (24, 8, 1), "BinaryHeap": (24, 8, 1)}
+FIXED |= {"FlameGraph": (40, 8, 0), "Ledger": (56, 8, 0), "Account": (64, 8, 0), "History": (40, 8, 0)}
 FIXED |= dict.fromkeys("Duration Instant SystemTime Number".split(), (16, 8, 0)) | {"Value": (32, 8, 0)}
 TAGGED = ("Option", "Result", "Either")
 COMPOSED = (*TAGGED, "ManuallyDrop", "UnsafeCell")
@@ -71,7 +73,7 @@ class Counting:
     def of_parts(self, kind: Type, path: str, parts: list[Counted | None]) -> Counted | None:
         """What counts for a type whose size follows from its parts."""
         known = [part for part in parts if part]
-        if len(known) < len(parts) or len(parts) > 5:
+        if len(known) < len(parts) or len(parts) > 8:
             return None
         inside, (size, align) = ", ".join(part.text for part in known), laid_out(known)
         if kind.form == "tuple":

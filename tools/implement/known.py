@@ -14,22 +14,23 @@ NUMBERS = {f"{form}{bits}": bits // 8 for form in FORMS for bits in (8, 16, 32, 
 NUMBERS |= {f"{form}size": 8 for form in FORMS} | {"u128": 16, "i128": 16, "f32": 4, "f64": 8, "char": 4}
 NUMBERS |= {"bool": 1, "AtomicBool": 1}
 STD = """String Vec Option Result Box VecDeque BTreeMap BTreeSet HashMap HashSet ManuallyDrop PhantomData
-    Duration Instant SystemTime IpAddr Ipv4Addr Ipv6Addr""".split()
+    BoxedSlice BoxedStr LinkedList BinaryHeap Duration Instant SystemTime IpAddr Ipv4Addr Ipv6Addr""".split()
 CELLS = "Cell RefCell OnceCell Mutex RwLock OnceLock".split()
 # The crate of each type that the library implements.
 HOMES = dict.fromkeys((*STD, *CELLS, *NUMBERS), "std") | {"Slab": "slab", "SmallVec": "smallvec", "Either": "either"}
 HOMES |= {"IndexMap": "indexmap", "IndexSet": "indexmap", "LruCache": "lru", "Value": "serde_json", "Number": "serde_json"}
 HOMES |= {"OnceBox": "once_cell", "Error": "anyhow", "IdRc": "allocative", "IdArc": "allocative"}
-HOMES |= {"BoundedCache": "allocative_service"}
+SERVICE = "BoundedCache Ledger Account History".split()
+HOMES |= {"FlameGraph": "allocative"} | dict.fromkeys(SERVICE, "allocative_service")
 # What containers ask of their keys.
 KEYS = dict.fromkeys(("HashMap", "HashSet", "IndexMap", "IndexSet", "LruCache", "BoundedCache"), ("Eq", "Hash"))
-KEYS |= dict.fromkeys(("BTreeMap", "BTreeSet"), ("Ord",))
+KEYS |= dict.fromkeys(("BTreeMap", "BTreeSet", "BinaryHeap"), ("Ord",))
 # What types ask of their first parameter.
 ASKED = KEYS | {"Cell": ("Copy",)}
 # How many parameters stand before the one that makes hashers, which is described and not shown.
-BEFORE_HASHER = {"HashMap": 2, "HashSet": 1, "IndexMap": 2, "IndexSet": 1, "LruCache": 2}
+BEFORE_HASHER = {"HashMap": 2, "HashSet": 1, "IndexMap": 2, "IndexSet": 1, "LruCache": 2, "BoundedCache": 2}
 # What keeps its items behind a pointer.
-POINTERS = {"Vec", "Box", "VecDeque", "Slab", "IdRc", "IdArc", "OnceBox", *KEYS}
+POINTERS = {"Vec", "Box", "BoxedSlice", "VecDeque", "LinkedList", "Slab", "IdRc", "IdArc", "OnceBox", *KEYS}
 # Traits with their paths, of which `Ord` alone implies another that a key needs.
 TRAITS = set("std cmp hash fmt Allocative Described Drop Clone Copy Debug PartialEq PartialOrd Eq Ord Hash".split())
 FUNCTIONS = ("fn(", "unsafe fn", "extern ", "unsafe extern")
@@ -37,7 +38,7 @@ FUNCTIONS = ("fn(", "unsafe fn", "extern ", "unsafe extern")
 NAME = re.compile(r"(?<![\w:'])[A-Za-z_]\w*(?!\w|::)")
 Path = tuple[str, ...]
 NOT_STRICT = {"OnceBox", *CELLS}
-NOT_COPY = {"String", "SmallVec", "Value", "Error", *POINTERS, *CELLS, *(name for name in NUMBERS if name.startswith("Atomic"))}
+NOT_COPY = {"String", "BoxedStr", "SmallVec", "Value", "Error", "FlameGraph", *SERVICE, *POINTERS, *CELLS, *(name for name in NUMBERS if name.startswith("Atomic"))}
 # Types that need no `use`.
 PRELUDE = {"String", "Vec", "Option", "Result", "Box", *(name for name in NUMBERS if name[0].islower())}
 
@@ -93,8 +94,8 @@ class Scope:
             return "" if is_lasting(kind) else f"`{kind.text}` is a reference"
         if kind.form == "other":
             return f"`{kind.text}` is no type that is read"
-        if kind.form == "tuple" and len(kind.parts) > 5:
-            return f"`{kind.text}` has more than five parts"
+        if kind.form == "tuple" and len(kind.parts) > 8:
+            return f"`{kind.text}` has more than eight parts"
         if kind.form == "path":
             if len(kind.path) == 1 and kind.name in parameters:
                 return ""

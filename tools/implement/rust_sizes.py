@@ -16,7 +16,7 @@ def of(layout: Layout, names: str) -> dict[str, Layout]:
 
 # Types whose size does not depend on parameters, by their crates.
 FIXED = {"std": of((24, 8), "OsString LinkedList BinaryHeap JoinHandle String Vec BTreeMap BTreeSet")}
-FIXED["std"] |= of((16, 8), "CString Sender SyncSender Receiver RandomState Layout TypeId Duration Instant SystemTime")
+FIXED["std"] |= of((16, 8), "CString Sender SyncSender Receiver RandomState Layout TypeId Duration Instant SystemTime BoxedSlice BoxedStr")
 FIXED["std"] |= of((8, 8), "Thread ThreadId AtomicPtr NonNull Stdin Stdout") | of((48, 8), "HashMap HashSet")
 FIXED["std"] |= of((4, 4), "File TcpListener TcpStream UdpSocket UnixStream Condvar Once") | of((40, 8), "Barrier")
 FIXED["std"] |= of((32, 8), "VecDeque")

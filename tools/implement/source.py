@@ -222,6 +222,10 @@ class Source:
                 return f"put the `{known.name}` into a struct of your own, or {size}"
             if path[:1] == ("std",) and path[-1] in ("Rc", "Arc") and kind.parts and not is_unsized(kind.parts[0]):
                 return f"write `Id{path[-1]}<{kind.parts[0].text}>` of `allocative`, or {size}"
+            held = kind.parts[0].text if kind.name == "Box" and kind.parts else ""
+            if held == "str" or held.startswith("["):
+                boxed = "BoxedStr" if held == "str" else f"BoxedSlice<{held[1:-1]}>"
+                return f"write `{boxed}` of `std::boxed`, or {size}"
         return size
 
     def passed_line(self) -> str:

@@ -6,7 +6,7 @@ import re
 from functools import reduce
 from typing import TYPE_CHECKING, Any, Callable, NamedTuple
 
-from .known import CELLS, NUMBERS, Scope, split_at_hasher
+from .known import CELLS, NUMBERS, SERVICE, Scope, split_at_hasher
 from .text import INDENT, WIDTH, bound, called, entered, holds, in_angles, joined, laid, pattern_of, size_of
 from .types import Definition, Member, Type, Variant
 
@@ -15,7 +15,8 @@ if TYPE_CHECKING:
     from .text import Writer
 
 # Types of the library that have no tally.
-UNTALLIED = set("PhantomData ManuallyDrop Value Number OnceBox LruCache BoundedCache Error IdRc IdArc".split()) | set(CELLS)
+UNTALLIED = set("PhantomData ManuallyDrop Value Number OnceBox LruCache Error IdRc IdArc FlameGraph".split())
+UNTALLIED |= {"BoxedSlice", "BoxedStr", "LinkedList", "BinaryHeap", *SERVICE, *CELLS}
 UNTALLIED |= {name for name in NUMBERS if name.startswith("Atomic")}
 # The containers of any number of items.
 MANY = set("Vec VecDeque BTreeMap BTreeSet HashMap HashSet IndexMap IndexSet".split())
@@ -56,7 +57,7 @@ class Part(NamedTuple):
 def reason(scope: Scope, kind: Type, parameters: tuple[str, ...]) -> str:
     """Why the values of a type have no tally, or nothing."""
     kind = scope.real(kind)
-    has_tally = kind.form in ("path", "array", "constant") or (kind.form == "tuple" and len(kind.parts) != 1)
+    has_tally = kind.form in ("path", "array", "constant") or (kind.form == "tuple" and len(kind.parts) in (0, 2, 3, 4, 5))
     own = scope.own(kind)
     if own:
         has_tally = own.name in scope.tallied or "Tallied" in scope.module.implemented.get(own.name, ())

@@ -6,7 +6,6 @@ use Rattle.allocative.proofs.Common.{Visitor, called, refused_inside, IsSum, Clo
 use Rattle.std.specs.Fn.{Once}
 use Rattle.allocative.specs.Closures.{CallShows, CallsInside, not_called, CalledAtRoot, AnswersSum, after_told}
 use Rattle.allocative.proofs.Visits.{adds_inline, entry_err, not_entered, adds_refused_err}
-pub use Rattle.allocative.proofs.Within.{same_err}
 use Rattle.allocative.proofs.Roots.{visits_root, held_by_visit}
 
 -- what is answered once the visitor is left

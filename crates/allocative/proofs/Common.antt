@@ -34,10 +34,9 @@ pub use Rattle.allocative.specs.Kinds.{IsSum, state_of}
 pub use Rattle.allocative.specs.Levels.{levels_shown}
 pub use Rattle.allocative.specs.Making.{Done, Entry, Makes, MakesPlan, Plan, entry_refused, gives, inside_refused, made}
 pub use Rattle.allocative.specs.Making.{made_none, makes, one}
-pub use Rattle.allocative.specs.Nested.{EndsWith, EndsWithout, IsRefused, LendsCollector, LendsNested, Nests}
-pub use Rattle.allocative.specs.Nested.{with_state}
+pub use Rattle.allocative.specs.Lending.{EndsWith, EndsWithout, IsRefused, LendsCollector, LendsNested, Nests, with_state}
 pub use Rattle.allocative.specs.Runs.{CountsRun}
-pub use Rattle.allocative.specs.Shared.{AnswersShared, answer_without_visitor, transpose}
+pub use Rattle.allocative.specs.Lending.{AnswersShared, answer_without_visitor, transpose}
 pub use Rattle.allocative.specs.StdShows.{in_any_order}
 pub use Rattle.allocative.specs.Visited.{Entered, Means, OnlyIf, Visited}
 pub use Rattle.allocative.specs.declared.visitor.Visitor.{Visitor}

@@ -1,12 +1,23 @@
--- How entries are made one after another and inside each other, by calls that visit no part.
-use Rattle.std.proofs.Common.{ℕ, Bool, true, false, List, [], ◌∷◌, ◌≡◌, Option, Some, Result, Ok, Err, refl, sym, ◌∙◌}
-use Rattle.std.proofs.Common.{subst, ap}
-use Rattle.allocative.proofs.Common.{Restore, Yields, Refusal, Key, State, Failed, Going, close_entry, HasFailed}
-use Rattle.allocative.proofs.Common.{stays_failed, is_entered, OpensEntry, Plan, Done, Entry, Makes, MakesPlan}
-use Rattle.allocative.proofs.Common.{made_none, made, entry_refused, inside_refused, Visitor, ClosesEntry}
+-- How entries are opened and made, one after another and inside each other, by calls that visit no part.
+use Rattle.std.proofs.Common.{ℕ, ◌+◌, ◌<◌, ◌^◌, Bool, true, false, List, [], ◌∷◌, ◌≡◌, Option, Some, Result, Ok, Err}
+use Rattle.std.proofs.Common.{refl, sym, ◌∙◌, subst, ap}
+use Rattle.allocative.proofs.Common.{Restore, Yields, Refusal, TooLarge, Key, Identity, Live, Kind, OfGraph, OfSum}
+use Rattle.allocative.proofs.Common.{Summing, count_entry, entry_bytes, ExceedsSum, State, Failed, Going, close_entry}
+use Rattle.allocative.proofs.Common.{HasFailed, OpensEntry, stays_failed, is_refused, is_entered, RefusesSized}
+use Rattle.allocative.proofs.Common.{OpensShared, stays_shared, is_refused_shared, is_too_large_shared, counts}
+use Rattle.allocative.proofs.Common.{enters_first, enters_again, ClosesEntry, Nothing, Inside, Field, already}
+use Rattle.allocative.proofs.Common.{FailsOnlyIfFull, Entered, Visitor, with_state, Plan, Done, Entry, Makes, MakesPlan}
+use Rattle.allocative.proofs.Common.{made_none, made, entry_refused, inside_refused, makes, gives, one, Showing}
 use Rattle.std.proofs.lemmas.Bool.{false≢true}
-use Rattle.allocative.proofs.Visits.{not_entered_cause}
-use Rattle.allocative.specs.Making.{followed_by_plan, had_failed, Keeps, MakesPlanOrGives, gives}
+use Rattle.allocative_collectors.specs.Places.{MeetsAs}
+use Rattle.allocative_graph.specs.Collector.{enter, leave, outer_of}
+use Rattle.allocative_graph.specs.Sums.{bytes_entered}
+use Rattle.allocative_graph.specs.Visits.{HasRoom, Refuses}
+use Rattle.allocative.specs.Making.{followed_by_plan, had_failed, Keeps, MakesPlanOrGives}
+use Rattle.allocative.specs.Strict as refuses
+use Rattle.allocative.proofs.Strict.{only_if_full_nothing, only_if_full_field, only_if_full_not_field}
+use Rattle.allocative.proofs.Visits.{adds_nothing, adds_field, not_entered, not_entered_cause, refuses_entry}
+use Rattle.allocative.proofs.Meaning.{entered_inline}
 
 -- ---- what was made goes on, and what was refused has failed
 abbrev pub is_going : State → Bool
@@ -47,6 +58,46 @@ pub makes_entry : {k : Key} {size : Option ℕ} {inside : Plan} {s t c d : State
     Makes (Entry k size inside Done) s (Ok x) d
 makes_entry {c = c} {o = o} {x = x} g m l e =
     rw (l.closes, e) (made g m (record { closes = refl }) (going_closed o c x (goes_on m)))
+
+-- An entry with nothing inside it.
+stays_in : {k : Key} {size : Option ℕ} {s : State} {o : Restore} {r : Refusal} →
+    OpensEntry false k size s (Ok o) (Failed r) → ⊥
+stays_in g = false≢true (goes_on (nothing_inside tt g))
+
+-- Making one entry of a declared size, whatever it returns, enters a field with nothing inside it.
+pub entered_alone_sized : {x : Bool} {k : Key} {size : Option ℕ} {a : Visitor} {t : State} {r : Result Unit Refusal} →
+    Makes (one k size) a.collector.now r t → Entered x (Field k size Nothing) a (with_state a t) r
+entered_alone_sized had_failed = record { same_reference = refl; same_outer = refl; shown = already; cause = refl; only_if_full = λ y. refuses.had_failed }
+entered_alone_sized {a = a} (made g made_none l made_none) =
+    record { same_reference = refl; same_outer = refl; shown = adds_field g refl (adds_nothing _ tt) l refl; cause = tt; only_if_full = λ y. only_if_full_field g (only_if_full_nothing _ tt) l }
+entered_alone_sized (made g made_none l had_failed) = absurd (cc l.closes)
+entered_alone_sized (entry_refused g) = record { same_reference = refl; same_outer = refl; shown = not_entered g; cause = not_entered_cause g; only_if_full = λ y. only_if_full_not_field g }
+entered_alone_sized (inside_refused g had_failed) = absurd (stays_in g)
+
+-- Making one entry of n bytes, whatever it returns, enters an inline entry with nothing inside it.
+pub entered_alone : {x : Bool} {k : Key} {n : ℕ} {a : Visitor} {t : State} {r : Result Unit Refusal} →
+    Makes (one k (Some n)) a.collector.now r t → Entered x (Inside k n Nothing) a (with_state a t) r
+entered_alone m = entered_inline (entered_alone_sized m)
+
+-- If an inline entry is opened, a plan is made inside it, and it is closed, the entry with the plan is made.
+pub makes_within : {k : Key} {size : Option ℕ} {inside : Plan} {o : Restore} {s t c d : State} {r : Result Unit Refusal} →
+    OpensEntry false k size s (Ok o) t → Makes inside t r c → ClosesEntry o c d → Makes (Entry k size inside Done) s r d
+makes_within {r = Ok v} g m e = makes_entry g m e refl
+makes_within {r = Err x} g m e = rw (failed_closed (makes_failed m) e) (inside_refused g m)
+
+-- If a call inside an entry makes no entry or is given an item, it makes that one entry or is given an item.
+pub gives_within : {S A : Type 0} {steps : S → Option A → S → Type 0} {x : S} {k : Key} {n : ℕ} {o : Restore}
+    {a b c : Visitor} {t : State} {r : Result Unit Refusal} → OpensEntry false k (Some n) a.collector.now (Ok o) t →
+    MakesPlanOrGives steps x Done (with_state a t) b r → ClosesEntry o b.collector.now c.collector.now →
+    MakesPlanOrGives steps x (one k (Some n)) a c r
+gives_within g (makes m) e = makes (makes_within g m e)
+gives_within g (gives y t h) e = gives y t h
+
+-- If a call over an iterator makes one entry, and this is refused, the call may return that error.
+pub gives_refused : {S A : Type 0} {steps : S → Option A → S → Type 0} {x : S} {k : Key} {n : ℕ} {a b : Visitor}
+    {e : Refusal} → OpensEntry false k (Some n) a.collector.now (Err e) b.collector.now →
+    MakesPlanOrGives steps x (one k (Some n)) a b (Err e)
+gives_refused g = makes (entry_refused g)
 
 -- ---- one plan after another
 -- Making one plan with Ok and then another is making the one followed by the other.
@@ -94,3 +145,82 @@ kept_after {t = t} {u = u} m = record {
   keeps =
       λ e h. let i = (failed_makes (subst (λ s. Makes Done s (Ok u) t) h m)).0 in cc;
 }
+
+-- Nothing is asked of a collector that had failed.
+pub only_if_full_failed : {p : Showing} {s t : State} {e : Refusal} {r : Result Unit Refusal} → Makes Done s (Err e) t →
+    FailsOnlyIfFull p s r t
+only_if_full_failed had_failed = refuses.had_failed
+
+-- ---- what the collector's own calls do, by what they find
+-- Opening an entry in a failed collector returns its cause and leaves it as it is.
+pub opens_failed : {u : Bool} {k : Key} {y : Option ℕ} {s t : State} {r : Refusal} → s ≡ Failed r → t ≡ Failed r →
+    OpensEntry u k y s (Err r) t
+opens_failed i j = rw (i, j) stays_failed
+
+-- Opening an entry may return an error that `RefusesSized` allows if the collector fails with that error.
+pub opens_refused : {u : Bool} {k : Key} {y : Option ℕ} (b : Kind) {s t : State} {e : Refusal} → s ≡ Going b →
+    RefusesSized u y b e → t ≡ Failed e → OpensEntry u k y s (Err e) t
+opens_refused b i h j = rw (i, j) (is_refused h)
+
+-- Opening an entry that has room adds it, with a visitor at it, and returns what closing it restores.
+pub opens_entered : {u : Bool} {k : Key} {y : Option ℕ} (n : ℕ) (b c : Kind) {o : Restore} {s t : State} → y ≡ Some n →
+    s ≡ Going b → HasRoom u n b → o ≡ outer_of n b → c ≡ enter u k n b → t ≡ Going c → OpensEntry u k y s (Ok o) t
+opens_entered n b c e i h f g j = rw (e, i, j) (is_entered h f g)
+
+-- ---- making an entry
+-- Making an entry in a failed collector returns its cause and leaves it as it is.
+pub makes_failed_entry : {k : Key} {y : Option ℕ} {s t : State} {r : Refusal} → s ≡ Failed r → t ≡ Failed r →
+    Makes (one k y) s (Err r) t
+makes_failed_entry i j = rw (i, j) had_failed
+
+-- Making an entry may return an error that `RefusesSized` allows if the collector fails with that error.
+pub makes_refused_entry : {k : Key} {y : Option ℕ} (b : Kind) {s t : State} {e : Refusal} → s ≡ Going b →
+    RefusesSized false y b e → t ≡ Failed e → Makes (one k y) s (Err e) t
+makes_refused_entry b i h j = entry_refused (opens_refused b i h j)
+
+-- Making an entry that has room adds it, closes it, and returns Ok.
+pub makes_one : {k : Key} {y : Option ℕ} (n : ℕ) (b c : Kind) {u : Unit} {s t : State} → y ≡ Some n → s ≡ Going b →
+    HasRoom false n b → c ≡ leave (outer_of n b) (enter false k n b) → t ≡ Going c → Makes (one k y) s (Ok u) t
+makes_one n b c e i h g j = rw (e, i, j, g)
+    (made (is_entered h refl refl) (made_none {u = tt}) (record { closes = refl }) made_none)
+
+-- ---- no entry
+-- Making no entry in a failed collector returns its cause and leaves it as it is.
+pub none_failed : {s : State} {r : Refusal} → s ≡ Failed r → Makes Done s (Err r) s
+none_failed i = rw i had_failed
+
+-- Making no entry in a collector that has not failed returns Ok and leaves it as it is.
+pub none_made : (b : Kind) {u : Unit} {s : State} → s ≡ Going b → Makes Done s (Ok u) s
+none_made b i = rw i made_none
+
+-- ---- opening a shared entry
+-- Opening a shared entry in a failed collector returns its cause and leaves it as it is.
+pub shared_failed : {k : Key} {n : ℕ} {i : Identity} {s t : State} {r : Refusal} → s ≡ Failed r → t ≡ Failed r →
+    OpensShared k n i s (Err r) t
+shared_failed i j = rw (i, j) stays_shared
+
+-- A collector of a sum counts a shared pointer if the sum fits a word, and no content is shown.
+pub shared_counted : {k : Key} {n : ℕ} {i : Identity} (a : Summing) {s t : State} → s ≡ Going (OfSum a) →
+    a.sum + entry_bytes a.figure true n < 2 ^ 64 → t ≡ Going (OfSum (count_entry true n a)) →
+    OpensShared k n i s (Ok false) t
+shared_counted a i r j = rw (i, j) (counts r refl)
+
+-- A collector of a sum refuses a shared pointer with TooLarge if the sum does not fit a word.
+pub shared_too_large : {k : Key} {n : ℕ} {i : Identity} (a : Summing) {s t : State} {e : Refusal} →
+    s ≡ Going (OfSum a) → e ≡ TooLarge → ExceedsSum true n a → t ≡ Failed e → OpensShared k n i s (Err e) t
+shared_too_large a i e r j = rw (i, j) (is_too_large_shared e r)
+
+-- A flame graph's collector refuses a shared entry as it refuses an inline entry of as many bytes.
+pub shared_refused : {k : Key} {n : ℕ} {i : Identity} (c : Live) {s t : State} {e : Refusal} → s ≡ Going (OfGraph c) →
+    Refuses false n (OfGraph c) e → t ≡ Failed e → OpensShared k n i s (Err e) t
+shared_refused c i h j = rw (i, j) (is_refused_shared h)
+
+-- A flame graph's collector shows the content of a shared entry that has room exactly if its identity is new.
+pub shared_met : {k : Key} {n : ℕ} {i : Identity} (c d : Live) (is_first : Bool) {s t : State} → s ≡ Going (OfGraph c) →
+    bytes_entered c.sums + n < 2 ^ 63 → MeetsAs k n i c is_first d → t ≡ Going (OfGraph d) →
+    OpensShared k n i s (Ok is_first) t
+shared_met c d true i r m j = rw (i, j) (enters_first r m.0 m.1)
+shared_met c d false i r m j = rw (i, j) (enters_again r m.0 m.1)
+
+-- The rules for the collector's own calls.
+pub ruleset opening = (opens_failed, opens_refused, opens_entered, makes_failed_entry, makes_refused_entry, makes_one, none_failed, none_made, shared_failed, shared_counted, shared_too_large, shared_refused, shared_met, refuses_entry)

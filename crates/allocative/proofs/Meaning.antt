@@ -1,5 +1,5 @@
 -- How the showing of a value follows from the part that enters it, word by word.
-use Rattle.std.proofs.Common.{◌≡◌, ℕ, Bool, true, false, ◌&&◌, Option, Some, None, Result, inl, inr, Ok, Err, refl}
+use Rattle.std.proofs.Common.{◌≡◌, ℕ, Bool, true, false, ◌&&◌, Option, Some, None, Result, inl, inr, Ok, Err, refl, ◌∙◌}
 use Rattle.allocative.proofs.Common.{Refusal, TooLarge, Key, Identity, Forest, Showing, Nothing, Both, InsideAs, Inside}
 use Rattle.allocative.proofs.Common.{Unique, Field, IsField, sized, Shared, IsDeclared, Visitor, Visited}
 use Rattle.allocative.proofs.Common.{Entered, Means, OnlyIf}
@@ -7,8 +7,8 @@ use Rattle.std.proofs.lemmas.Bool.{false≢true, and_parts, and_from}
 use Rattle.allocative.specs.Visited.{AnyEffect, Refused}
 use Rattle.allocative.proofs.Strict.{declared_first, declared_second, declared_both, declared_inside, declared_entry}
 use Rattle.allocative.proofs.Strict.{declared_content, declared_shared, only_if_full_nothing, only_if_full_weaker}
-use Rattle.allocative.proofs.Strict.{only_if_full_undeclared, not_strict}
-use Rattle.allocative.proofs.Visits.{adds_weaker, adds_nothing, adds_refused}
+use Rattle.allocative.proofs.Strict.{only_if_full_undeclared, not_strict, only_if_full_first, only_if_full_both}
+use Rattle.allocative.proofs.Visits.{adds_weaker, adds_nothing, adds_both, adds_err, adds_refused}
 
 -- ---- which visits are strict
 -- A visit that is never strict needs no strict part.
@@ -47,6 +47,10 @@ means_then m l = record { means = λ f a. l.means f (m.means f a); declared = λ
 -- A showing means another that allows the same forests.
 pub means_either : {x : Bool} {p q : Showing} → ((f : Forest) → p f → q f) → ((f : Forest) → q f → p f) → Means x p q
 means_either up down = record { means = up; declared = λ h d. (d.0, down d.0 d.1, d.2) }
+
+-- In a visit that is not strict, a showing means any that allows all that it allows.
+pub loosely : {p q : Showing} → ((f : Forest) → p f → q f) → Means false p q
+loosely up = record { means = up; declared = λ i d. absurd (false≢true i) }
 
 -- If p means q, an entry with p inside it means the same entry with q inside it.
 inside_as : (u : Bool) (k : Key) (n : ℕ) {x : Bool} {p q : Showing} → Means x p q →
@@ -158,6 +162,28 @@ visited h = record { same_reference = h.same_reference; same_outer = h.same_oute
 pub entered_none : {x : Bool} {p : Showing} (a : Visitor) → Means x Nothing p → Entered x p a a (Ok tt)
 entered_none a m =
     entered_as {p = Nothing} (record { same_reference = refl; same_outer = refl; shown = adds_nothing _ tt; cause = tt; only_if_full = λ i. only_if_full_nothing _ tt }) m
+
+-- An error that is passed on, of the first part or of the second.
+pub entered_passed : {d x : Bool} {p q : Showing} {a b : Visitor} {e : Refusal} {r : Result Unit Refusal} → r ≡ Err e →
+    OnlyIf x d → Entered d p a b (Err e) → Entered x (Both p q) a b r
+entered_passed is o s = rw is (record {
+  same_reference = s.same_reference;
+  same_outer = s.same_outer;
+  shown = adds_err s.shown;
+  cause = s.cause;
+  only_if_full = λ y. only_if_full_first (s.only_if_full (o.follows y));
+})
+
+-- If p is entered with Ok and q after it, p followed by q is entered, and is strict only if each of them is.
+pub entered_both : {d e x : Bool} {p q : Showing} {a b c : Visitor} {u : Unit} {r : Result Unit Refusal} → OnlyIf x d →
+    OnlyIf x e → Entered d p a b (Ok u) → Entered e q b c r → Entered x (Both p q) a c r
+entered_both o w f s = record {
+  same_reference = s.same_reference ∙ f.same_reference;
+  same_outer = s.same_outer ∙ f.same_outer;
+  shown = adds_both f.shown s.shown;
+  cause = s.cause;
+  only_if_full = λ i. only_if_full_both (f.only_if_full (o.follows i)) (s.only_if_full (w.follows i));
+}
 
 -- An error that is returned by hand, which need not be one that must be.
 pub entered_refused : {p : Showing} {q e : Refusal} {a b : Visitor} → Refused q a b e → Entered false p a b (Err e)

@@ -1,32 +1,35 @@
 -- What a visit by a root visitor amounts to.
 use Rattle.std.proofs.Common.{◌≡◌, ℕ, suc, ◌+◌, ◌<◌, ◌≤◌, ◌^◌, inr, Option, Some, None, List, length}
 use Rattle.std.proofs.Common.{take, get_or, Bool, IsTrue, Result, Ok, Err, IsErr, refl, ap, sym, subst, ◌∙◌, arith, inl}
-use Rattle.std.proofs.Common.{IfOk, IfErr}
+use Rattle.std.proofs.Common.{IfOk, IfErr, [], ◌∷◌, ◌++◌, drop, take-append-drop, true, false}
 use Rattle.allocative.proofs.Common.{Restore, Refusal, TooLarge, Forest, followed_by, add_all, held, ShowsNoContent, Kind}
 use Rattle.allocative.proofs.Common.{OfGraph, OfSum, State, Failed, Going, leave, plus, Takes, visitors}
 use Rattle.allocative.proofs.Common.{is_graph, begin, outer_of, close_entry, nothing_held, Showing, Both}
 use Rattle.allocative.proofs.Common.{each_shows, AddsForest, refused, hidden, forgotten, OpensRoot, Settles, VisitsRoot}
 use Rattle.allocative.proofs.Common.{Profile, IsProfileOf, IsSum, MayRefuse, FailsOnlyIfFull, has_added}
-use Rattle.allocative.proofs.Common.{has_refused, RootFailsOnlyIfFull, ClosesEntry}
+use Rattle.allocative.proofs.Common.{has_refused, RootFailsOnlyIfFull, ClosesEntry, all_bytes, HasRoomFor, CanTake}
 use Rattle.allocative.specs.SizeOf.{AnswersSize, AnswersVisit, AnswersVisitOf}
-use Rattle.allocative.specs.RefusedVisits.{RefusesVisit}
-use Rattle.allocative.proofs.Within.{err_or, same_err}
+use Rattle.allocative.specs.RefusedVisits.{RefusesVisit, RefusesVisits}
+use Rattle.allocative.proofs.Visits.{err_or, same_err, each_and_one}
 use Rattle.allocative.specs.Visited.{Effect, WasVisited, VisitsRootWithEffect, not_begun, root_visited}
 use Rattle.allocative_graph.specs.Forest.{met_after, Fits, own, all}
 use Rattle.allocative_graph.specs.Sums.{sums_of}
 use Rattle.allocative_graph.specs.Meaning.{content_of}
 use Rattle.allocative_graph.specs.Graph.{Graph, graph, warnings, warned_paths, sum_of}
-use Rattle.allocative_graph.specs.Collector.{entries_at, IsClosed, IsAtRoot, no_entries, forest_bytes}
+use Rattle.allocative_graph.specs.Collector.{go, entries_at, IsClosed, IsAtRoot, no_entries, forest_bytes}
 use Rattle.allocative_graph.specs.Owned.{direct}
 use Rattle.allocative_graph.specs.Visits.{added, Ends, IsProfile, IsSumOfTwo}
 use Rattle.allocative_graph.proofs.Plus.{plus-following, takes_both, visitors-leave, closed-visitors, closed-plus}
 use Rattle.allocative_graph.proofs.Plus.{figure_after-zero, figure_after-none}
 use Rattle.allocative_graph.proofs.Plus.{is_graph-plus, is_graph-leave, is_graph-begin}
-use Rattle.allocative.proofs.Showing.{each_and_one}
+use Rattle.allocative.proofs.Strict.{bytes_entered-plus, can_first, can_second, may_refuse, each_append, declared_append}
 use Rattle.allocative_graph.proofs.Reach.{all_is_meaning, reaches_exactly}
 use Rattle.allocative_graph.proofs.Showings.{one_sums}
 use Rattle.allocative_graph.proofs.Showings.{whole_following, graphs_add}
-use Rattle.std.proofs.lemmas.List.{take_more}
+use Rattle.std.specs.List.{list_all}
+use Rattle.std.proofs.lemmas.Bool.{false≢true}
+use Rattle.std.proofs.lemmas.List.{take_more, drop_more}
+use Rattle.std.proofs.lemmas.List.Folds.{list_all_at}
 
 -- If no visitor was open, exactly one is open after a root visitor was opened.
 visitors-begin : (b : Kind) → IsClosed b → visitors (begin b) ≡ 1
@@ -180,6 +183,73 @@ pub visits_one_more : {T : Type 0} (p : T → Showing) (xs : List T) (i : ℕ) (
 visits_one_more p xs i x s m t u v w f g h e =
     let e' = take_more xs i x h in
     rw (e', ← e) (visits_joined s m t u v w (each_and_one p (take i xs) x) f g)
+
+-- ---- a root that is refused after others
+-- Entries that are added with a root visitor open take as much room as without it.
+room_begun : (b : Kind) (f g : Forest) → HasRoomFor (plus (begin b) f) g → HasRoomFor (begin (plus b f)) g
+room_begun (OfGraph c) f g h = subst (λ (n : ℕ). n + all_bytes g < 2 ^ 63)
+    (bytes_entered-plus (go [] c) f ∙ sym (bytes_entered-plus c f)) h
+room_begun (OfSum s) f g h = h
+
+-- If all roots can be taken, so can one of them after those before it.
+can_among : {T : Type 0} (p : T → Showing) (front : List T) (x : T) (back : List T) (b : Kind) (f : Forest) →
+    each_shows p front f → CanTake (begin b) (each_shows p (front ++ x ∷ back)) → CanTake (begin (plus b f)) (p x)
+can_among p front x back b f a w =
+    let both : CanTake (begin b) (Both (each_shows p front) (each_shows p (x ∷ back))) =
+    (declared_append p front (x ∷ back) w.0, λ g y. w.1 g (each_append p front (x ∷ back) g y)) in
+    let after = can_second (begin b) f a both in
+    can_first (begin (plus b f)) (after.0, λ g y. room_begun b f g (after.1 g y))
+
+-- A root that is refused may be refused as one of all roots. What is strict of all is strict of it.
+only_if_full_among : {T : Type 0} (w y : Bool) (p : T → Showing) (front : List T) (x : T) (back : List T)
+    (s m t : State) (u : Unit) (e : Refusal) → (IsTrue w → IsTrue y) →
+    VisitsRoot (each_shows p front) s (Ok u) m → RootFailsOnlyIfFull y (p x) m (Err e) t →
+    RootFailsOnlyIfFull w (each_shows p (front ++ x ∷ back)) s (Err e) t
+only_if_full_among w y p front x back (Failed r) m t u e only g h = tt
+only_if_full_among w y p front x back (Going b) (Failed r) t u e only g h = absurd g
+only_if_full_among w y p front x back (Going b) (Going c) t u e only (z, f, a, k, i) h = λ strict closed.
+    let r = h (only strict) z in
+    let m : MayRefuse (p x) (begin (plus b f)) e = subst (λ (v : Kind). MayRefuse (p x) (begin v) e) i r.1 in
+    let same : is_graph (begin b) ≡ is_graph (begin (plus b f)) =
+    is_graph-begin b ∙ sym (is_graph-plus b f) ∙ sym (is_graph-begin (plus b f)) in
+    (r.0, may_refuse (begin (plus b f)) (begin b) (can_among p front x back b f a) same e m)
+
+-- The list is the items before the one with this index, that item, and those after it.
+pub around_item : {T : Type 0} (xs : List T) (i : ℕ) (x : T) → i < length xs → x ≡ get_or xs i x →
+    take i xs ++ x ∷ drop (i + 1) xs ≡ xs
+around_item xs i x l e = (λ k. take i xs ++ e k ∷ drop (i + 1) xs)
+    ∙ ap (λ ys. take i xs ++ ys) (sym (drop_more xs i x l)) ∙ take-append-drop i xs
+
+-- The root with this index is refused after the roots before it were visited.
+pub only_if_full_indexed : {T : Type 0} (w y : Bool) (p : T → Showing) (xs : List T) (i : ℕ) (x : T) (s m t : State)
+    (u : Unit) {e : Refusal} {r : Result Unit Refusal} → (IsTrue w → IsTrue y) → r ≡ Err e →
+    VisitsRoot (each_shows p (take i xs)) s (Ok u) m → RootFailsOnlyIfFull y (p x) m (Err e) t → i < length xs →
+    x ≡ get_or xs i x → RootFailsOnlyIfFull w (each_shows p xs) s r t
+only_if_full_indexed w y p xs i x s m t u {e} only err g k l is =
+    rw (← around_item xs i x l is, err) (only_if_full_among w y p (take i xs) x (drop (i + 1) xs) s m t u e only g k)
+
+-- The root with this index is refused with what its visit left, after the roots before it were visited.
+pub refused_indexed : {T : Type 0} (p : T → Showing) (effect : T → Effect) (xs : List T) (i : ℕ) (x : T) (s m : State)
+    {e : Refusal} {r : Result Unit Refusal} → r ≡ Err e → VisitsRoot (each_shows p (take i xs)) s (Ok tt) m →
+    RefusesVisit (p x) (effect x) m e → i < length xs → x ≡ get_or xs i x → IfErr r (RefusesVisits p effect xs s)
+refused_indexed p effect xs i x s m err k h l is = rw err (inr (record {
+  before = take i xs;
+  root = x;
+  after = drop (i + 1) xs;
+  are = sym (around_item xs i x l is);
+  left = m;
+  visited = k;
+  refused = h;
+}))
+
+-- If all roots are strict, so is the root with this index.
+pub one_of_all : {T : Type 0} (q : T → Bool) (xs : List T) (i : ℕ) (x : T) → i < length xs → x ≡ get_or xs i x →
+    IsTrue (list_all q xs) → IsTrue (q x)
+one_of_all q xs i x l is all = by_case (q x) refl
+  where
+    by_case : (b : Bool) → b ≡ q x → IsTrue b
+    by_case true h = refl
+    by_case false h = absurd (false≢true (sym (list_all_at q xs i x l (ap q (sym is) ∙ sym h)) ∙ all))
 
 -- ---- a whole run
 -- If p is visited in an empty collector that ends with a profile, a whole showing of p has that profile.

@@ -9,7 +9,6 @@ use Rattle.allocative.proofs.Common.{FailsOnlyIfFull, with_state, Entered, Means
 use Rattle.std.proofs.lemmas.List.{map-append, length-map}
 use Rattle.std.proofs.lemmas.List.Sums.{sum_by-cons}
 use Rattle.std.proofs.lemmas.List.Elements.{All-nil, All-cons, All-head, All-tail}
-use Rattle.std.proofs.lemmas.Bool.{false≢true}
 use Rattle.std.proofs.lemmas.Bool.Decides.{nat_tests}
 use Rattle.std.proofs.lemmas.List.Sorted.{IsPermutation-refl, IsPermutation-sym, All-permutation}
 use Rattle.std.proofs.lemmas.Iterator.{YieldsList, items_from_drains}
@@ -17,16 +16,15 @@ use Rattle.std.specs.Iterator.{Drains, AlwaysYields}
 use Rattle.std.specs.List.{All}
 use Rattle.slab.specs.Slab.{entries_from}
 use Rattle.allocative.specs.Runs.{RefusesAlong, RefusesCounted, CanCount, IsOfRun}
-use Rattle.allocative.proofs.Meaning.{entered_if, entered_as, strict_never, strict_same}
-use Rattle.allocative.specs.Iterators.{EntersRun, EntersData}
-use Rattle.allocative.specs.Making.{MakesPlanOrGives, Done, first_refused, first_entered}
+use Rattle.allocative.proofs.Meaning.{entered_if, entered_as, entered_both, entered_passed, loosely, strict_never}
+use Rattle.allocative.proofs.Meaning.{strict_same}
+use Rattle.allocative.specs.Making.{EntersRun, EntersData, MakesPlanOrGives, Done, first_refused, first_entered}
 use Rattle.allocative.proofs.Strict.{declared_nothing, declared_first, declared_second, declared_both, declared_append}
 use Rattle.allocative.proofs.Strict.{each_append, each_one, entry_fits, not_strict, only_if_full_as, only_if_full_within}
 use Rattle.allocative.proofs.Strict.{only_if_full_not_within}
-use Rattle.allocative.proofs.Visits.{adds_inline, entry_err, close_cause, not_entered, not_entered_cause}
-use Rattle.allocative.proofs.Within.{entered_both, entered_passed, gives_within, gives_refused}
-use Rattle.allocative.proofs.Bodies.{plain_slice, each_slice, entry_declared, checked_fits, none_of_it}
-use Rattle.allocative.proofs.Showing.{adds_weaker}
+use Rattle.allocative.proofs.Visits.{adds_inline, adds_weaker, entry_err, close_cause, not_entered, not_entered_cause}
+use Rattle.allocative.proofs.Making.{gives_within, gives_refused}
+use Rattle.allocative.proofs.ContainerMeaning.{plain_slice, each_slice, entry_declared, checked_fits, none_of_it}
 
 -- Items in two runs are the items one after another.
 means_append : {T : Type 0} {d : Bool} (p : T → Showing) (xs ys : List T) →
@@ -43,10 +41,6 @@ entered_next v p xs x f s =
     record { means = each_one p (v x); declared = λ i d. declared_first d } in
     rw map-append (entered_as (entered_both strict_same strict_same f (entered_as s one))
     (means_append p (map v xs) (v x ∷ [])))
-
--- What is not strict is only allowed.
-loosely : {p q : Showing} → ((f : Forest) → p f → q f) → Means false p q
-loosely up = record { means = up; declared = λ i d. absurd (false≢true i) }
 
 -- What was entered of one whole run was entered of some whole run, but need not be strict.
 pub entered_run : {S A B : Type 0} {e : Bool} {steps : S → Option A → S → Type 0} {s : S} {v : A → B}
@@ -154,12 +148,6 @@ entered_list {q = q} {all = all} y h k = record {
   cause = h.cause;
   only_if_full = λ i. k.along i all y.runs;
 }
-
--- If every run gives the same list, what was entered of some run was entered of it, but need not be strict.
-pub list_entered : {S A B : Type 0} {e : Bool} {steps : S → Option A → S → Type 0} {s : S} {v : A → B}
-    {q : List B → Showing} {all : List B} {a b : Visitor} {r : Result (Unit {0}) Refusal} →
-    YieldsList steps v s all → Entered e (IsOfRun steps s v q) a b r → Entered false (q all) a b r
-list_entered {q = q} y h = entered_if h strict_never (loosely (of_list {q = q} y))
 
 -- If items are declared in some order, they are declared in their own order.
 any_order_declared : {B : Type 0} (p : B → Showing) (xs : List B) → IsDeclared (in_any_order p xs) →

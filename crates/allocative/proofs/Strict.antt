@@ -1,7 +1,6 @@
 -- How visits that refuse only if they must compose: one after another, inside an entry, and as a shared content.
 use Rattle.std.proofs.Common.{◌≡◌, ℕ, ◌+◌, ◌<◌, ◌^◌, Bool, true, false, ◌&&◌, IsTrue, List, [], ◌∷◌, ◌++◌}
 use Rattle.std.proofs.Common.{flat_map, Option, Some, None, inl, inr, Result, Ok, Err, refl, sym, ◌∙◌, ap, subst, arith}
-use Rattle.std.proofs.Common.{◌-◌}
 use Rattle.allocative.proofs.Common.{Restore, Refusal, Memory, TooLarge, Key, Identity, Forest, Empty, First, Again}
 use Rattle.allocative.proofs.Common.{followed_by, entry_of, add_all, Live, Kind, OfGraph, OfSum, State, Failed}
 use Rattle.allocative.proofs.Common.{Going, plus, enter, enter_first, Takes, is_graph, outer_of, leave}
@@ -378,22 +377,19 @@ each_one p x f h = (f, Empty, h, refl, sym (followed_by-empty f))
 
 -- ---- a shared entry
 -- If a visit fails only if full at a new content that is opened and closed, so does the visit of the shared entry.
-pub only_if_full_content : {p : Showing} {k : Key} {n : ℕ} {i : Identity} {is_first : Bool} (o : Restore)
+pub only_if_full_content : {p : Showing} {k : Key} {n : ℕ} {i : Identity} {o : Restore} {is_first : Bool}
     {s t c d : State} {r : Result Unit Refusal} →
     OpensShared k n i s (Ok is_first) t → is_first ≡ true → FailsOnlyIfFull p t r c → ClosesEntry o c d →
     FailsOnlyIfFull (Shared k n i p) s r d
-only_if_full_content {p} {k} {n} {i} o g is h l = inner (rw is at g) h l
-  where
-    inner : {s t c d : State} {r : Result Unit Refusal} → OpensShared k n i s (Ok true) t → FailsOnlyIfFull p t r c →
-        ClosesEntry o c d → FailsOnlyIfFull (Shared k n i p) s r d
-    inner (enters_first {c = b} room new e) (has_added {c = c} f x t j) m =
-        let t' : Takes (OfGraph (enter_first k n i b)) f = subst (λ (z : Live). Takes (OfGraph z) f) e t in
-        rw m.closes (has_added {b = OfGraph b} {c = leave o c} (First k n i f Empty) (inl (f, x, refl))
-        (takes_shared k n i b f new t') (cc (inside_first k n i b f o)))
-    inner (enters_first {c = b} room new e) (has_refused {e = r} w) m =
-        let w' : MayRefuse p (OfGraph (enter_first k n i b)) r = subst (λ (z : Live). MayRefuse p (OfGraph z) r) e w in
-        rw m.closes (has_refused (may_refuse (OfGraph (enter_first k n i b)) (OfGraph b) (can_content k n i b) refl r
-        w'))
+only_if_full_content {k = k} {n} {i} {o} (enters_first {c = b} room new e) is (has_added {c = c} f x t j) m =
+    let t' : Takes (OfGraph (enter_first k n i b)) f = subst (λ (z : Live). Takes (OfGraph z) f) e t in
+    rw m.closes (has_added {b = OfGraph b} {c = leave o c} (First k n i f Empty) (inl (f, x, refl))
+    (takes_shared k n i b f new t') (cc (inside_first k n i b f o)))
+only_if_full_content {p} {k} {n} {i} (enters_first {c = b} room new e) is (has_refused {e = r} w) m =
+    let w' : MayRefuse p (OfGraph (enter_first k n i b)) r = subst (λ (z : Live). MayRefuse p (OfGraph z) r) e w in
+    rw m.closes (has_refused (may_refuse (OfGraph (enter_first k n i b)) (OfGraph b) (can_content k n i b) refl r w'))
+only_if_full_content (counts r e) is f m = absurd (false≢true is)
+only_if_full_content (enters_again r h e) is f m = absurd (false≢true is)
 
 -- If the content of an opened shared entry is not to be shown, a visit that returns Ok then fails only if full.
 pub only_if_full_again : {p : Showing} {k : Key} {n : ℕ} {i : Identity} {is_first : Bool} {s t : State} {x : Unit} →

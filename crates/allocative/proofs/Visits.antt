@@ -127,20 +127,16 @@ out_of_first k n i b d h e o w (added {c = c} f q t m) =
     let t' : Takes (OfGraph (enter_first k n i b)) f = subst (λ (x : Live). Takes (OfGraph x) f) e t in
     added (First k n i f Empty) (inl (f, q, refl)) (takes_shared k n i b f h t') (cc (inside_first k n i b f o))
 
--- A shared entry with a new identity shows its content, if the content's visit returns Ok and it is closed.
-pub adds_shared : {p : Showing} {k : Key} {n : ℕ} {i : Identity} {q : Restore} {s t a c d : State} {v x : Unit} →
-    OpensShared k n i s (Ok true) t → a ≡ t → AddsForest p a (Ok v) c → ClosesEntry q c d →
-    AddsForest (Shared k n i p) s (Ok x) d
-adds_shared {p} {k} {n} {i} {q} {c = c} {v = v} {x = x} (enters_first {c = b} {d = d} r h e) z s g =
-    let s' : AddsForest p (Going (OfGraph d)) (Ok v) c = subst (λ (y : State). AddsForest p y (Ok v) c) z s in
-    rw g.closes (out_of_first k n i b d h e q x s')
-
--- A shared entry with its content, with the result of entering as it was tested.
-pub adds_content : {p : Showing} {k : Key} {n : ℕ} {i : Identity} {q : Restore} {is_first : Bool} {s t a c d : State}
+-- If the content of a shared entry is to be shown, its visit returns Ok, and it is closed, the entry shows its content.
+pub adds_shared : {p : Showing} {k : Key} {n : ℕ} {i : Identity} {q : Restore} {is_first : Bool} {s t a c d : State}
     {v x : Unit} →
     OpensShared k n i s (Ok is_first) t → is_first ≡ true → a ≡ t → AddsForest p a (Ok v) c → ClosesEntry q c d →
     AddsForest (Shared k n i p) s (Ok x) d
-adds_content g is z s l = adds_shared (rw is at g) z s l
+adds_shared {p} {k} {n} {i} {q} {c = c} {v = v} {x = x} (enters_first {c = b} {d = d} r h e) is z s g =
+    let s' : AddsForest p (Going (OfGraph d)) (Ok v) c = subst (λ (y : State). AddsForest p y (Ok v) c) z s in
+    rw g.closes (out_of_first k n i b d h e q x s')
+adds_shared (counts r e) is z s g = absurd (false≢true is)
+adds_shared (enters_again r h e) is z s g = absurd (false≢true is)
 
 -- If a shared entry is opened and its content is not to be shown, the pointer alone is shown.
 pub adds_again : {p : Showing} {k : Key} {n : ℕ} {i : Identity} {is_first : Bool} {s t : State} {x : Unit} →
@@ -164,18 +160,25 @@ entry_err {p = p} {w = w} {c = c} {z = y} (is_entered {c = d} r f e) i s l =
     rw l.closes (inside_failed w (subst (λ (z : State). AddsForest p z (Err y) c) i s))
 
 -- If the visit of a shared content returns an error and the entry is closed, the visit around it may too.
-pub shared_err : {p q : Showing} {k : Key} {n : ℕ} {i : Identity} {w : Restore} {s t a c d : State} {z x : Refusal} →
-    OpensShared k n i s (Ok true) t → a ≡ t → AddsForest p a (Err z) c → ClosesEntry w c d → AddsForest q s (Err x) d
-shared_err {p = p} {w = w} {c = c} {z = y} (enters_first {d = d} r f e) i s l =
+pub shared_err : {p q : Showing} {k : Key} {n : ℕ} {i : Identity} {w : Restore} {is_first : Bool} {s t a c d : State}
+    {z x : Refusal} →
+    OpensShared k n i s (Ok is_first) t → is_first ≡ true → a ≡ t → AddsForest p a (Err z) c → ClosesEntry w c d →
+    AddsForest q s (Err x) d
+shared_err {p = p} {w = w} {c = c} {z = y} (enters_first {d = d} r f e) is i s l =
     rw l.closes (inside_failed w (subst (λ (z : State). AddsForest p z (Err y) c) i s))
+shared_err (counts r e) is i s l = absurd (false≢true is)
+shared_err (enters_again r h e) is i s l = absurd (false≢true is)
 
 -- ---- refusals
--- A result that is some Err.
-pub any_err : {p : Showing} {s t : State} {e : Refusal} (r : Result Unit Refusal) → IsErr r → AddsForest p s (Err e) t →
-    AddsForest p s r t
-any_err (Ok u) h w = absurd (false≢true h)
-any_err (Err x) h already = already
-any_err (Err x) h refused = refused
+-- The error of a result, and e if there is none.
+abbrev pub err_or : {T : Type 0} → Refusal → Result T Refusal → Refusal
+err_or e (Ok u) = e
+err_or e (Err x) = x
+
+-- If a result is an error and that error is e, the result is Err e.
+pub same_err : {T : Type 0} {e : Refusal} (r : Result T Refusal) → IsErr r → e ≡ err_or e r → r ≡ Err e
+same_err (Ok u) h i = absurd (false≢true h)
+same_err (Err x) h i = ap Err (sym i)
 
 -- An entry that is refused shows nothing more.
 pub not_entered : {u : Bool} {q : Showing} {k : Key} {y : Option ℕ} {s t : State} {e : Refusal} →

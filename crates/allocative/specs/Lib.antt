@@ -5,20 +5,15 @@ pub mod Levels
 pub mod Making
 pub mod Closures
 pub mod Runs
-pub mod Iterators
 pub mod Bodies
 pub mod StdShows
 pub mod JsonShows
 pub mod PackShows
 pub mod Roots
 pub mod Kinds
-pub mod Shared
 pub mod Lending
-pub mod Nested
-pub mod Rooted
 pub mod RefusedVisits
 pub mod SizeOf
-pub mod InTwo
 -- The definitions of the crates below are exported again.
 pub use Rattle.allocative_described.specs.Sizes
 pub use Rattle.allocative_graph.specs.Path

@@ -1,12 +1,15 @@
--- What calls that visit no part return: their entries are made in reading order, each refused as entering says.
+-- What calls that visit no part return: their entries are made in reading order, each refused as entering says. And
+-- what calls do that visit the items of an iterator.
 use Rattle.std.specs.Prelude.{◌≡◌, ℕ, ◌-◌, Bool, true, false, List, length, Option, Some, Result, Ok, Err, codes}
 use Rattle.allocative_described.specs.Sizes.{size_product}
 use Rattle.allocative_graph.specs.declared.refusal.Refusal.{Refusal}
 use Rattle.allocative_graph.specs.Path.{Key}
 use Rattle.allocative_graph.specs.Collector.{Kind, State, Failed, Going, Restore}
+use Rattle.allocative_graph.specs.Shows.{Showing, Inside, each_shows}
 use Rattle.allocative_graph.specs.Visits.{OpensEntry, HasFailed, ClosesEntry}
 use Rattle.allocative.specs.Bodies.{are_shown_each}
-use Rattle.allocative.specs.Runs.{CountsRun}
+use Rattle.allocative.specs.Runs.{CountsRun, IsOfRun, RefusesAlong}
+use Rattle.allocative.specs.Visited.{Entered}
 use Rattle.allocative.specs.declared.visitor.Visitor.{Visitor}
 
 -- Inline entries to be made: none; or one of a declared size, with some inside it and others after it.
@@ -89,3 +92,23 @@ abbrev pub MakesPlanRun : {S A : Type 0} → (S → Option A → S → Type 0) �
 MakesPlanRun steps s name size true old new r = MakesPlanOrGives steps s Done old new r
 MakesPlanRun steps s name size false old new r =
     (count : Option ℕ) × CountsRun steps s count × MakesPlan (one name (size_product size count)) old new r
+
+-- ---- over an iterator
+-- The collector was shown what q allows for the items of some whole run of an iterator that starts at s; v is what a
+-- contract sees of an item.
+abbrev pub EntersRun : {S A B : Type 0} → (S → Option A → S → Type 0) → S → (A → B) → (List B → Showing)
+    → Visitor → Visitor → Result (Unit {0}) Refusal → Type 0
+EntersRun steps s v q = Entered false (IsOfRun steps s v q)
+
+-- The inline entry `data` of 8 bytes, with what p says of each item that an iterator at s gives inside it; v is what a
+-- contract sees of an item.
+pub record EntersData {S A B : Type 0} (is_strict : Bool) (steps : S → Option A → S → Type 0) (s : S) (v : A → B)
+    (p : B → Showing) (old new : Visitor) (r : Result (Unit {0}) Refusal) : Type 0 where
+  -- The items are those of some whole run.
+  pub entered : Entered false (Inside (codes "data") 8 (IsOfRun steps s v (each_shows p))) old new r
+  -- Items of strict types are refused only where they must be, if every run gives the same items.
+  pub only_if_full : RefusesAlong is_strict steps s v (λ xs. Inside (codes "data") 8 (each_shows p xs)) old new r
+  -- The entry comes before what is inside it.
+  pub first : MakesFirst (codes "data") (Some 8) old new r
+  -- If the iterator gives no item, the entry is all that is made.
+  pub plan : MakesPlanOrGives steps s (one (codes "data") (Some 8)) old new r

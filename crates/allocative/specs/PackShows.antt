@@ -1,9 +1,10 @@
 -- What types of other crates may show, in terms of what contracts see of them.
-use Rattle.std.specs.Prelude.{ℕ, Bool, List, Option, codes, length}
+use Rattle.std.specs.Prelude.{ℕ, ◌-◌, ◌*◌, Bool, List, Option, codes, length}
 use Rattle.either.specs.declared.Either.{Either}
 use Rattle.either.specs.declared.Either.TheVariants.{Left, Right}
 use Rattle.smallvec.specs.SmallVec.{SmallVec, IsSpilled}
 use Rattle.slab.specs.Slab.{Slab, values, slab_len}
+use Rattle.allocative_described.specs.Sizes.{checked}
 use Rattle.allocative_graph.specs.Path.{Key}
 use Rattle.allocative_graph.specs.Forest.{Forest}
 use Rattle.allocative_graph.specs.Shows.{Showing, Nothing, Both, Unique, Field, each_shows, slice_shows}
@@ -60,3 +61,8 @@ abbrev pub lru_cache_inside : {K V : Type 0} → Option ℕ → (K → Showing) 
     → Showing
 lru_cache_inside s p t q es =
     Both (Unique (codes "ptr") 8 (each_shows (pair_shows s p t q) es)) (table_shows (length es))
+
+-- What is inside the own entry of a flame graph of so many paths: a pointer, with the bytes of a node for each path but
+-- the root's.
+abbrev pub graph_inside : ℕ → Showing
+graph_inside paths = Unique (codes "ptr") 8 (Field (codes "Child") (checked ((paths - 1) * 56)) Nothing)

@@ -14,6 +14,7 @@ pub mod containers;
 pub mod named;
 
 use crate::{Allocative, Described, Identity, Key, Refusal, Visitor};
+use allocative_graph::restore::Restore;
 use either::Either;
 
 /// The key that a part takes: a text, as in `Field("name", &self.name)`, or a key, as in
@@ -229,9 +230,10 @@ impl<P: Part> Part for Shared<P> {
             .collector
             .open_shared(self.key, self.size, self.identity)?;
         if is_first {
-            let mut content = visitor.collector.content();
-            self.content.enter(&mut content)?;
-            content.exit();
+            // Only a flame graph's collector shows contents, and it keeps its own places.
+            let answer = self.content.enter(visitor);
+            visitor.collector.close_entry(Restore::none());
+            return answer;
         }
         Ok(())
     }

@@ -5,8 +5,7 @@ ghost use Rattle.std.specs.Prelude.{◌≡◌, IfOk, IfErr, Some, true, false};
 ghost use Rattle.allocative_graph.specs.Shows.{Inside, Nothing};
 ghost use Rattle.allocative.specs.Making.{MakesPlan, one};
 ghost use Rattle.allocative.specs.Visited.{Entered, WasVisited, Refused, Exits};
-ghost use Rattle.allocative.specs.Nested.{LendsNested, LendsShared, Nests, EntersShared, IsRefused};
-ghost use Rattle.allocative.specs.Shared.{transpose};
+ghost use Rattle.allocative.specs.Lending.{LendsNested, LendsShared, Nests, EntersShared, IsRefused, transpose};
 ghost use Rattle.std.specs.Borrow.{sem};
 
 pub mod by_hand;

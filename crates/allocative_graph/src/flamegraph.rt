@@ -20,6 +20,7 @@ use std::marker::Model;
 use std::mem;
 
 mod at_path;
+mod described;
 
 pub use at_path::add_at;
 

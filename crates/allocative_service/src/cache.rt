@@ -15,7 +15,7 @@ use crate::measure::Measure;
 use allocative::{Allocative, Described};
 use lru::{Iter, LruCache};
 use std::alloc::{AllocError, AllocFailed, Global};
-use std::hash::Hash;
+use std::hash::{BuildHasher, BuildHasherDefault, FoldHasher, Hash};
 use std::marker::Model;
 
 /// A value, and its declared bytes as they were measured when it was inserted.
@@ -28,17 +28,21 @@ pub struct Kept<V> {
 }
 
 /// A map whose values have together at most as many declared bytes as its bound. When a new value needs room, the
-/// least recently used values are evicted, and each of them is handed back to the caller.
+/// least recently used values are evicted, and each of them is handed back to the caller. `S` makes the hashers of keys.
 #[derive(Drop)]
-pub struct BoundedCache<K: Eq + Hash, V: Allocative + Described> {
+pub struct BoundedCache<
+    K: Eq + Hash,
+    V: Allocative + Described,
+    S: BuildHasher = BuildHasherDefault<FoldHasher>,
+> {
     alloc: Global,
     measure: Measure,
-    entries: LruCache<K, Kept<V>>,
+    entries: LruCache<K, Kept<V>, S>,
     bytes: usize,
     bound: usize,
 }
 
-impl<K: Eq + Hash, V: Allocative + Described> Model for BoundedCache<K, V> {
+impl<K: Eq + Hash, V: Allocative + Described, S: BuildHasher> Model for BoundedCache<K, V, S> {
     ghost use Rattle.std.specs.Prelude.{◌≡◌, ◌-◌, ◌^◌};
     ghost use Rattle.allocative_service.specs.Entries.{Bounded, bounded, bytes_of, IsBounded};
 
@@ -53,8 +57,8 @@ impl<K: Eq + Hash, V: Allocative + Described> Model for BoundedCache<K, V> {
 /// Puts the pair first, in place of an entry with an equal key. It returns the old value and its bytes. The other
 /// entries stay: a list is never so long that the capacity would evict one.
 #[tactic(auto, using(crate::proofs::Inserting::putting))]
-pub(crate) fn put<K: Eq + Hash + Drop, V: Drop>(
-    entries: &mut LruCache<K, Kept<V>>,
+pub(crate) fn put<K: Eq + Hash + Drop, V: Drop, S: BuildHasher + Drop>(
+    entries: &mut LruCache<K, Kept<V>, S>,
     key: K,
     kept: Kept<V>,
 ) -> Result<(Option<V>, usize), AllocFailed<(K, Kept<V>)>>
@@ -79,8 +83,8 @@ pub(crate) fn put<K: Eq + Hash + Drop, V: Drop>(
 
 /// Evicts the least recently used entries, until all have at most `room` bytes. It passes each evicted entry to the
 /// closure, and returns the bytes of those that stay.
-fn evict<K: Eq + Hash, V: Drop, F: FnMut(K, V)>(
-    entries: &mut LruCache<K, Kept<V>>,
+fn evict<K: Eq + Hash, V: Drop, S: BuildHasher, F: FnMut(K, V)>(
+    entries: &mut LruCache<K, Kept<V>, S>,
     bytes: u128,
     room: usize,
     mut on_evict: F,
@@ -105,13 +109,28 @@ fn evict<K: Eq + Hash, V: Drop, F: FnMut(K, V)>(
 }
 
 impl<K: Eq + Hash + Drop, V: Allocative + Described> BoundedCache<K, V> {
-    ghost use Rattle.allocative_service.specs.contracts.cache.BoundedCache.{the_row};
-
-    /// An empty cache with a bound in bytes, as the measure counts them. The only error is that memory runs out.
+    /// An empty cache with a bound in bytes, as the measure counts them. The hasher has a fixed seed: for keys that an
+    /// attacker picks, use `with_hasher` with a `RandomState`. The only error is that memory runs out.
     pub fn new(alloc: Global, measure: Measure, bound: usize) -> Result<Self, AllocError>
         ensures { IfOk result (λ c. c ≡ bounded [] bound measure) }
     {
-        let entries = LruCache::unbounded(alloc)?;
+        BoundedCache::with_hasher(alloc, measure, bound, BuildHasherDefault::new())
+    }
+}
+
+impl<K: Eq + Hash + Drop, V: Allocative + Described, S: BuildHasher + Drop> BoundedCache<K, V, S> {
+    ghost use Rattle.allocative_service.specs.contracts.cache.BoundedCache.{the_row};
+
+    /// As `new`, with what makes the hashers of keys.
+    pub fn with_hasher(
+        alloc: Global,
+        measure: Measure,
+        bound: usize,
+        hash_builder: S,
+    ) -> Result<Self, AllocError>
+        ensures { IfOk result (λ c. c ≡ bounded [] bound measure) }
+    {
+        let entries = LruCache::unbounded_with_hasher(alloc, hash_builder)?;
         Ok(BoundedCache {
             alloc,
             measure,
@@ -245,8 +264,8 @@ impl<K: Eq + Hash + Drop, V: Allocative + Described> BoundedCache<K, V> {
     /// The value under the key, which becomes the most recently used.
     pub fn get(&mut self, key: &K) -> Option<&V>
         ensures* order { sem 𝓛 (ends_as
-            (the_row K.row V.row (record {}) (record { eq = K.eq }) (record { hash_input = K.hash_input }) V.Allocative
-            V.Described) self.entry (used (K.eq key.now) self.old)) }
+            (the_row K.row V.row S.row S.Hasher.row (record {}) (record { eq = K.eq })
+            (record { hash_input = K.hash_input }) V.Allocative V.Described S.BuildHasher S.Hasher.Hasher) self.entry (used (K.eq key.now) self.old)) }
         ensures value { option_copied result ≡ value_at (K.eq key.now) self.old.entries }
     {
         let kept = self.entries.get(key)?;

@@ -7,6 +7,7 @@ ghost use Rattle.allocative_service.specs.Changes.{data_of, changes_of};
 ghost use Rattle.allocative_service.specs.History.{profiles_of, most_of, two_of, Keeps, TakesProfile, GrewMostBetween};
 
 pub mod changes;
+mod shown;
 pub mod text;
 mod walk;
 

@@ -5,6 +5,7 @@ ghost use Rattle.allocative_service.specs.AccountData.{all_bytes};
 pub mod account;
 pub mod budget;
 pub mod rejection;
+mod shown;
 
 pub use crate::ledger::account::Account;
 pub use crate::ledger::budget::Budget;

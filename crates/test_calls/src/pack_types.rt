@@ -4,7 +4,7 @@ ghost use Rattle.std.specs.Prelude.{true};
 ghost use Rattle.allocative.specs.JsonShows.{stored_map};
 
 use crate::texts::{shows, shows_room};
-use allocative::{Allocative, Refusal, Visitor, visit_json_map};
+use allocative::{Allocative, FlameGraph, Refusal, Visitor, visit_json_map};
 use either::Either;
 use indexmap::{IndexMap, IndexSet};
 use lru::LruCache;
@@ -154,6 +154,13 @@ fn pairs_of_a_cache(rt: HostRuntime) -> Result<(), Fail> {
     let text =
         "LruCache 56\nLruCache;ptr 8\nLruCache;ptr;key;u8 2\nLruCache;ptr;value;u64 16\nLruCache;raw_table 8\nLruCache;raw_table;alloc 36\n";
     shows(rt.alloc(), &two_recent(rt.alloc())?, text)
+}
+
+#[test]
+fn nodes_of_a_graph(rt: HostRuntime) -> Result<(), Fail> {
+    let graph = FlameGraph::read(rt.alloc(), "a 1\na;b 2\n")?;
+    let text = "FlameGraph 32\nFlameGraph;ptr 8\nFlameGraph;ptr;Child 112\n";
+    shows(rt.alloc(), &graph, text)
 }
 
 /// Three bytes with room for 100 more.

@@ -7,11 +7,12 @@ ghost use Rattle.allocative.specs.Shows.{Nothing};
 use crate::texts::{is_text, shows};
 use allocative::{Allocative, FlameGraph, Part, Refusal, Visitor};
 use allocative_service::cache::{BoundedCache, CacheError};
-use allocative_service::history::{compare, grew_most, report};
+use allocative_service::history::{History, compare, grew_most, report};
 use allocative_service::ledger::{Budget, Ledger, Rejection};
 use allocative_service::measure::Measure;
 use std::alloc::{AllocError, Global};
 use std::cell::Cell;
+use std::hash::RandomState;
 use std::test::Fail;
 
 /// A value without entries that counts its visits.
@@ -91,6 +92,49 @@ fn entries_of_a_bounded_cache(rt: HostRuntime) -> Result<(), Fail> {
     let text =
         "BoundedCache 24\nBoundedCache;entries;LruCache 56\nBoundedCache;entries;LruCache;ptr 8\nBoundedCache;entries;LruCache;ptr;key;u8 2\nBoundedCache;entries;LruCache;ptr;value;Kept 16\nBoundedCache;entries;LruCache;ptr;value;Kept;value;u64 16\nBoundedCache;entries;LruCache;raw_table 8\nBoundedCache;entries;LruCache;raw_table;alloc 36\n";
     shows(rt.alloc(), &two_kept(rt.alloc())?, text)
+}
+
+#[test]
+fn a_bounded_cache_of_a_random_hasher(rt: HostRuntime) -> Result<(), Fail> {
+    let state = RandomState::new(&rt)?;
+    let empty: BoundedCache<u8, u64, RandomState> = BoundedCache::with_hasher(
+        rt.alloc(),
+        Measure::Owned,
+        16,
+        state,
+    )?;
+    let text =
+        "BoundedCache 24\nBoundedCache;entries;LruCache 64\nBoundedCache;entries;LruCache;ptr 8\n";
+    shows(rt.alloc(), &empty, text)
+}
+
+/// A ledger with one entry of one tenant.
+fn one_admitted(alloc: Global) -> Result<Ledger, Rejection> {
+    let mut ledger = Ledger::new(alloc, Measure::Owned);
+    ledger.open("ada", Budget { limit: 8 })?;
+    let _bytes = ledger.admit("ada", 1, &2u64)?;
+    Ok(ledger)
+}
+
+#[test]
+fn accounts_of_a_ledger(rt: HostRuntime) -> Result<(), Fail> {
+    let text =
+        "Ledger 32\nLedger;accounts;BTreeMap 16\nLedger;accounts;BTreeMap;data;key;String 16\nLedger;accounts;BTreeMap;data;key;String;ptr 8\nLedger;accounts;BTreeMap;data;key;String;ptr;capacity;u8 3\nLedger;accounts;BTreeMap;data;value;Account 40\nLedger;accounts;BTreeMap;data;value;Account;entries;BTreeMap 16\nLedger;accounts;BTreeMap;data;value;Account;entries;BTreeMap;data;key;u64 8\nLedger;accounts;BTreeMap;data;value;Account;entries;BTreeMap;data;value;usize 8\nIncorrect size declaration for node `Ledger;accounts;BTreeMap;data`, size of self: 8, size of inline children: 88\nIncorrect size declaration for node `Ledger;accounts;BTreeMap;data;value;Account;entries;BTreeMap;data`, size of self: 8, size of inline children: 16\n";
+    shows(rt.alloc(), &one_admitted(rt.alloc())?, text)
+}
+
+/// A history of one profile, of a number.
+fn one_profile(alloc: Global) -> Result<History, Refusal> {
+    let mut history = History::new(alloc, 2);
+    history.take_profile(alloc, &1u64)?;
+    Ok(history)
+}
+
+#[test]
+fn profiles_of_a_history(rt: HostRuntime) -> Result<(), Fail> {
+    let text =
+        "History 8\nHistory;profiles;VecDeque 24\nHistory;profiles;VecDeque;ptr 8\nHistory;profiles;VecDeque;ptr;FlameGraph 32\nHistory;profiles;VecDeque;ptr;FlameGraph;ptr 8\nHistory;profiles;VecDeque;ptr;FlameGraph;ptr;Child 56\n";
+    shows(rt.alloc(), &one_profile(rt.alloc())?, text)
 }
 
 /// Changes of three paths, of which two grew alike.

@@ -6,11 +6,13 @@ ghost use Rattle.allocative.specs.Shows as shows;
 
 use crate::huge::Huge;
 use crate::texts::shows;
-use allocative::{Allocative, Field, IdArc, Identity, Inside, Part, Refusal, Visitor};
+use allocative::{Allocative, Field, FlameGraph, IdArc, Identity, Inside, Part, Refusal, Visitor};
 use allocative_described::{
     And, Described, Or, Record, raw_table_alloc_size_for_len, shared_inner_size,
 };
 use allocative_service::cache::BoundedCache;
+use allocative_service::history::History;
+use allocative_service::ledger::{Account, Ledger};
 use either::Either;
 use indexmap::{IndexMap, IndexSet};
 use lru::LruCache;
@@ -18,8 +20,9 @@ use once_cell::race::OnceBox;
 use serde_json::{Number, Value};
 use slab::Slab;
 use smallvec::SmallVec;
+use std::boxed::{BoxedSlice, BoxedStr};
 use std::cell::{Cell, OnceCell, RefCell};
-use std::collections::{BTreeMap, BTreeSet, HashMap, HashSet, VecDeque};
+use std::collections::{BTreeMap, BTreeSet, BinaryHeap, HashMap, HashSet, LinkedList, VecDeque};
 use std::convert::Infallible;
 use std::hash::RandomState;
 use std::marker::PhantomData;
@@ -168,9 +171,13 @@ fn types_of_std(rt: HostRuntime) {
     let are_right = [
         is::<&'static u128>("&", 8, 8, false),
         is::<Box<u128>>("Box", 8, 8, true),
+        is::<BoxedSlice<u128>>("Box", 16, 8, true),
+        is::<BoxedStr>("Box", 16, 8, true),
         is::<Vec<u128>>("Vec", 24, 8, true),
         is::<String>("String", 24, 8, true),
         is::<VecDeque<u128>>("VecDeque", 32, 8, true),
+        is::<LinkedList<u128>>("LinkedList", 24, 8, true),
+        is::<BinaryHeap<u128>>("BinaryHeap", 24, 8, true),
         is::<BTreeMap<u128, u8>>("BTreeMap", 24, 8, true),
         is::<BTreeSet<u128>>("BTreeSet", 24, 8, true),
         is::<HashMap<u64, u8>>("HashMap", 48, 8, true),
@@ -199,6 +206,9 @@ fn composed_types(rt: HostRuntime) {
         is::<(u32, String, u8)>("tuple3", 32, 8, true),
         is::<(u8, u16, u8, u8)>("tuple4", 6, 2, false),
         is::<(u8, u8, u8, u8, Box<u8>)>("tuple5", 16, 8, true),
+        is::<(u8, u16, u8, u8, u8, u32)>("tuple6", 12, 4, false),
+        is::<(Box<u8>, u8, u8, u8, u8, u8, u8)>("tuple7", 16, 8, true),
+        is::<(u8, u8, u8, u8, u8, u8, u8, u64)>("tuple8", 16, 8, false),
         is::<Option<u32>>("Option", 8, 4, false),
         is::<Option<Box<u8>>>("Option", 16, 8, true),
         is::<Result<u8, u16>>("Result", 4, 2, false),
@@ -241,6 +251,11 @@ fn types_of_other_crates(rt: HostRuntime) {
         is::<IndexSet<u64, RandomState>>("IndexSet", 72, 8, true),
         is::<LruCache<u64, u8>>("LruCache", 72, 8, true),
         is::<BoundedCache<u8, u64>>("BoundedCache", 96, 8, true),
+        is::<BoundedCache<u8, u64, RandomState>>("BoundedCache", 96, 8, true),
+        is::<FlameGraph>("FlameGraph", 40, 8, true),
+        is::<History>("History", 40, 8, true),
+        is::<Ledger>("Ledger", 56, 8, true),
+        is::<Account>("Account", 64, 8, true),
         is::<Slab<u128>>("Slab", 40, 8, true),
         is::<Value>("Value", 32, 8, true),
         is::<Number>("Number", 16, 8, false),
@@ -275,6 +290,7 @@ fn sizes_that_do_not_fit(rt: HostRuntime) {
     let sizes = [
         Option::<Huge>::size(),
         <(Huge, u8)>::size(),
+        <(u8, u8, u8, u8, u8, Huge)>::size(),
         <Record<(Huge, (u8, ()))>>::size(),
         <Record<And<(Huge, ()), (u8, ())>>>::size(),
         <Record<Or<(Huge, (u8, ())), ()>>>::size(),
@@ -290,7 +306,7 @@ fn sizes_that_do_not_fit(rt: HostRuntime) {
         OnceLock::<Huge>::size(),
         shared_inner_size::<Huge>(),
     ];
-    assert_sizes(&rt, &sizes, &[None; 16]);
+    assert_sizes(&rt, &sizes, &[None; 17]);
     assert_sizes(&rt, &[<[Huge; 1]>::size()], &[Some(usize::MAX)]);
 }
 

@@ -2,8 +2,9 @@
 use crate::texts::{is_graph, show, shows, shows_room};
 use allocative::{IdArc, IdRc, Identity, Refusal, profile_value, size_of_unique_allocated_data};
 use std::alloc::{AllocError, Global};
+use std::boxed::{BoxedSlice, BoxedStr};
 use std::cell::{Cell, OnceCell, RefCell};
-use std::collections::{HashMap, HashSet, VecDeque};
+use std::collections::{BinaryHeap, HashMap, HashSet, LinkedList, VecDeque};
 use std::hash::RandomState;
 use std::marker::PhantomData;
 use std::mem::ManuallyDrop;
@@ -107,6 +108,18 @@ fn parts_in_place(rt: HostRuntime) -> Result<(), Fail> {
                 &(1u8, 2u8, 3u8, 4u8, 5u8),
                 "tuple5;0;u8 1\ntuple5;1;u8 1\ntuple5;2;u8 1\ntuple5;3;u8 1\ntuple5;4;u8 1\n",
             ),
+            (
+                &(1u8, 2u8, 3u8, 4u8, 5u8, 6u8),
+                "tuple6;0;u8 1\ntuple6;1;u8 1\ntuple6;2;u8 1\ntuple6;3;u8 1\ntuple6;4;u8 1\ntuple6;5;u8 1\n",
+            ),
+            (
+                &(1u8, 2u8, 3u8, 4u8, 5u8, 6u8, 7u8),
+                "tuple7;0;u8 1\ntuple7;1;u8 1\ntuple7;2;u8 1\ntuple7;3;u8 1\ntuple7;4;u8 1\ntuple7;5;u8 1\ntuple7;6;u8 1\n",
+            ),
+            (
+                &(1u8, 2u8, 3u8, 4u8, 5u8, 6u8, 7u8, 8u8),
+                "tuple8;0;u8 1\ntuple8;1;u8 1\ntuple8;2;u8 1\ntuple8;3;u8 1\ntuple8;4;u8 1\ntuple8;5;u8 1\ntuple8;6;u8 1\ntuple8;7;u8 1\n",
+            ),
             (&None::<u32>, "Option 8\n"),
             (&Some(1u32), "Option 4\nOption;Some;u32 4\n"),
             (&error, "Result 2\nResult;Err;u16 2\n"),
@@ -174,6 +187,27 @@ fn pointers(rt: HostRuntime) -> Result<(), Fail> {
     shows(alloc, &Some(Box::new(alloc, 1u8)?), text)?;
     let text = "Rc;ptr 8\nRcInner 16\nRcInner;u64 8\n";
     shows(alloc, &IdRc::new(alloc, 1u64, Identity::from(7))?, text)
+}
+
+#[test]
+fn slices_and_texts_in_boxes(rt: HostRuntime) -> Result<(), Fail> {
+    let alloc = rt.alloc();
+    let three = BoxedSlice::from_slice(alloc, &[1u16, 2, 3])?;
+    shows(alloc, &three, "Box;ptr 16\nBox;ptr;u16;data;u16 6\n")?;
+    let text = BoxedStr::from_str(alloc, "abc")?;
+    shows(alloc, &text, "Box;ptr 16\nBox;ptr;str 3\n")
+}
+
+#[test]
+fn items_of_a_list_and_a_heap(rt: HostRuntime) -> Result<(), Fail> {
+    let alloc = rt.alloc();
+    let list = LinkedList::from_array(alloc, [1u64, 2])?;
+    let text =
+        "LinkedList 16\nLinkedList;ptr 8\nLinkedList;ptr;data;u64 16\nLinkedList;ptr;links 32\n";
+    shows(alloc, &list, text)?;
+    let heap = BinaryHeap::from_array(alloc, [1u32, 2])?;
+    let text = "BinaryHeap 16\nBinaryHeap;ptr 8\nBinaryHeap;ptr;u32 8\n";
+    shows(alloc, &heap, text)
 }
 
 /// A pointer and its clone.

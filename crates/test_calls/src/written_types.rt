@@ -1,6 +1,7 @@
 //! The text of types by hand, of `example_types`, and of those whose implementations `bin/implement` wrote.
 use crate::texts::{is_text, show, shows};
 use allocative::{Key, Named as Root, Refusal, profile_values};
+use bytes::Bytes;
 use example_types::enums::Request;
 use example_types::gauges::Gauge;
 use example_types::groups::Sale;
@@ -13,12 +14,16 @@ use example_types::trees::Tree;
 use example_types::wrappers::{Day, Document, Weather};
 use std::alloc::{AllocError, Global};
 use std::collections::{BTreeMap, HashMap};
+use std::net::{IpAddr, Ipv4Addr, SocketAddr};
 use std::path::PathBuf;
 use std::rc::Rc;
 use std::sync::{Mutex, RwLock};
 use std::test::Fail;
 use test_generated_types::placed::OfOne;
+use test_generated_types::received::Received;
 use test_generated_types::types::{Event, Found, Job, Json, Payload, Placed, Table, Trigger};
+use url::Url;
+use uuid::Uuid;
 
 #[test]
 fn types_in_place(rt: HostRuntime) -> Result<(), Fail> {
@@ -43,6 +48,27 @@ fn types_in_place(rt: HostRuntime) -> Result<(), Fail> {
             ),
         ],
     )
+}
+
+fn received(alloc: Global) -> Result<Received, Fail> {
+    let Ok(callback) = Url::parse(alloc, "http://a/") else {
+        return Err(Fail::new("no link"));
+    };
+    Ok(Received {
+        id: Uuid::nil(),
+        callback,
+        body: Bytes::from_static(b"abcd"),
+        peer: SocketAddr::new(IpAddr::V4(Ipv4Addr::new(127, 0, 0, 1)), 80),
+        file: PathBuf::from_str(alloc, "a/b")?,
+        tried: None,
+    })
+}
+
+#[test]
+fn fields_without_an_implementation(rt: HostRuntime) -> Result<(), Fail> {
+    let text =
+        "Received 7\nReceived;body;Bytes 24\nReceived;body;Bytes;ptr 8\nReceived;body;Bytes;ptr;u8 4\nReceived;callback;Url 80\nReceived;callback;Url;ptr 8\nReceived;callback;Url;ptr;u8 9\nReceived;file;PathBuf 16\nReceived;file;PathBuf;ptr 8\nReceived;file;PathBuf;ptr;u8 3\nReceived;id;Uuid 16\nReceived;peer;SocketAddr 32\nReceived;tried;Option 17\n";
+    shows(rt.alloc(), &received(rt.alloc())?, text)
 }
 
 #[test]

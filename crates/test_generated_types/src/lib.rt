@@ -3,4 +3,5 @@
 
 pub mod order;
 pub mod placed;
+pub mod received;
 pub mod types;

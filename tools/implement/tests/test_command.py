@@ -143,6 +143,34 @@ class CommandTest(unittest.TestCase):
         told = self.run_it(head + "    a: HashMap<u8, u8, Own>,\n}\n")[2]
         self.assertIn("A.a: `Own` makes hashers, and is no type that is described", told[0])
 
+    def test_lists_boxes_and_services(self) -> None:
+        head = "use allocative::FlameGraph;\nuse allocative_service::{cache::*, history::History, ledger::{Account, Ledger}};\nuse std::boxed::*;\nuse std::collections::*;\nuse std::hash::RandomState;\n#[derive(Drop)]\nstruct A {\n"
+        for kind, skipped in (
+            ("BoxedSlice<BoxedStr>", "16 bytes"),
+            ("LinkedList<String>", "24 bytes"),
+            ("BinaryHeap<u8>", "24 bytes"),
+            ("FlameGraph", "40 bytes"),
+            ("History", "40 bytes"),
+            ("Ledger", "56 bytes"),
+            ("Account", "64 bytes"),
+            ("(u8, u8, u8, u8, u8, u8, u8, u32)", "12 bytes"),
+            ("BoundedCache<u8, u8, RandomState>", "0 bytes, and 1 of a size that only the checker knows"),
+        ):
+            with self.subTest(kind):
+                status, output, told = self.run_it(f"{head}    a: {kind},\n}}\n", "--counted")
+                self.assertEqual((status, len(told), "A has no tally" in told[0]), (0, 1, True))
+                self.assertIn(f"type ALayout = Record<({kind}, ())>;", output)
+                self.assertIn("    ghost is_strict = { true };\n", output)
+                told = self.run_it(f"{head}    // allocative: skip\n    a: {kind},\n}}\n")[2]
+                self.assertEqual(told, [f"implement: 1 field is passed over: {skipped}"])
+        for kind, what in (
+            ("(u8, u8, u8, u8, u8, u8, u8, u8, u8)", "has more than eight parts"),
+            ("BinaryHeap<f64>", "`BinaryHeap<f64>` asks `f64: Ord`"),
+            ("Box<[u8]>", "write `BoxedSlice<u8>` of `std::boxed`, or write above it `// allocative: size 16`"),
+            ("Box<str>", "write `BoxedStr` of `std::boxed`"),
+        ):
+            self.assertIn(what, self.run_it(f"{head}    a: {kind},\n}}\n")[2][0])
+
     def test_a_cache_of_the_service_library(self) -> None:
         head = "use allocative_service::cache::BoundedCache;\n#[derive(Drop)]\nstruct A<K> {\n"
         told = self.run_it(head + "    a: BoundedCache<K, u8>,\n}\n")[2]

@@ -1,13 +1,10 @@
 //! What the types of the language and of `std` show.
+mod boxed;
 mod cells;
 mod choice;
 mod collections;
-mod mem;
-mod net;
+mod lists;
+mod long_tuple;
 mod pointer;
-mod primitive;
-mod shared;
-mod sync;
-mod text;
-mod time;
+mod simple;
 mod tuple;

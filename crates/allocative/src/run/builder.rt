@@ -7,7 +7,7 @@ ghost use Rattle.allocative_graph.specs.Collector.{Going, OfGraph, no_entries};
 ghost use Rattle.allocative_graph.specs.Visits.{VisitsRoot, Settles, Ends, IsProfile};
 ghost use Rattle.allocative.specs.Strict.{RootFailsOnlyIfFull};
 ghost use Rattle.allocative.specs.RefusedVisits.{RefusesVisit};
-ghost use Rattle.allocative.specs.Rooted.{LendsBuilt, LendsRoot};
+ghost use Rattle.allocative.specs.Roots.{LendsBuilt, LendsRoot};
 ghost use Rattle.allocative.specs.Visited.{OpensRootAt};
 ghost use Rattle.std.specs.Borrow.{sem};
 

@@ -4,7 +4,7 @@
 ghost use Rattle.std.specs.Prelude.{IfOk, IfErr};
 ghost use Rattle.allocative_graph.specs.Shows.{each_shows};
 ghost use Rattle.allocative_graph.specs.Visits.{IsSumOfTwo};
-ghost use Rattle.allocative.specs.InTwo.{RefusesInTwo};
+ghost use Rattle.allocative.specs.RefusedVisits.{RefusesInTwo};
 
 use crate::{Allocative, Described, FlameGraph, Refusal, profile_values};
 use std::alloc::Global;

@@ -27,13 +27,13 @@
 ghost use Rattle.std.specs.Prelude.{◌≡◌, IfOk, IfErr, Some, true, false};
 ghost use Rattle.std.specs.Borrow.{sem};
 ghost use Rattle.allocative_graph.specs.Visits.{RefusesEntry};
-ghost use Rattle.allocative.specs.Lending.{LendsEntered, LendsPointed, Borrows, OpensEntryAt, OpensSharedAt};
-ghost use Rattle.allocative.specs.Nested.{LendsCollector};
-ghost use Rattle.allocative.specs.Shared.{AnswersShared, answer_without_visitor};
+ghost use Rattle.allocative.specs.Lending.{LendsEntered, LendsPointed, Borrows, OpensEntryAt, OpensSharedAt, LendsCollector};
+ghost use Rattle.allocative.specs.Lending.{AnswersShared, answer_without_visitor};
 ghost use Rattle.allocative.specs.Visited.{collector_of as state_of};
 
 use crate::visitor::collector::Collector;
 use crate::{Identity, Key, Refusal, Visitor};
+use allocative_graph::restore::Restore;
 
 /// The collector of the visitor. The visitor ends with what is left of it; nothing else of the visitor changes.
 #[inline(always)]
@@ -89,7 +89,11 @@ pub fn enter_content(
         (λ o. AnswersShared key size id collector.old (answer_without_visitor o)) }
 {
     match collector.open_shared(key, size, id) {
-        Ok(true) => Ok(collector.content()),
+        // Only a flame graph's collector shows contents, and it keeps its own places.
+        Ok(true) => Ok(Visitor {
+            collector,
+            outer: Restore::none(),
+        }),
         Ok(false) => Err(None),
         Err(refusal) => Err(Some(refusal)),
     }

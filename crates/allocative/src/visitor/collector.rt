@@ -1,5 +1,5 @@
 //! The collectors: that of a flame graph, and that of a sum of held or of owned bytes.
-#![tactic(auto, using(crate::proofs::Opening::opening))]
+#![tactic(auto, using(crate::proofs::Making::opening))]
 
 ghost use Rattle.std.specs.Prelude.{◌≡◌, ◌<◌, ◌^◌, false, IfOk, IfErr};
 ghost use Rattle.allocative_graph.specs.Graph.{total};
@@ -228,7 +228,6 @@ impl Collector {
 impl Collector {
     ghost use Rattle.std.specs.Borrow.{sem};
     ghost use Rattle.std.specs.Prelude.{Err};
-    ghost use Rattle.allocative_graph.specs.Collector.{no_outer};
     ghost use Rattle.allocative_graph.specs.Visits.{RefusesEntry, VisitsRoot};
     ghost use Rattle.allocative.specs.Lending.{LendsEntered, OpensEntryAt, LendsBegun};
     ghost use Rattle.allocative.specs.Strict.{RootFailsOnlyIfFull};
@@ -252,20 +251,6 @@ impl Collector {
             collector: self,
             outer,
         })
-    }
-
-    /// A visitor at the content of a shared value, when `open_shared` returned that it is to be
-    /// shown. It allocates nothing.
-    pub(crate) fn content(&mut self) -> Visitor<'_>
-        ensures same_reference { result.collector.ghost_name ≡ self.entry.ghost_name }
-        ensures outer { result.outer ≡ no_outer }
-        ensures now { result.collector.now ≡ self.old }
-    {
-        // Only a flame graph's collector shows contents, and it keeps its own places.
-        Visitor {
-            collector: self,
-            outer: Restore::none(),
-        }
     }
 
     /// A visitor at the root. It returns the first cause if the collector has failed, and

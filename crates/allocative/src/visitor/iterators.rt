@@ -6,10 +6,9 @@ ghost use Rattle.std.specs.Iterator.{IsFinite};
 ghost use Rattle.std.specs.Map.Iter.{deref, deref_pair};
 ghost use Rattle.allocative_graph.specs.Forest.{Forest};
 ghost use Rattle.allocative_graph.specs.Shows.{each_shows, slice_shows};
-ghost use Rattle.allocative.specs.Making.{MakesPlanOrGives, Keeps, MakesPlanRun, Done};
+ghost use Rattle.allocative.specs.Making.{MakesPlanOrGives, Keeps, MakesPlanRun, Done, EntersRun, EntersData};
 ghost use Rattle.allocative.specs.Visited.{Entered};
 ghost use Rattle.allocative.specs.Bodies.{are_shown_each};
-ghost use Rattle.allocative.specs.Iterators.{EntersRun, EntersData};
 ghost use Rattle.allocative.specs.Runs.{RefusesAlong, RefusesCounted, CountsRun, field_of, pair_shows};
 
 use crate::visitor::slices::are_shown_each;

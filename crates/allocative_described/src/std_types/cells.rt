@@ -1,4 +1,5 @@
-//! Cells and locks, as Rust lays them out on Linux: the value, and the bytes that say who may use it.
+//! Cells and locks, as Rust lays them out on Linux: the value, and the bytes that say who may use it. A `OnceCell` has
+//! the size of an `Option`, whose tag takes a byte here also where Rust needs none.
 
 ghost use Rattle.std.specs.Prelude.{Some, true, codes, max};
 ghost use Rattle.allocative_described.specs.Sizes.{size_sum, size_up};

@@ -8,7 +8,7 @@ ghost use Rattle.allocative.specs.PackShows.{lru_cache_inside};
 use crate::cache::{BoundedCache, Kept};
 use allocative::{Allocative, Described, Field, Part, Record, Refusal, Visitor, Whole};
 use lru::LruCache;
-use std::hash::Hash;
+use std::hash::{BuildHasher, Hash};
 
 type KeptLayout<V> = Record<(V, (usize, ()))>;
 
@@ -51,39 +51,43 @@ impl<V: Allocative + Described> Allocative for Kept<V> {
 }
 
 // The measure is a byte, and the allocator has no size.
-type CacheLayout<K, V> = Record<(u8, (LruCache<K, Kept<V>>, (usize, (usize, ()))))>;
+type CacheLayout<K, V, S> = Record<(u8, (LruCache<K, Kept<V>, S>, (usize, (usize, ()))))>;
 
-impl<K: Eq + Hash, V: Allocative + Described> Described for BoundedCache<K, V> {
+impl<K: Eq + Hash, V: Allocative + Described, S: BuildHasher + Described> Described
+    for BoundedCache<K, V, S> {
     ghost name = { codes "BoundedCache" };
 
-    ghost align = { ⟦<CacheLayout<K, V> as Described>⟧.align };
+    ghost align = { ⟦<CacheLayout<K, V, S> as Described>⟧.align };
 
-    ghost needs_drop = { ⟦<CacheLayout<K, V> as Described>⟧.needs_drop };
+    ghost needs_drop = { ⟦<CacheLayout<K, V, S> as Described>⟧.needs_drop };
 
-    ghost size = { ⟦<CacheLayout<K, V> as Described>⟧.size };
+    ghost size = { ⟦<CacheLayout<K, V, S> as Described>⟧.size };
 
     fn name() -> &'static str {
         "BoundedCache"
     }
 
     fn align() -> usize {
-        <CacheLayout<K, V>>::align()
+        <CacheLayout<K, V, S>>::align()
     }
 
     fn needs_drop() -> bool {
-        <CacheLayout<K, V>>::needs_drop()
+        <CacheLayout<K, V, S>>::needs_drop()
     }
 
     fn size() -> Option<usize> {
-        <CacheLayout<K, V>>::size()
+        <CacheLayout<K, V, S>>::size()
     }
 }
 
-impl<K: Allocative + Described + Eq + Hash, V: Allocative + Described> Allocative
-    for BoundedCache<K, V> {
-    ghost may_show = { λ c. shows.Field (codes "BoundedCache") ⟦<CacheLayout<K, V> as Described>⟧.size
-        (shows.Field (codes "entries") ⟦<LruCache<K, Kept<V>> as Described>⟧.size
-        (shows.Field (codes "LruCache") ⟦<LruCache<K, Kept<V>> as Described>⟧.size
+impl<
+    K: Allocative + Described + Eq + Hash,
+    V: Allocative + Described,
+    S: BuildHasher + Described + Drop,
+> Allocative for BoundedCache<K, V, S> {
+    ghost may_show = { λ c. shows.Field (codes "BoundedCache") ⟦<CacheLayout<K, V, S> as Described>⟧.size
+        (shows.Field (codes "entries") ⟦<LruCache<K, Kept<V>, S> as Described>⟧.size
+        (shows.Field (codes "LruCache") ⟦<LruCache<K, Kept<V>, S> as Described>⟧.size
         (lru_cache_inside K.size K.may_show ⟦<Kept<V> as Described>⟧.size ⟦<Kept<V> as Allocative>⟧.may_show
         c.entries))) };
 

@@ -1,18 +1,30 @@
-//! Vectors, deques, and maps and sets of `std`.
+//! Texts, vectors, deques, and maps and sets of `std`.
 
-ghost use Rattle.std.specs.Prelude.{◌&&◌, codes, length, vec_capacity, Some};
+ghost use Rattle.std.specs.Prelude.{◌&&◌, true, codes, length, vec_capacity, string_bytes, string_capacity, Some};
 ghost use Rattle.std.specs.VecDeque.{deque_capacity};
 ghost use Rattle.allocative_graph.specs.Shows as shows;
-ghost use Rattle.allocative.specs.Bodies.{buffer_shows, cut_shows};
+ghost use Rattle.allocative.specs.Bodies.{buffer_shows, cut_shows, text_shows};
 ghost use Rattle.allocative.specs.Runs.{field_of, pair_shows};
 ghost use Rattle.allocative.specs.StdShows.{in_any_order};
 
 use crate::part::containers::TwoSlices;
 use crate::{
-    Allocative, Buffer, Described, FieldEach, Inside, Items, Pairs, Part, Refusal, Visitor, Whole,
+    Allocative, Buffer, Described, FieldEach, Inside, Items, Pairs, Part, Refusal, Text, Visitor,
+    Whole,
 };
 use std::collections::{BTreeMap, BTreeSet, HashMap, HashSet, VecDeque};
 use std::hash::{BuildHasher, Hash};
+
+impl Allocative for String {
+    ghost may_show = { λ s. shows.Field (codes "String") (Some 24)
+        (text_shows (length (string_bytes s)) (string_capacity s)) };
+
+    ghost is_strict = { true };
+
+    fn visit(&self, visitor: &mut Visitor<'_>) -> Result<(), Refusal> {
+        Whole(self, Text(self)).enter(visitor)
+    }
+}
 
 impl<T: Allocative + Described> Allocative for Vec<T> {
     ghost may_show = { λ v. shows.Field (codes "Vec") (Some 24)

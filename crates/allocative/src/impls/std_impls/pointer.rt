@@ -1,9 +1,16 @@
-//! Boxes and references.
+//! Boxes, references, shared values, `ManuallyDrop` and `PhantomData`.
 
 ghost use Rattle.std.specs.Prelude.{true, codes, Some};
+ghost use Rattle.std.specs.Mem.{manually_drop_value};
 ghost use Rattle.allocative_graph.specs.Shows as shows;
+ghost use Rattle.allocative.specs.StdShows.{shared_inside};
 
-use crate::{Allocative, Part, Refusal, Unique, Visitor, Whole};
+use crate::{
+    Allocative, Declared, Described, Field, IdArc, IdRc, Key, Part, Refusal, Shared, Unique,
+    Visitor, Whole, shared_inner_size,
+};
+use std::marker::PhantomData;
+use std::mem::ManuallyDrop;
 
 impl<T: Allocative> Allocative for Box<T> {
     ghost may_show = { λ b. shows.Field (codes "Box") (Some 8)
@@ -18,6 +25,61 @@ impl<T: Allocative> Allocative for Box<T> {
 
 // What a reference points to is not part of it.
 impl<T> Allocative for &'static T {
+    ghost may_show = { λ _. shows.Nothing };
+
+    ghost is_strict = { true };
+
+    fn visit(&self, visitor: &mut Visitor<'_>) -> Result<(), Refusal> {
+        ().enter(visitor)
+    }
+}
+
+impl<T: Allocative + Described> Allocative for IdRc<T> {
+    ghost may_show = { λ s. shows.Field (codes "Rc") (Some 8)
+        (shared_inside (codes "RcInner") s.id T.size T.align (T.may_show s.value)) };
+
+    ghost is_strict = { T.is_strict };
+
+    fn visit(&self, visitor: &mut Visitor<'_>) -> Result<(), Refusal> {
+        let pointer = Shared {
+            key: Key::new("ptr"),
+            size: 8,
+            identity: self.id(),
+            content: Declared("RcInner", shared_inner_size::<T>(), self.get()),
+        };
+        Whole(self, pointer).enter(visitor)
+    }
+}
+
+impl<T: Allocative + Described> Allocative for IdArc<T> {
+    ghost may_show = { λ s. shows.Field (codes "Arc") (Some 8)
+        (shared_inside (codes "ArcInner") s.id T.size T.align (T.may_show s.value)) };
+
+    ghost is_strict = { T.is_strict };
+
+    fn visit(&self, visitor: &mut Visitor<'_>) -> Result<(), Refusal> {
+        let pointer = Shared {
+            key: Key::new("ptr"),
+            size: 8,
+            identity: self.id(),
+            content: Declared("ArcInner", shared_inner_size::<T>(), self.get()),
+        };
+        Whole(self, pointer).enter(visitor)
+    }
+}
+
+impl<T: Allocative + Described> Allocative for ManuallyDrop<T> {
+    ghost may_show = { λ slot. shows.Field (codes "ManuallyDrop") T.size
+        (shows.Field (codes "inner") T.size (T.may_show (manually_drop_value slot))) };
+
+    ghost is_strict = { T.is_strict };
+
+    fn visit(&self, visitor: &mut Visitor<'_>) -> Result<(), Refusal> {
+        Whole(self, Field("inner", &**self)).enter(visitor)
+    }
+}
+
+impl<T> Allocative for PhantomData<T> {
     ghost may_show = { λ _. shows.Nothing };
 
     ghost is_strict = { true };

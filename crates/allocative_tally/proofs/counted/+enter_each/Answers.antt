@@ -1,7 +1,6 @@
 -- No item, one item, or both halves.
 use Rattle.std.proofs.Common.{refl}
-use Rattle.allocative.proofs.Meaning.{entered_none, entered_as, strict_same}
-use Rattle.allocative.proofs.Within.{entered_both, entered_passed}
+use Rattle.allocative.proofs.Meaning.{entered_none, entered_as, entered_both, entered_passed, strict_same}
 use Rattle.allocative_tally.proofs.Entering.{each_none, each_single, each_halves}
 use Rattle.allocative_tally.proofs.counted.+enter_each.Goals as goal
 

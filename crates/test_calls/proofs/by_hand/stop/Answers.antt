@@ -1,7 +1,6 @@
 -- The entry without a size is refused, and the visitor of the one outside it is left.
 use Rattle.std.proofs.Common.{refl, rules}
-use Rattle.allocative.proofs.Closures.{same_err}
-use Rattle.allocative.proofs.Visits.{entry_err}
+use Rattle.allocative.proofs.Visits.{entry_err, same_err}
 use Rattle.test_calls.proofs.by_hand.stop.Goals as goal
 
 pub returns-in_err-visit_simple_sized : goal.returns-in_err-visit_simple_sized

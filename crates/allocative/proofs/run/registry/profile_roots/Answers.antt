@@ -1,6 +1,6 @@
 -- The refusal of a root is that of the profile.
 use Rattle.std.proofs.Common.{rules, inr}
-use Rattle.allocative.proofs.RefusedRoots.{same_err}
+use Rattle.allocative.proofs.Visits.{same_err}
 use Rattle.allocative.proofs.run.registry.profile_roots.Goals as goal
 
 pub returns-in_err-visit_global_roots-clause-answer : goal.returns-in_err-visit_global_roots-clause-answer

@@ -1,6 +1,7 @@
 -- A root visitor, what the closure does there, and its end.
 use Rattle.std.proofs.Common.{rules}
-use Rattle.allocative.proofs.Closures.{sum_answered, refusal_answered, same_err}
+use Rattle.allocative.proofs.Closures.{sum_answered, refusal_answered}
+use Rattle.allocative.proofs.Visits.{same_err}
 use Rattle.allocative.proofs.run.size_of.size_of_entries.Goals as goal
 
 pub returns-in_err-check : goal.returns-in_err-check

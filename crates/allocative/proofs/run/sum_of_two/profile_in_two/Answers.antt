@@ -1,7 +1,7 @@
 -- The right collection is refused after the left one was made.
 use Rattle.std.proofs.Common.{rules}
-use Rattle.allocative.specs.InTwo.{right_refused}
-use Rattle.allocative.proofs.Closures.{same_err}
+use Rattle.allocative.specs.RefusedVisits.{right_refused}
+use Rattle.allocative.proofs.Visits.{same_err}
 use Rattle.allocative.proofs.run.sum_of_two.profile_in_two.Goals as goal
 
 pub returns-in_err-profile_values-2-clause-refused : goal.returns-in_err-profile_values-2-clause-refused

@@ -15,9 +15,8 @@ use Rattle.allocative.proofs.Lent.{IfSome, name_if_ok, State, OpensShared, Lends
 use Rattle.allocative.proofs.Lent.{with_state, AnswersShared, answer_without_visitor, transpose, Refusal, Key, Identity, enters_first}
 use Rattle.allocative.proofs.Lent.{Visitor, GName, follows_so, LendsPointed, OpensSharedAt, WpFn, Is, walk_of}
 use mathlib.Core.Option as maybe
-use Rattle.allocative.specs.Nested.{EntersShared, LendsShared, name_in}
+use Rattle.allocative.specs.Lending.{EntersShared, LendsShared, name_in, answer_of}
 use Rattle.allocative_graph.specs.Collector.{no_outer}
-use Rattle.allocative.specs.Shared.{answer_of}
 use Rattle.allocative_graph.specs.contracts.shared.Identity as identity
 use Rattle.allocative_graph.proofs.shared.Identity.TheLaws.{the_row_laws as identity_laws}
 use Rattle.allocative.specs.contracts.visitor.Visitor.enter_shared as f

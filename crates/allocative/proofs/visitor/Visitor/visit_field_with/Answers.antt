@@ -1,8 +1,8 @@
 -- of Visitor::visit_field_with: an error and the result
 use Rattle.std.proofs.Common.{rules, ◌≡◌, refl, Ok, Err}
 use Rattle.allocative.proofs.Common.{FnOnceReturnsAtMut, called, refused_inside}
-use Rattle.allocative.proofs.Closures.{not_called_by, same_err}
-use Rattle.allocative.proofs.Visits.{close_cause}
+use Rattle.allocative.proofs.Closures.{not_called_by}
+use Rattle.allocative.proofs.Visits.{same_err, close_cause}
 use Rattle.allocative.proofs.Showing.{showing}
 use Rattle.allocative.proofs.visitor.Visitor.visit_field_with.Goals as goal
 

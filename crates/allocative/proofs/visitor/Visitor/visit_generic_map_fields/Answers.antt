@@ -1,7 +1,7 @@
 -- of Visitor::visit_generic_map_fields: an error and the result
 use Rattle.std.proofs.Common.{rules}
 use Rattle.allocative.proofs.Runs.{data_entered, data_refused}
-use Rattle.allocative.proofs.Within.{same_err}
+use Rattle.allocative.proofs.Visits.{same_err}
 use Rattle.allocative.proofs.visitor.Visitor.visit_generic_map_fields.Goals as goal
 
 pub returns-in_err-outer : goal.returns-in_err-outer

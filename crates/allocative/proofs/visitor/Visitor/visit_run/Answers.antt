@@ -1,8 +1,8 @@
 -- One more item is entered, and the run ends.
 use Rattle.std.proofs.Common.{rules}
-use Rattle.allocative.proofs.Within.{only_if_full_failed, same_err}
+use Rattle.allocative.proofs.Making.{only_if_full_failed, kept_after, run_gives}
+use Rattle.allocative.proofs.Visits.{same_err}
 use Rattle.allocative.proofs.Runs.{entered_next, entered_run, along_run, along_refused}
-use Rattle.allocative.proofs.Making.{kept_after, run_gives}
 use Rattle.allocative.proofs.visitor.Visitor.visit_run.Goals as goal
 
 pub loop-item-preserved : goal.loop-item-preserved

@@ -1,5 +1,5 @@
 -- of Visitor::visit_sized: entered
-use Rattle.allocative.proofs.Within.{entered_alone_sized}
+use Rattle.allocative.proofs.Making.{entered_alone_sized}
 use Rattle.allocative.proofs.visitor.Visitor.visit_sized.Goals as goal
 
 pub returns-clause-entered : goal.returns-clause-entered

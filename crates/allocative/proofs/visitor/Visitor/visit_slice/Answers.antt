@@ -1,6 +1,6 @@
 -- of Visitor::visit_slice: entered
 use Rattle.std.proofs.Common.{rules}
-use Rattle.allocative.proofs.Bodies.{entered_plain, entered_one_by_one}
+use Rattle.allocative.proofs.ContainerMeaning.{entered_plain, entered_one_by_one}
 use Rattle.allocative.proofs.visitor.Visitor.visit_slice.Goals as goal
 
 pub returns-then-are_shown_each-clause-entered : goal.returns-then-are_shown_each-clause-entered

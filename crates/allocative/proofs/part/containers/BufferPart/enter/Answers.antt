@@ -2,7 +2,7 @@
 use Rattle.std.proofs.Common.{arith, rules, ◌≡◌, ◌+◌, ◌<◌}
 use Rattle.allocative.proofs.Meaning.{entered_if, entered_none, undeclared_refused, strict_same, strict_both}
 use Rattle.allocative.proofs.Meaning.{strict_always}
-use Rattle.allocative.proofs.Bodies.{means_without_size, means_without_room, means_with_room, no_buffer}
+use Rattle.allocative.proofs.ContainerMeaning.{means_without_size, means_without_room, means_with_room, no_buffer}
 use Rattle.allocative.proofs.part.containers.BufferPart.enter.Goals as goal
 
 pub returns-in_default : goal.returns-in_default

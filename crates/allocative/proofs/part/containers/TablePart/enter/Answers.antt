@@ -1,7 +1,7 @@
 -- of TablePart::enter: the result
 use Rattle.std.proofs.Common.{◌<◌, arith}
 use Rattle.allocative.proofs.Meaning.{entered_none, entered_as}
-use Rattle.allocative.proofs.Bodies.{means_no_table, means_some_table}
+use Rattle.allocative.proofs.ContainerMeaning.{means_no_table, means_some_table}
 use Rattle.allocative.proofs.part.containers.TablePart.enter.Goals as goal
 
 pub returns-then-self-eq0 : goal.returns-then-self-eq0

@@ -1,7 +1,7 @@
 -- of TextPart::enter: the result
 use Rattle.std.proofs.Common.{rules}
 use Rattle.allocative.proofs.Meaning.{entered_as}
-use Rattle.allocative.proofs.Bodies.{means_text}
+use Rattle.allocative.proofs.ContainerMeaning.{means_text}
 use Rattle.allocative.proofs.part.containers.TextPart.enter.Goals as goal
 
 pub returns : goal.returns

@@ -9,7 +9,7 @@ use Rattle.allocative.proofs.Lent.{RattleType, MutRef, mut_vals, mut_Tells, plai
 use Rattle.allocative.proofs.Lent.{only, calls_at, Lasts, lasts, triple_of, framed, Stays, stay_dropped, Goes-spent_ref}
 use Rattle.allocative.proofs.Lent.{ends_at, Result, Ok, Err, IfOk, IfErr, OnOk, OnErr, name_if_ok, Refusal, State}
 use Rattle.allocative.proofs.Lent.{OpensRoot, Settles, Visitor, LendsBegun}
-use Rattle.allocative.specs.Rooted.{LendsBuilt, LendsRoot}
+use Rattle.allocative.specs.Roots.{LendsBuilt, LendsRoot}
 use Rattle.allocative.specs.Visited.{OpensRootAt}
 use Rattle.allocative.specs.contracts.run.builder.FlameGraphBuilder as builder
 use Rattle.allocative.specs.contracts.run.builder.FlameGraphBuilder.root_visitor as f

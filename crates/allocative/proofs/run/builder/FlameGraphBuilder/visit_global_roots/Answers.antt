@@ -2,8 +2,8 @@
 use Rattle.std.proofs.Common.{rules, Ok, Err, Result, ◌≡◌, subst, arith}
 use Rattle.std.proofs.lemmas.Grind.{common_steps}
 use Rattle.allocative.proofs.Common.{State, Showing, Refusal, Settles, VisitsRoot}
-use Rattle.allocative.proofs.Roots.{visits_one_more}
-use Rattle.allocative.proofs.RefusedRoots.{same_err, only_if_full_indexed, refused_indexed, one_of_all}
+use Rattle.allocative.proofs.Roots.{visits_one_more, only_if_full_indexed, refused_indexed, one_of_all}
+use Rattle.allocative.proofs.Visits.{same_err}
 use Rattle.allocative.proofs.run.builder.FlameGraphBuilder.visit_global_roots.Goals as goal
 
 pub loop-root-preserved : goal.loop-root-preserved

@@ -1,6 +1,7 @@
 -- One more root is visited, or refused.
 use Rattle.std.proofs.Common.{rules}
-use Rattle.allocative.proofs.RefusedRoots.{same_err, only_if_full_indexed, refused_indexed}
+use Rattle.allocative.proofs.Visits.{same_err}
+use Rattle.allocative.proofs.Roots.{only_if_full_indexed, refused_indexed}
 use Rattle.allocative.proofs.run.builder.FlameGraphBuilder.visit_values.Goals as goal
 
 pub returns-in_err-visit_value-clause-only_if_full : goal.returns-in_err-visit_value-clause-only_if_full

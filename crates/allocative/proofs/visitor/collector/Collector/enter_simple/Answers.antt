@@ -1,8 +1,7 @@
 -- In a graph the entry is made at once. Without one, it is opened and closed.
 use Rattle.std.proofs.Common.{Ok, sym, ap, refl, subst}
 use Rattle.allocative.proofs.Common.{OfGraph, State, Makes, one}
-use Rattle.allocative.proofs.Making.{makes_entry, nothing_inside}
-use Rattle.allocative.proofs.Opening.{makes_one}
+use Rattle.allocative.proofs.Making.{makes_entry, nothing_inside, makes_one}
 use Rattle.allocative.proofs.visitor.collector.Collector.enter_simple.Goals as goal
 
 pub returns-in-Graph-clause-made : goal.returns-in-Graph-clause-made

@@ -1,7 +1,7 @@
 -- The entry is opened in the collector that there is.
 use Rattle.std.proofs.Common.{sym, ap, refl}
 use Rattle.allocative.proofs.Common.{OfGraph, OfSum}
-use Rattle.allocative.proofs.Opening.{opens_entered}
+use Rattle.allocative.proofs.Making.{opens_entered}
 use Rattle.allocative.proofs.visitor.collector.Collector.open_entry.Goals as goal
 
 pub returns-in-Ok-clause-opens : goal.returns-in-Ok-clause-opens

@@ -1,5 +1,5 @@
 -- The value that the cell holds now.
-use Rattle.allocative.proofs.Cells.{visited_value}
+use Rattle.allocative.proofs.ContainerMeaning.{visited_value}
 use Rattle.allocative.proofs.impls.std_impls.cells.CellAllocative.visit.Goals as goal
 
 pub returns : goal.returns

@@ -1,5 +1,5 @@
 -- Nothing, or the value that the guard lends.
-use Rattle.allocative.proofs.Cells.{visited_had, visited_not_had}
+use Rattle.allocative.proofs.ContainerMeaning.{visited_had, visited_not_had}
 use Rattle.allocative.proofs.impls.std_impls.cells.RefCellAllocative.visit.Goals as goal
 
 pub returns-in-Err : goal.returns-in-Err

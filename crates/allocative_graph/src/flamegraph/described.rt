@@ -1,0 +1,48 @@
+//! What a flame graph declares about itself, and the number of its paths.
+ghost use Rattle.std.specs.Prelude.{◌^◌, ◌<◌, Some, true, codes};
+ghost use Rattle.std.specs.FinMap.{len};
+ghost use Rattle.std.specs.Option.{SomeIff};
+
+use crate::flamegraph::FlameGraph;
+use allocative_described::Described;
+
+// The node of the root: its children, the sum of their bytes, and its own bytes.
+impl Described for FlameGraph {
+    ghost name = { codes "FlameGraph" };
+
+    ghost align = { 8 };
+
+    ghost needs_drop = { true };
+
+    ghost size = { Some 40 };
+
+    fn name() -> &'static str {
+        "FlameGraph"
+    }
+
+    fn align() -> usize {
+        8
+    }
+
+    fn needs_drop() -> bool {
+        true
+    }
+
+    fn size() -> Option<usize> {
+        Some(40)
+    }
+}
+
+impl FlameGraph {
+    /// The number of paths, with that of the root. `None` exactly if it exceeds `usize::MAX`. It allocates nothing.
+    #[tactic(auto, using(std::proofs::Common::take_all, crate::proofs::PathCount::paths_of_node))]
+    pub fn path_count(&self) -> Option<usize>
+        ensures { SomeIff result (len self.now < 2 ^ 64) (len self.now) }
+    {
+        let mut count: usize = 1;
+        for child in &self.children {
+            count = count.checked_add(child.graph.path_count()?)?;
+        }
+        Some(count)
+    }
+}
