@@ -1,24 +1,33 @@
--- The graphs of fields: their totals, why they are refused, and what a run makes of them.
-use Rattle.std.proofs.Common.{◌≡◌, ℕ, ◌+◌, ◌^◌, ◌<◌, ◌≤◌, List, [], length, get_or, take, map, Option, IfSome, Result}
-use Rattle.std.proofs.Common.{Ok, Err, IfErr, IsErrAnd, MatchResult, refl, sym, ap, subst, arith, codes}
-use Rattle.allocative_json.proofs.Common.{view, Value}
+-- The graphs of fields: their totals, why they are refused, the documents of a text, and what a run makes of them.
+use Rattle.std.proofs.Common.{◌≡◌, ℕ, ◌+◌, ◌^◌, ◌<◌, ◌≤◌, ◌==◌, Bool, true, false, List, [], ◌∷◌, ◌++◌, length, get_or, take}
+use Rattle.std.proofs.Common.{drop, map, Bor, Option, None, Some, Result, Ok, Err, IfErr, IfSome, IsErrAnd, inl, inr}
+use Rattle.std.proofs.Common.{MatchResult, unwrap_or, refl, sym, ap, subst, subst₂, ◌∙◌, not, cond, arith, append-nil}
+use Rattle.std.proofs.Common.{take-append-drop}
+use Rattle.std.proofs.lemmas.List.{drop_more, length-map}
+use Rattle.std.proofs.lemmas.List.Elements.{filter-append}
 use Rattle.std.proofs.lemmas.List.Folds.{fold-map}
-use Rattle.std.proofs.lemmas.List.Sums.{sum_by_more_le}
-use Rattle.allocative_graph.specs.Graph.{Graph, default, add_self, under, total}
+use Rattle.std.proofs.lemmas.List.Splits.{length-slice_split}
+use Rattle.std.proofs.lemmas.List.Sums.{sum_by_more_le, count_by-le-length}
+use Rattle.std.proofs.lemmas.Slice.Zip.{all_zipped_more}
+use Rattle.allocative_graph.specs.Graph.{Graph, default, add_self, total}
 use Rattle.allocative_graph.specs.Rows.{sum_of_all}
 use Rattle.allocative_graph.specs.declared.flamegraph.Child.{Child}
 use Rattle.allocative_graph.specs.declared.refusal.Refusal.{Refusal}
 use Rattle.allocative_graph.specs.declared.refusal.Refusal.TheVariants as refused
-use Rattle.allocative_graph.proofs.Graphs.{total-add_at, total-sum_of, total-under}
+use Rattle.allocative_graph.proofs.Graphs.{total-add_at}
 use Rattle.allocative_graph.proofs.Graphs.{total-default, total-all}
+use Rattle.allocative_json.proofs.Common.{view, Value}
 use Rattle.allocative_json.specs.declared.fault.Fault.{Fault}
-use Rattle.allocative_json.specs.declared.fault.Fault.TheVariants.{Memory, NotJson, TooLarge, Reading}
+use Rattle.allocative_json.specs.declared.fault.Fault.TheVariants.{Memory, TooLarge, Reading}
+use Rattle.allocative_json.specs.declared.fields.FieldsFault.{FieldsFault}
+use Rattle.allocative_json.specs.declared.fields.FieldsFault.TheVariants.{NotJson, Other}
 use Rattle.allocative_json.specs.Fault.{fault_of}
 use Rattle.allocative_json.specs.Roots.{IsDocument}
 use Rattle.allocative_json.specs.Run.{StopsReading}
-use Rattle.allocative_json.specs.Fields.{bytes_alone, fields_of, document_fields, RefusesGraph, RefusesFields}
+use Rattle.allocative_json.specs.Fields.{bytes_alone, all_fields, is_blank, filled, lines_in, texts_of, AreDocuments}
+use Rattle.allocative_json.specs.Fields.{AppendsDocument, RefusesDocument, RefusesGraph, RefusesText, RefusesFields}
 use Rattle.allocative_json.specs.Fields.{MayEndFields}
-use Rattle.allocative_json.proofs.Reports.{some_text, read_so}
+use Rattle.allocative_json.proofs.Reports.{some_text}
 
 -- ---- totals
 -- The total of a graph whose root alone has bytes is these bytes.
@@ -28,10 +37,6 @@ total-bytes_alone n = omega (arith, total-add_at default ([], n), total-default)
 -- Bytes added to the root add to the total.
 pub total-add_self : (n : ℕ) (g : Graph) → total (add_self n g) ≡ total g + n
 total-add_self n g = total-add_at g ([], n)
-
--- The total of a document is that of its fields.
-pub total-document : (v : Value) → total (document_fields v) ≡ total (fields_of v)
-total-document v = omega (arith, total-sum_of default (under (codes "$") (fields_of v)), total-default, total-under (codes "$") (fields_of v))
 
 -- The bytes before any child are within those of all.
 pub start_within : (start : Graph) (cs : List Child) → total start ≤ total (sum_of_all start cs)
@@ -73,30 +78,117 @@ pub passed_on : {T : Type 0} (y : T) (g : Graph) (x : Result T Refusal) (r : Ref
 passed_on y g (Ok z) r is h = absurd is
 passed_on y g (Err q) r is h = subst (RefusesGraph g) (sym is) h
 
+-- ---- documents
+-- The lines that are not blank, with one line more.
+filled_push : (ls : List (List ℕ)) (l : List ℕ) (blank : Bool) → blank ≡ is_blank l →
+    filled (ls ++ l ∷ []) ≡ filled ls ++ cond (not blank) (l ∷ []) []
+filled_push ls l blank e = filter-append (λ l. not (is_blank l)) ls (l ∷ [])
+    ∙ ap (λ (b : Bool). filled ls ++ cond (not b) (l ∷ []) []) (sym e)
+
+-- A blank line leaves the documents as they are.
+pub documents_skip : (ls : List (List ℕ)) (l : List ℕ) (vs : List Value) → true ≡ is_blank l →
+    AreDocuments (filled ls) vs → AreDocuments (filled (ls ++ l ∷ [])) vs
+documents_skip ls l vs e h = subst (λ (ts : List (List ℕ)). AreDocuments ts vs)
+    (sym (filled_push ls l true e ∙ append-nil (filled ls))) h
+
+-- A line that is read is one document more.
+pub documents_more : (ls : List (List ℕ)) (l : List ℕ) (vs more : List Value) → false ≡ is_blank l →
+    AreDocuments (filled ls) vs → AppendsDocument l vs more → AreDocuments (filled (ls ++ l ∷ [])) more
+documents_more ls l vs more e h p = subst₂ (λ (ts : List (List ℕ)) (ws : List Value). AreDocuments ts ws)
+    (sym (filled_push ls l false e)) (sym p.follows)
+    (all_zipped_more (λ t v. IsDocument t (view v)) (filled ls) vs l p.document h p.is_read)
+
+-- An input has at most one line more than bytes.
+pub lines_fit : (input : List ℕ) → length (lines_in input) ≤ length input + 1
+lines_fit input =
+    let newline : ℕ → Bool = λ b. b == 10 in
+    omega (arith, length-slice_split newline input, count_by-le-length newline input)
+
+-- Behind the lines that were read, one is not read.
+pub stops_line : {T : Type 0} (input : List ℕ) (xs : List (Bor (List ℕ))) (x : Bor (List ℕ)) (vs : List Value) (n : ℕ)
+    (f : FieldsFault) (r : Result T FieldsFault) →
+    map (λ (l : Bor (List ℕ)). l.now) xs ≡ take (length xs) (lines_in input)
+    → (length xs < length (lines_in input)) × (x.now ≡ get_or (lines_in input) (length xs) x.now) →
+    AreDocuments (filled (map (λ (l : Bor (List ℕ)). l.now) xs)) vs → false ≡ is_blank x.now → n ≡ length xs + 1 →
+    RefusesDocument x.now (Some n) f → IsErrAnd r (λ g. g ≡ f) → IfErr r (RefusesFields true input)
+stops_line input xs x vs n f (Ok y) front at are some e h is = tt
+stops_line input xs x vs n (NotJson line column said) (Err g) front at are some e h is =
+    let ls = lines_in input in
+    let before : Bor (List ℕ) → List ℕ = λ l. l.now in
+    subst (RefusesFields true input) (sym is) (record {
+      earlier = map before xs;
+      documents = vs;
+      line = x.now;
+      later = drop (length xs + 1) ls;
+      parts = sym (take-append-drop (length xs) ls) ∙ ap (λ l. l ++ drop (length xs) ls) (sym front)
+          ∙ ap (λ l. map before xs ++ l) (drop_more ls (length xs) x.now at.0
+          ∙ ap (λ l. l ∷ drop (length xs + 1) ls) (sym at.1));
+      are = are;
+      some = sym some;
+      none = h.0;
+      counted = h.1 ∙ e ∙ ap (λ k. k + 1) (sym (length-map {B = List ℕ} xs before));
+    })
+stops_line input xs x vs n (Other Memory) (Err g) front at are some e h is =
+    subst (RefusesFields true input) (sym is) tt
+stops_line input xs x vs n (Other f) (Err g) front at are some e h is = absurd h
+
+-- An input that is read as one text is one document.
+pub one_document : (input : List ℕ) (old new : List Value) → old ≡ [] → AppendsDocument input old new →
+    AreDocuments (input ∷ []) new
+one_document input old new e h = rw (h.follows, e) (h.is_read, tt)
+
+-- An input that is not read as one text has no fields.
+pub stops_whole : {T : Type 0} (input : List ℕ) (f : FieldsFault) (r : Result T FieldsFault) →
+    RefusesDocument input None f → IsErrAnd r (λ g. g ≡ f) → IfErr r (RefusesFields false input)
+stops_whole input f (Ok y) h is = tt
+stops_whole input (NotJson line column said) (Err g) h is = subst (RefusesFields false input) (sym is) h.0
+stops_whole input (Other Memory) (Err g) h is = subst (RefusesFields false input) (sym is) h
+stops_whole input (Other f) (Err g) h is = absurd h
+
+-- A line that is given is the one that is told.
+pub given_line : (given : Option ℕ) (n line : ℕ) → line ≡ unwrap_or given n → IfSome given (λ k. line ≡ k)
+given_line None n line e = tt
+given_line (Some k) n line e = e
+
+-- A refusal of a graph is one of its text.
+pub refused_text : {T : Type 0} (P : T → Type 0) (g : Graph) (refusal : Refusal) (r : Result T Fault) →
+    IsErrAnd r (λ f. f ≡ fault_of refusal) → RefusesGraph g refusal → MatchResult r P (RefusesText g)
+refused_text P g refusal (Ok x) e h = absurd e
+refused_text P g refused.Memory (Err f) e h = subst (RefusesText g) (sym e) tt
+refused_text P g refused.TooLarge (Err f) e h = subst (RefusesText g) (sym e) h
+refused_text P g refused.Open (Err f) e h = absurd h
+
+-- The lemmas by which documents are read, and their text is made.
+pub ruleset reading = (some_text, given_line, one_document, stops_whole, refused_text)
+
 -- ---- a run
--- If a graph of a document is refused, there is no text of its fields.
-pub refused_fields : {T : Type 0} (input : List ℕ) (v : Value) (refusal : Refusal) (r : Result T Fault) →
-    IsDocument input (view v) → IsErrAnd r (λ f. f ≡ fault_of refusal) → RefusesGraph (document_fields v) refusal →
-    IfErr r (RefusesFields input)
-refused_fields input v refusal (Ok x) d e h = tt
-refused_fields input v refused.Memory (Err f) d e h = subst (RefusesFields input) (sym e) (some_text input (view v) d)
-refused_fields input v refused.TooLarge (Err f) d e h = subst (RefusesFields input) (sym e) (v, d, h)
-refused_fields input v refused.Open (Err f) d e h = absurd h
+-- If the text of the documents is refused, there is no text of the fields.
+pub refused_fields : {T : Type 0} (by_lines : Bool) (input : List ℕ) (vs : List Value) (cause : Fault)
+    (r : Result T FieldsFault) → AreDocuments (texts_of by_lines input) vs → IsErrAnd r (λ f. f ≡ Other cause) →
+    RefusesText (all_fields vs) cause → IfErr r (RefusesFields by_lines input)
+refused_fields by_lines input vs cause (Ok x) d e h = tt
+refused_fields true input vs Memory (Err f) d e h = subst (RefusesFields true input) (sym e) tt
+refused_fields false input [] Memory (Err f) d e h = absurd d
+refused_fields false input (v ∷ vs) Memory (Err f) d e h =
+    subst (RefusesFields false input) (sym e) (some_text input (view v) d.0)
+refused_fields by_lines input vs TooLarge (Err f) d e h = subst (RefusesFields by_lines input) (sym e) (vs, d, h)
+refused_fields by_lines input vs cause (Err f) d e h = absurd h
 
--- A fault of reading ends a run.
-pub stops_reading : (words : ℕ) (known : Option (List ℕ)) (f : Fault) → words ≡ 0 → StopsReading known f →
-    MayEndFields words known f
-stops_reading words known Memory z h = (z, h)
-stops_reading words known Reading z h = z
-stops_reading words known f z h = absurd h
+-- A fault of reading may end a run.
+reading_stops : (by_lines : Bool) (known : Option (List ℕ)) (f : Fault) → StopsReading known f →
+    MayEndFields (Some by_lines) known (Other f)
+reading_stops true None Memory h = inr ([], tt, tt)
+reading_stops false None Memory h = inr (0 ∷ [], tt, omega arith)
+reading_stops true (Some bytes) Memory h = inr (bytes, refl, tt)
+reading_stops false (Some bytes) Memory h = inr (bytes, refl, h)
+reading_stops by_lines known Reading h = inl refl
+reading_stops by_lines known f h = absurd h
 
--- A fault of the text of the input that was read ends a run.
-pub stops_fields : (words : ℕ) (known : Option (List ℕ)) (input : List ℕ) (f : Fault) → words ≡ 0 →
-    IfSome known (λ bytes. input ≡ bytes) → RefusesFields input f → MayEndFields words known f
-stops_fields words known input Memory z e h = (z, read_so known input (λ bytes. RefusesFields bytes Memory) e h)
-stops_fields words known input NotJson z e h = (z, read_so known input (λ bytes. RefusesFields bytes NotJson) e h)
-stops_fields words known input TooLarge z e h = (z, read_so known input (λ bytes. RefusesFields bytes TooLarge) e h)
-stops_fields words known input f z e h = absurd h
-
--- The lemmas by which a run ends.
-pub ruleset ending = (some_text, refused_fields, stops_reading)
+-- If the words are accepted, a fault of reading ends a run.
+pub stops_reading : {T : Type 0} (asked : Option Bool) (by_lines : Bool) (known : Option (List ℕ)) (f : Fault)
+    (r : Result T FieldsFault) → asked ≡ Some by_lines → IsErrAnd r (λ g. g ≡ Other f) → StopsReading known f →
+    IfErr r (MayEndFields asked known)
+stops_reading asked by_lines known f (Ok x) is e h = tt
+stops_reading asked by_lines known f (Err g) is e h =
+    subst₂ (λ (o : Option Bool) (k : FieldsFault). MayEndFields o known k) (sym is) (sym e)
+    (reading_stops by_lines known f h)

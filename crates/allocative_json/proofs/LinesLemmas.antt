@@ -7,7 +7,7 @@ use Rattle.std.specs.Str.Pattern.{RFindsChar}
 use Rattle.std.proofs.lemmas.Str.Pattern.{NoCharPasses-char, drop_at_char, IsSplitOnceResult, split_parts}
 use Rattle.allocative.specs.Graph.{Lacks}
 use Rattle.allocative.specs.Graph.{lines_from, before_last}
-use Rattle.allocative_json.specs.Lines.{kept_line}
+use Rattle.allocative_json.specs.Profile.{kept_line}
 
 -- Bytes of which none is c lack c.
 lacks_from : (c : ℕ) (bs : List ℕ) → ((i : ℕ) → i < length bs → get_or bs i 0 ≢ c) → Lacks c bs

@@ -3,7 +3,7 @@ use Rattle.std.proofs.Common.{◌≡◌, ℤ, Bool, ◌&&◌, ◌||◌, List, []
 use Rattle.allocative_json.proofs.Common.{BTreeSet, contains, int_cmp, view, items_view, members_view, Value, are_whole}
 use Rattle.allocative_json.proofs.Common.{have_whole, AddsKeys, has_number, items_have, members_have}
 use Rattle.std.proofs.Math.Bool.{and-true, true-and, and_assoc, or-false, or_assoc, or_comm}
-use Rattle.allocative_json.specs.Numbers.{is_whole}
+use Rattle.allocative_json.specs.Roots.{is_whole}
 
 -- The numbers of an array with one more item are whole if those of the others and of that item are.
 pub are_whole-snoc : (vs : List Value) (v : Value) →

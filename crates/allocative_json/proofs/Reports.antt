@@ -19,12 +19,12 @@ use Rattle.allocative.specs.Visits.{Profile, IsProfileOf}
 use Rattle.allocative_json.specs.declared.fault.Fault.{Fault}
 use Rattle.allocative_json.specs.declared.fault.Fault.TheVariants.{Memory, TooLarge, Reading, Writing, Open}
 use Rattle.allocative_json.specs.declared.fault.Fault.TheVariants as fault
-use Rattle.allocative_json.specs.declared.printed.Report.{Report}
+use Rattle.allocative_json.specs.declared.profile.Report.{Report}
 use Rattle.allocative_json.specs.declared.words.Words.{Words}
 use Rattle.allocative_json.specs.Profile.{AreTexts, IsReportOf, IsRightReport, RefusesRoots, RefusesReport}
 use Rattle.allocative_json.specs.Roots.{IsDocument, IsWholeDocument, AreRoots}
 use Rattle.allocative_json.specs.Run.{IsReportFor, MayEndRun}
-use Rattle.allocative_json.specs.Words.{Asks}
+use Rattle.allocative_json.specs.Run.{Asks}
 
 -- ---- reports of roots
 -- The texts of a profile of what p allows are a report of it.

@@ -1,7 +1,11 @@
--- The fields of a JSON document: a graph with the bytes that the values at each path declare, and what a run writes.
-use Rattle.std.specs.Prelude.{◌≡◌, ℕ, ◌+◌, ◌-◌, ◌*◌, ◌^◌, ◌<◌, ◌≤◌, ◌==◌, ⊤, cond, List, map, flat_map, length, Option}
-use Rattle.std.specs.Prelude.{IfSome, Result, MatchResult, codes, encode_utf8, String, string_bytes, string_capacity}
-use Rattle.std.specs.Prelude.{vec_capacity}
+-- The fields of JSON documents: a graph with the bytes that the values at each path declare, and what a run writes.
+use Rattle.std.specs.Prelude.{◌≡◌, ℕ, ◌+◌, ◌-◌, ◌*◌, ◌^◌, ◌<◌, ◌≤◌, ◌==◌, ⊤, ◌⊎◌, Bool, true, false, ◌&&◌, not, cond}
+use Rattle.std.specs.Prelude.{List, [], ◌∷◌, ◌++◌, map, filter, flat_map, length, Option, None, Some, IfSome, Result}
+use Rattle.std.specs.Prelude.{MatchResult, codes, decimal, encode_utf8, String, string_bytes, string_capacity, vec_capacity}
+use Rattle.std.specs.Prelude.{bytes_eq}
+use Rattle.std.specs.Char.{is_ascii_whitespace}
+use Rattle.std.specs.Fmt.InlineText.{inline_text}
+use Rattle.std.specs.List.{AllZip, list_all, slice_split}
 use Rattle.std.specs.Str.{chars}
 use Rattle.std.specs.Io.KnownBytes.{Appends}
 use Rattle.std.specs.declared.alloc.Global.{Global}
@@ -9,17 +13,20 @@ use Rattle.serde_json.specs.Data.{Data}
 use Rattle.serde_json.specs.View.{view}
 use Rattle.serde_json.specs.declared.value.Value.{Value, fold-Value}
 use Rattle.serde_json.specs.declared.value.Value.TheOpen.{Value-F}
-use Rattle.allocative_graph.specs.Graph.{Graph, default, add_self, sum_of, under, text, total}
+use Rattle.allocative_graph.specs.Graph.{Graph, default, add_self, text, total}
 use Rattle.allocative_graph.specs.Rows.{sum_of_all}
 use Rattle.allocative_graph.specs.declared.flamegraph.Child.{Child}
 use Rattle.allocative_graph.specs.declared.refusal.Refusal.{Refusal}
 use Rattle.allocative_graph.specs.declared.refusal.Refusal.TheVariants as refused
-use Rattle.allocative_json.specs.declared.fault.Fault.{Fault}
-use Rattle.allocative_json.specs.declared.fault.Fault.TheVariants.{Memory, NotJson, NotWhole, TooLarge, Reading, Writing, Open}
-use Rattle.allocative_json.specs.declared.fault.Fault.TheVariants as fault
-use Rattle.allocative_json.specs.Fault.{line_of}
-use Rattle.allocative_json.specs.Roots.{IsDocument}
+use Rattle.allocative_io.specs.Lines as Lines
 use Rattle.allocative_io.specs.Streams.{AppendsBeginning}
+use Rattle.allocative_json.specs.declared.fault.Fault.{Fault}
+use Rattle.allocative_json.specs.declared.fault.Fault.TheVariants.{Memory, TooLarge, Reading, Writing}
+use Rattle.allocative_json.specs.declared.fault.Fault.TheVariants as fault
+use Rattle.allocative_json.specs.declared.fields.FieldsFault.{FieldsFault}
+use Rattle.allocative_json.specs.declared.fields.FieldsFault.TheVariants.{NotJson, Other}
+use Rattle.allocative_json.specs.Fault.{status_of, line_of}
+use Rattle.allocative_json.specs.Roots.{IsDocument}
 
 -- ---- keys
 -- A character of a name in a key: `%`, `;`, `[`, a line feed and a carriage return by `%` and two digits, and any other
@@ -45,13 +52,13 @@ bytes_alone n = add_self n default
 abbrev pub array_bytes : ℕ → ℕ → ℕ
 array_bytes n capacity = (1 + (capacity - n)) * 32
 
--- An item of an array stands under `[]`.
-abbrev pub item_below : Graph → Child
-item_below g = record { key = codes "[]"; graph = g }
+-- What stands under a key: under `[]` an item of an array, under `$` a document.
+abbrev pub below : List ℕ → Graph → Child
+below k g = record { key = k; graph = g }
 
 -- A member of an object stands under its key, with the 24 bytes and the capacity of its name.
 abbrev pub member_below : String Global × Graph → Child
-member_below m = record { key = escaped (string_bytes m.0); graph = add_self (24 + string_capacity m.0) m.1 }
+member_below m = below (escaped (string_bytes m.0)) (add_self (24 + string_capacity m.0) m.1)
 
 -- The graph of a value from the graphs of the values in it: 32 bytes, the capacity of a text, the unused places of an
 -- array, and what is below.
@@ -61,24 +68,24 @@ fields_step (Value-F.Bool b) = bytes_alone 32
 fields_step (Value-F.Number n) = bytes_alone 32
 fields_step (Value-F.String s) = bytes_alone (32 + string_capacity s)
 fields_step (Value-F.Array v) =
-    sum_of_all (bytes_alone (array_bytes (length v.items) (vec_capacity v))) (map item_below v.items)
+    sum_of_all (bytes_alone (array_bytes (length v.items) (vec_capacity v))) (map (below (codes "[]")) v.items)
 fields_step (Value-F.Object m) = sum_of_all (bytes_alone 32) (map member_below m.entries)
 
 -- The graph of a value: at each path the bytes that the values there declare.
 abbrev pub fields_of : Value → Graph
 fields_of = fold-Value Graph fields_step
 
--- An item of an array, with its graph.
-abbrev pub item_of : Value → Child
-item_of v = item_below (fields_of v)
+-- A value under a key, with its graph.
+abbrev pub value_below : List ℕ → Value → Child
+value_below k v = below k (fields_of v)
 
 -- A member of an object, with its graph.
 abbrev pub member_of : String Global × Value → Child
 member_of m = member_below (m.0, fields_of m.1)
 
--- The graph of a whole document, which stands under `$`.
-abbrev pub document_fields : Value → Graph
-document_fields v = sum_of default (under (codes "$") (fields_of v))
+-- The graph of some documents, each of which stands under `$`.
+abbrev pub all_fields : List Value → Graph
+all_fields vs = sum_of_all default (map (value_below (codes "$")) vs)
 
 -- ---- what is made
 -- Why the graph g is not made: memory runs out, or its bytes exceed a word.
@@ -91,49 +98,135 @@ RefusesGraph g refused.Open = ⊥
 abbrev pub Makes : Graph → Result Graph Refusal → Type 0
 Makes g r = MatchResult r (λ made. made ≡ g) (RefusesGraph g)
 
--- The input is a document, and `made` is the text of its fields, with some room in its texts, names and arrays.
-pub record AreFields (input made : List ℕ) : Type 0 where
-  pub document : Value
-  pub is_read : IsDocument input (view document)
-  pub is_text : made ≡ text (document_fields document)
+-- Why the text of a graph is not made: memory runs out, or its bytes exceed a word.
+abbrev pub RefusesText : Graph → Fault → Type 0
+RefusesText g Memory = ⊤
+RefusesText g TooLarge = 2 ^ 64 ≤ total g
+RefusesText g f = ⊥
 
--- Why there is no text of the fields of an input: Memory only if the input is not empty; NotJson only if it is no
--- document; TooLarge only if it is one whose bytes, with some room, exceed a word; and no other.
-abbrev pub RefusesFields : List ℕ → Fault → Type 0
-RefusesFields input Memory = 0 < length input
-RefusesFields input NotJson = (d : Data) → ¬ IsDocument input d
-RefusesFields input TooLarge = (v : Value) × IsDocument input (view v) × (2 ^ 64 ≤ total (document_fields v))
-RefusesFields input f = ⊥
+-- ---- what is read
+-- Whether a line is white space alone.
+abbrev pub is_blank : List ℕ → Bool
+is_blank l = list_all is_ascii_whitespace l
+
+-- The lines that are not blank.
+abbrev pub filled : List (List ℕ) → List (List ℕ)
+filled ls = filter (λ l. not (is_blank l)) ls
+
+-- The lines of an input.
+abbrev pub lines_in : List ℕ → List (List ℕ)
+lines_in input = slice_split (λ b. b == 10) input
+
+-- The texts of an input that are to be documents: all of it or, by lines, its lines but the blank ones.
+abbrev pub texts_of : Bool → List ℕ → List (List ℕ)
+texts_of false input = input ∷ []
+texts_of true input = filled (lines_in input)
+
+-- The texts are these documents, in their order.
+abbrev pub AreDocuments : List (List ℕ) → List Value → Type 0
+AreDocuments ts vs = AllZip (λ t v. IsDocument t (view v)) ts vs
+
+-- The line of this number, from 1 on, is the first that is neither blank nor a document.
+pub record IsFirstFault (input : List ℕ) (number : ℕ) : Type 0 where
+  pub earlier : List (List ℕ)
+  pub documents : List Value
+  pub line : List ℕ
+  pub later : List (List ℕ)
+  pub parts : lines_in input ≡ earlier ++ line ∷ later
+  pub are : AreDocuments (filled earlier) documents
+  pub some : is_blank line ≡ false
+  pub none : (d : Data) → ¬ IsDocument line d
+  pub counted : number ≡ length earlier + 1
+
+-- A text is a document, which follows those before.
+pub record AppendsDocument (t : List ℕ) (old new : List Value) : Type 0 where
+  pub document : Value
+  pub is_read : IsDocument t (view document)
+  pub follows : new ≡ old ++ document ∷ []
+
+-- Why a text is not read: NotJson only if it is no document, with the line that is given, if one is; Memory only if the
+-- text is not empty; and no other.
+abbrev pub RefusesDocument : List ℕ → Option ℕ → FieldsFault → Type 0
+RefusesDocument t given (NotJson line column said) = ((d : Data) → ¬ IsDocument t d) × IfSome given (λ n. line ≡ n)
+RefusesDocument t given (Other Memory) = 0 < length t
+RefusesDocument t given (Other f) = ⊥
+
+-- The texts of the input are documents, and `made` is the text of their fields, with some room in their texts, names and
+-- arrays.
+pub record AreFields (by_lines : Bool) (input made : List ℕ) : Type 0 where
+  pub documents : List Value
+  pub are_read : AreDocuments (texts_of by_lines input) documents
+  pub is_text : made ≡ text (all_fields documents)
+
+-- Why there is no text of the fields of an input: NotJson only if it is no document or, by lines, for the first line that
+-- is none; Memory, but not for an empty input that is one document; TooLarge only if the texts are documents whose bytes,
+-- with some room, exceed a word; and no other.
+abbrev pub RefusesFields : Bool → List ℕ → FieldsFault → Type 0
+RefusesFields false input (NotJson line column said) = (d : Data) → ¬ IsDocument input d
+RefusesFields true input (NotJson line column said) = IsFirstFault input line
+RefusesFields false input (Other Memory) = 0 < length input
+RefusesFields true input (Other Memory) = ⊤
+RefusesFields by_lines input (Other f) =
+    (vs : List Value) × AreDocuments (texts_of by_lines input) vs × RefusesText (all_fields vs) f
 
 -- ---- a run
--- There is no word, and `made` is the text of the fields of what is read.
-abbrev pub AreFieldsFor : ℕ → Option (List ℕ) → List ℕ → Type 0
-AreFieldsFor words known made = (words ≡ 0) × IfSome known (λ bytes. AreFields bytes made)
+-- Whether documents are lines: asked for by the word `--lines`. No other word, and no second one, is accepted.
+abbrev pub lines_asked : List (String Global) → Option Bool
+lines_asked [] = Some false
+lines_asked (w ∷ ws) = cond ((length ws == 0) && bytes_eq (string_bytes w) (codes "--lines")) (Some true) None
 
--- The faults that may end a run before anything is written: Words exactly if there is a word; otherwise a fault of reading,
--- or of the text of the fields of what is read. NotWhole and Open are none of them.
-abbrev pub MayEndFields : ℕ → Option (List ℕ) → Fault → Type 0
-MayEndFields words known fault.Words = 0 < words
-MayEndFields words known Reading = words ≡ 0
-MayEndFields words known NotWhole = ⊥
-MayEndFields words known Writing = ⊥
-MayEndFields words known Open = ⊥
-MayEndFields words known f = (words ≡ 0) × IfSome known (λ bytes. RefusesFields bytes f)
+-- The words are accepted, all bytes of the reader are read if they are known, and `made` is the text of their fields.
+pub record AreFieldsFor (asked : Option Bool) (known : Option (List ℕ)) (made : List ℕ) : Type 0 where
+  pub by_lines : Bool
+  pub is_asked : asked ≡ Some by_lines
+  pub input : List ℕ
+  pub is_read : IfSome known (λ bytes. input ≡ bytes)
+  pub fields : AreFields by_lines input made
+
+-- The faults that may end a run before anything is written: Words exactly if the words are not accepted; otherwise
+-- Reading, or a fault of the text of the fields of what is read.
+abbrev pub MayEndFields : Option Bool → Option (List ℕ) → FieldsFault → Type 0
+MayEndFields None known f = f ≡ Other fault.Words
+MayEndFields (Some by_lines) known f = (f ≡ Other Reading)
+    ⊎ ((input : List ℕ) × IfSome known (λ bytes. input ≡ bytes) × RefusesFields by_lines input f)
 
 -- The beginning of the line of a fault.
 abbrev pub program : List ℕ
 program = codes "allocative-fields: "
 
+-- The status of a fault.
+abbrev pub fields_status : FieldsFault → ℕ
+fields_status (NotJson line column said) = status_of fault.NotJson
+fields_status (Other f) = status_of f
+
+-- The line of a text that is not JSON, with its place and what is said of it.
+abbrev pub place_line : List ℕ → List ℕ → List ℕ → List ℕ
+place_line line column said = Lines.line_of (codes "allocative-fields: input is not JSON: line " ∷ line
+    ∷ codes ", column " ∷ column ∷ codes ": " ∷ said ∷ [])
+
+-- The line of a fault on standard error.
+abbrev pub fields_line : FieldsFault → List ℕ
+fields_line (NotJson line column said) = place_line (decimal line) (decimal column) (inline_text said)
+fields_line (Other f) = line_of program f
+
 -- The text of the fields of what is read follows what the output held.
-pub record EndsWithFields (words : ℕ) (known output output' : Option (List ℕ)) : Type 0 where
+pub record EndsWithFields (asked : Option Bool) (known output output' : Option (List ℕ)) : Type 0 where
   pub made : List ℕ
-  pub fields : AreFieldsFor words known made
+  pub fields : AreFieldsFor asked known made
   pub written : Appends output output' made
 
 -- A beginning of that text follows what the output held, and the line of a failed write, or a beginning of it, what the
 -- errors held.
-pub record CutsOffFields (words : ℕ) (known output output' errors errors' : Option (List ℕ)) : Type 0 where
+pub record CutsOffFields (asked : Option Bool) (known output output' errors errors' : Option (List ℕ)) : Type 0 where
   pub made : List ℕ
-  pub fields : AreFieldsFor words known made
+  pub fields : AreFieldsFor asked known made
   pub begun : AppendsBeginning output output' made
   pub told : AppendsBeginning errors errors' (line_of program Writing)
+
+-- The status is that of a fault that may end the run before anything is written. Its line, or a beginning of it, follows
+-- what the errors held.
+pub record FailsFields (asked : Option Bool) (known errors errors' : Option (List ℕ)) (status : ℕ) : Type 0 where
+  pub cause : FieldsFault
+  pub is_status : status ≡ fields_status cause
+  pub ends : MayEndFields asked known cause
+  pub told : AppendsBeginning errors errors' (fields_line cause)

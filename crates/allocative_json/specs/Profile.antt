@@ -1,10 +1,14 @@
--- What the roots of a document show, and which reports of them are right.
-use Rattle.std.specs.Prelude.{◌≡◌, ℕ, ℤ, ◌<◌, ⊤, Bool, false, List, length, Option, Some, codes, string_bytes}
+-- What the roots of a document show, the lines that `exact` drops, and which reports are right.
+use Rattle.std.specs.Prelude.{◌≡◌, ℕ, ℤ, ◌<◌, ⊤, cond, Bool, true, false, List, [], ◌∷◌, ◌++◌, length, Option, Some, codes}
+use Rattle.std.specs.Prelude.{string_bytes}
 use Rattle.std.specs.BTreeSet.{BTreeSet}
+use Rattle.std.specs.Ordering.{eq_by_cmp}
 use Rattle.serde_json.specs.Data.{Data}
 use Rattle.serde_json.specs.View.{view}
 use Rattle.serde_json.specs.declared.value.Value.{Value}
 use Rattle.allocative.specs.Graph.{text}
+use Rattle.allocative.specs.Path.{key_cmp}
+use Rattle.allocative.specs.Graph.{last_key, without_lines}
 use Rattle.allocative.specs.Shows.{Showing, Nothing, Both, Inside, Field, each_shows}
 use Rattle.allocative.specs.Visits.{Profile, IsProfileOf}
 use Rattle.allocative.specs.Collector.{OfGraph, begin, no_entries}
@@ -13,10 +17,8 @@ use Rattle.allocative.specs.JsonShows.{stored_value}
 use Rattle.allocative.specs.Parts.{optional_shows}
 use Rattle.allocative_json.specs.declared.fault.Fault.{Fault}
 use Rattle.allocative_json.specs.declared.fault.Fault.TheVariants.{Memory, NotJson, NotWhole, TooLarge}
-use Rattle.allocative_json.specs.declared.printed.Report.{Report}
-use Rattle.allocative_json.specs.Lines.{asked_text}
-use Rattle.allocative_json.specs.Numbers.{is_whole}
-use Rattle.allocative_json.specs.Roots.{IsDocument, AreRoots}
+use Rattle.allocative_json.specs.declared.profile.Report.{Report}
+use Rattle.allocative_json.specs.Roots.{is_whole, IsDocument, AreRoots}
 
 -- What a number of the set shows: a field `key`, with the number inside it.
 abbrev pub key_shows : ℤ → Showing
@@ -29,6 +31,19 @@ index_shows s = Field (codes "BTreeSet") (Some 24) (Inside (codes "data") 8 (eac
 -- What a document shows, with the room of its texts and arrays, followed by what a set shows if there is one.
 abbrev pub roots_show : Value → Option (BTreeSet ℤ) → Showing
 roots_show v n = Both (stored_value v) (optional_shows index_shows n)
+
+-- A line with its line feed, or nothing if its last key is `unused_capacity`.
+abbrev pub kept_line : List ℕ → List ℕ
+kept_line l = cond (eq_by_cmp key_cmp (codes "unused_capacity") (last_key l)) [] (l ++ 10 ∷ [])
+
+-- A text without the lines whose last key is `unused_capacity`.
+abbrev pub kept_lines : List ℕ → List ℕ
+kept_lines t = without_lines (codes "unused_capacity") t
+
+-- A text as it was asked for: with exact, without the lines whose last key is `unused_capacity`.
+abbrev pub asked_text : Bool → List ℕ → List ℕ
+asked_text true t = kept_lines t
+asked_text false t = t
 
 -- The texts of a profile: that of its graph, which with `exact` is without the lines that `exact` drops, and that of its
 -- warnings.

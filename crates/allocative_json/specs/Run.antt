@@ -1,16 +1,42 @@
--- What a whole run does.
-use Rattle.std.specs.Prelude.{◌≡◌, ℕ, ◌<◌, ⊤, ◌⊎◌, List, length, Option, IfSome, codes, string_bytes}
+-- The words of a command line, and what a whole run does.
+use Rattle.std.specs.Prelude.{◌≡◌, ◌≢◌, ℕ, ◌<◌, ⊤, ◌⊎◌, ◌↔◌, IsTrue, List, map, length, All, AllPairs, Contains, Option}
+use Rattle.std.specs.Prelude.{IfSome, codes, String, string_bytes}
+use Rattle.std.specs.declared.alloc.Global.{Global}
 use Rattle.std.specs.Io.KnownBytes.{Appends}
 use Rattle.allocative_io.specs.Streams.{AppendsBeginning}
 use Rattle.allocative_json.specs.declared.fault.Fault.{Fault}
 use Rattle.allocative_json.specs.declared.fault.Fault.TheVariants.{Memory, Reading, Writing, Open}
 use Rattle.allocative_json.specs.declared.fault.Fault.TheVariants as fault
-use Rattle.allocative_json.specs.declared.printed.Report.{Report}
+use Rattle.allocative_json.specs.declared.profile.Report.{Report}
 use Rattle.allocative_json.specs.declared.words.Words.{Words}
 use Rattle.allocative_json.specs.Fault.{status_of, line_of}
 use Rattle.allocative_json.specs.Profile.{IsRightReport, RefusesReport}
-use Rattle.allocative_json.specs.Words.{Word, AreWords, Asks}
 
+-- ---- words
+-- A word is its bytes.
+abbrev pub Word : Type 0
+Word = List ℕ
+
+-- The words of some texts.
+abbrev pub words_of : List (String Global) → List Word
+words_of texts = map string_bytes texts
+
+-- The word is one of the three.
+abbrev pub IsKnown : Word → Type 0
+IsKnown w = (w ≡ codes "exact") ⊎ (w ≡ codes "index") ⊎ (w ≡ codes "registry")
+
+-- Each word is one of the three, and none occurs twice.
+pub record AreWords (ws : List Word) : Type 0 where
+  pub known : All IsKnown ws
+  pub once : AllPairs (λ v w. v ≢ w) ws
+
+-- Each field is true exactly if its word is there.
+pub record Asks (ws : List Word) (asked : Words) : Type 0 where
+  pub exact : IsTrue asked.exact ↔ Contains ws (codes "exact")
+  pub index : IsTrue asked.index ↔ Contains ws (codes "index")
+  pub registry : IsTrue asked.registry ↔ Contains ws (codes "registry")
+
+-- ---- a run
 -- The words are accepted, all bytes of the reader are read if they are known, and the report of them is right.
 pub record IsReportFor (texts : List Word) (known : Option (List ℕ)) (made : Report) : Type 0 where
   pub words : AreWords texts

@@ -1,18 +1,71 @@
-//! The fields of a JSON document: a flame graph with the bytes that the values at each path declare.
-ghost use Rattle.std.specs.Prelude.{◌≡◌, IfOk, IfErr, MatchResult, map, length, string_bytes, vec_capacity};
+//! The fields of JSON documents: a flame graph with the bytes that the values at each path declare.
+ghost use Rattle.std.specs.Prelude.{◌≡◌, ◌++◌, true, IfOk, IfErr, OnOk, MatchResult, map, length, codes, string_bytes, vec_capacity};
+ghost use Rattle.allocative_graph.specs.Graph.{text};
 ghost use Rattle.allocative_graph.specs.Rows.{sum_of_all};
-ghost use Rattle.allocative_json.specs.Fields.{bytes_alone, array_bytes, item_of, member_below, member_of, fields_of, document_fields, RefusesGraph, Makes, AreFields, RefusesFields};
+ghost use Rattle.allocative_json.specs.Fields.{escaped_char, escaped, bytes_alone, array_bytes, value_below, member_below, member_of, fields_of, all_fields, is_blank, texts_of, AreDocuments, AppendsDocument, RefusesDocument, RefusesGraph, RefusesText, Makes, AreFields, RefusesFields};
 
 use crate::fault::Fault;
 use allocative::{Child, FlameGraph, Key, Refusal};
 use serde_json::{Map, Value};
-use std::alloc::Global;
+use std::alloc::{AllocError, Global};
+use std::fmt::InlineText;
 
-mod key;
-mod run;
+/// Why there is no text of fields.
+#[derive(Clone, Copy)]
+pub enum FieldsFault {
+    /// A text is not JSON: its line and its column in bytes, counted from 1, and what `serde_json` says of it.
+    NotJson(usize, usize, InlineText<40>),
+    /// Any other fault.
+    Other(Fault),
+}
 
-use key::key_of;
-pub use run::run_fields;
+impl From<Fault> for FieldsFault {
+    ghost use Rattle.std.specs.Prelude.{◌≡◌};
+    ghost use Rattle.allocative_json.specs.declared.fields.FieldsFault.TheVariants.{Other};
+
+    ghost from_gives = { λ f g. g ≡ Other f };
+
+    fn from(fault: Fault) -> FieldsFault {
+        FieldsFault::Other(fault)
+    }
+}
+
+// Appends a character of a name.
+fn push_char(c: char, text: &mut String) -> Result<(), AllocError>
+    ensures { OnOk result (string_bytes text.new ≡ string_bytes text.old ++ escaped_char c) }
+{
+    match c {
+        '%' => text.push_str("%25"),
+        ';' => text.push_str("%3B"),
+        '[' => text.push_str("%5B"),
+        '\n' => text.push_str("%0A"),
+        '\r' => text.push_str("%0D"),
+        c => text.push(c),
+    }
+}
+
+// The name, with five characters escaped.
+fn escaped(alloc: Global, name: &str) -> Result<String, AllocError>
+    ensures { IfOk result (λ made. string_bytes made ≡ escaped name.now) }
+{
+    let mut made = String::new(alloc);
+    for c in name.chars() {
+        push_char(c, &mut made)?;
+    }
+    Ok(made)
+}
+
+// The key of a member of this name. If nothing of the name is escaped, the key has the name itself, and the copy that
+// was compared with it is dropped.
+fn key_of(alloc: Global, name: &'static str) -> Result<Key, AllocError>
+    ensures { IfOk result (λ key. key ≡ escaped name.now) }
+{
+    let made = escaped(alloc, name)?;
+    if made.as_str() == name {
+        return Ok(Key::new(name));
+    }
+    Ok(Key::new(Box::leak(Box::new(alloc, made)?).as_str()))
+}
 
 // A graph whose root alone has bytes.
 fn bytes_alone(alloc: Global, size: usize) -> Result<FlameGraph, Refusal>
@@ -64,7 +117,7 @@ fn graph_of(alloc: Global, value: &'static Value) -> Result<FlameGraph, Refusal>
 fn graph_of_items(alloc: Global, items: &'static Vec<Value>) -> Result<FlameGraph, Refusal>
     ensures { Makes (sum_of_all
         (bytes_alone (array_bytes (length items.now.items) (vec_capacity items.now)))
-        (map item_of items.now.items)) result }
+        (map (value_below (codes "[]")) items.now.items)) result }
 {
     let mut graph = array_alone(alloc, items)?;
     for item in items {
@@ -91,34 +144,121 @@ fn graph_of_members(
     Ok(graph)
 }
 
-// The graph of a whole document, under `$`.
-fn graph_of_document(alloc: Global, document: &'static Value) -> Result<FlameGraph, Refusal>
-    ensures { Makes (document_fields document.now) result }
+// The graph of some documents, each of which stands under `$`.
+fn graph_of_documents(alloc: Global, documents: &'static Vec<Value>) -> Result<FlameGraph, Refusal>
+    ensures { Makes (all_fields documents.now.items) result }
 {
     let mut graph = FlameGraph::default(alloc);
-    graph.add_child(Key::new("$"), graph_of(alloc, document)?)?;
+    for document in documents {
+        graph.add_child(Key::new("$"), graph_of(alloc, document)?)?;
+    }
     Ok(graph)
 }
 
-/// The fields of the document that `serde_json` reads from the input, as collapsed stacks: at each path the bytes that
-/// the values there declare. The document and the keys stay in memory until the process ends.
-///
-/// A path begins with `$`. A member of an object stands under its name, in which `%`, `;`, `[`, a line feed and a
-/// carriage return are `%25`, `%3B`, `%5B`, `%0A` and `%0D`, and all items of an array stand under `[]`. A value has 32
-/// bytes, a text also its capacity, an array 32 for each unused place, and a member 24 and the capacity of its name.
-///
-/// It returns `Fault::NotJson` if `serde_json` refuses the input for a reason other than memory, and `Fault::TooLarge`
-/// only if the bytes of the document exceed `usize::MAX`, with some room in its texts, names and arrays. No contract of
-/// `serde_json` bounds the room that its reader leaves. So the clause says nothing of `Fault::TooLarge` for a document
-/// with a text, an array or a member of an object. Otherwise the error is `Fault::Memory`, which an empty input never
-/// causes.
-#[tactic(auto, using(crate::proofs::FieldsLemmas::ending))]
-pub fn fields_json(alloc: Global, input: &[u8]) -> Result<String, Fault>
-    ensures ok { IfOk result (λ made. AreFields input.now (string_bytes made)) }
-    ensures err { IfErr result (RefusesFields input.now) }
+// The text of the fields of some documents, each of which stands under `$`.
+#[tactic(auto, using(crate::proofs::FieldsLemmas::reading))]
+fn text_of(alloc: Global, documents: Vec<Value>) -> Result<String, Fault>
+    ensures { MatchResult result (λ made. string_bytes made ≡ text (all_fields documents.items))
+        (RefusesText (all_fields documents.items)) }
 {
-    let document = Value::from_slice(alloc, input)?;
-    let document: &'static Value = Box::leak(Box::new(alloc, document)?);
-    let graph = graph_of_document(alloc, document)?;
+    let documents: &'static Vec<Value> = Box::leak(Box::new(alloc, documents)?);
+    let graph = graph_of_documents(alloc, documents)?;
     Ok(graph.write()?)
+}
+
+// What an error says before its place.
+fn said_by(error: serde_json::Error) -> InlineText<40> {
+    let text = InlineText::<40>::of(error);
+    match text.as_str().split_once(" at ") {
+        Some((said, _place)) => InlineText::of(said),
+        None => text,
+    }
+}
+
+// Reads a text as a document, and appends it. If it is a line, its number is given.
+#[tactic(auto, using(crate::proofs::FieldsLemmas::reading))]
+fn push_document(
+    alloc: Global,
+    text: &[u8],
+    line: Option<usize>,
+    documents: &mut Vec<Value>,
+) -> Result<(), FieldsFault>
+    ensures ok { OnOk result
+        (AppendsDocument text.now documents.old.items documents.new.items) }
+    ensures err { IfErr result (RefusesDocument text.now line) }
+{
+    match Value::from_slice(alloc, text) {
+        Ok(document) => documents
+            .push(document)
+            .map_err(|_| FieldsFault::Other(Fault::Memory)),
+        Err(error) if error.is_memory() => Err(FieldsFault::Other(Fault::Memory)),
+        Err(error) => Err(FieldsFault::NotJson(
+            line.unwrap_or(error.line()),
+            error.column(),
+            said_by(error),
+        )),
+    }
+}
+
+// Whether a text is white space alone.
+fn is_blank(text: &[u8]) -> bool
+    ensures { result ≡ is_blank text.now }
+{
+    text.iter().all(|byte| byte.is_ascii_whitespace())
+}
+
+// The documents of an input, one a line.
+fn documents_of_lines(alloc: Global, input: &[u8]) -> Result<Vec<Value>, FieldsFault>
+    ensures ok { IfOk result
+        (λ made. AreDocuments (texts_of true input.now) made.items) }
+    ensures err { IfErr result (RefusesFields true input.now) }
+{
+    let mut documents = Vec::new(alloc);
+    let mut number = 0usize;
+    for line in input.split(|byte| *byte == b'\n') {
+        number = number.saturating_add(1);
+        if is_blank(line) {
+            continue;
+        }
+        push_document(alloc, line, Some(number), &mut documents)?;
+    }
+    Ok(documents)
+}
+
+// The documents of an input: all of it, or one a line.
+#[tactic(auto, using(crate::proofs::FieldsLemmas::reading))]
+fn documents_of(alloc: Global, input: &[u8], by_lines: bool) -> Result<Vec<Value>, FieldsFault>
+    ensures ok { IfOk result
+        (λ made. AreDocuments (texts_of by_lines input.now) made.items) }
+    ensures err { IfErr result (RefusesFields by_lines input.now) }
+{
+    if by_lines {
+        return documents_of_lines(alloc, input);
+    }
+    let mut documents = Vec::new(alloc);
+    push_document(alloc, input, None, &mut documents)?;
+    Ok(documents)
+}
+
+/// The fields of the documents that `serde_json` reads from the input, as collapsed stacks: at each path the bytes that
+/// the values there declare. The input is one document or, `by_lines`, one a line; lines of white space alone are
+/// skipped. The documents and the keys stay in memory until the process ends.
+///
+/// A path begins with `$`, under which all documents add up. A member of an object stands under its name, in which `%`,
+/// `;`, `[`, a line feed and a carriage return are `%25`, `%3B`, `%5B`, `%0A` and `%0D`, and all items of an array stand
+/// under `[]`. A value has 32 bytes, a text also its capacity, an array 32 for each unused place, and a member 24 and the
+/// capacity of its name.
+///
+/// It returns `FieldsFault::NotJson` for the first text that `serde_json` refuses for a reason other than memory, and
+/// `Fault::TooLarge` only if the bytes of the documents exceed `usize::MAX`, with some room in their texts, names and
+/// arrays. No contract of `serde_json` bounds the room that its reader leaves. So the clause says nothing of
+/// `Fault::TooLarge` for a document with a text, an array or a member of an object. Otherwise the error is
+/// `Fault::Memory`, which an empty input that is one document never causes.
+#[tactic(auto, using(crate::proofs::FieldsLemmas::refused_fields))]
+pub fn fields_json(alloc: Global, input: &[u8], by_lines: bool) -> Result<String, FieldsFault>
+    ensures ok { IfOk result (λ made. AreFields by_lines input.now (string_bytes made)) }
+    ensures err { IfErr result (RefusesFields by_lines input.now) }
+{
+    let documents = documents_of(alloc, input, by_lines)?;
+    Ok(text_of(alloc, documents)?)
 }

@@ -4,7 +4,6 @@
 
 pub mod fault;
 pub mod fields;
-pub mod printed;
 pub mod profile;
 pub mod roots;
 pub mod run;
@@ -12,10 +11,9 @@ pub mod texts;
 pub mod words;
 
 pub use crate::fault::Fault;
-pub use crate::fields::{fields_json, run_fields};
-pub use crate::printed::Report;
-pub use crate::profile::profile_json;
+pub use crate::fields::{FieldsFault, fields_json};
+pub use crate::profile::{Report, profile_json};
 pub use crate::roots::read_roots;
-pub use crate::run::{report_fault, run_json};
+pub use crate::run::{report_fault, run_fields, run_json};
 pub use crate::texts::report;
 pub use crate::words::{Words, read_words};

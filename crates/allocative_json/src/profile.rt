@@ -8,7 +8,6 @@ ghost use Rattle.allocative.specs.Visits.{IsProfileOf};
 ghost use Rattle.allocative_json.specs.Profile.{roots_show, IsReportOf, IsRightReport, RefusesRoots, RefusesReport};
 
 use crate::fault::Fault;
-use crate::printed::Report;
 use crate::roots::read_roots;
 use crate::texts::report;
 use allocative::{
@@ -17,6 +16,15 @@ use allocative::{
 use serde_json::Value;
 use std::alloc::Global;
 use std::collections::BTreeSet;
+
+/// What a run prints.
+#[derive(Drop)]
+pub struct Report {
+    /// The lines of the flame graph.
+    pub profile: String,
+    /// The warnings, one per line.
+    pub warnings: String,
+}
 
 // A document, and the set of its numbers if there is one.
 #[derive(Drop)]

@@ -1,10 +1,9 @@
 //! Reads a document and its numbers.
-ghost use Rattle.std.specs.Prelude.{◌≡◌, true, false, OnOk, OnErr, IfOk, IfErr};
+ghost use Rattle.std.specs.Prelude.{◌≡◌, OnOk, IfOk, IfErr};
 ghost use Rattle.std.specs.Ordering.{int_cmp};
 ghost use Rattle.std.specs.BTreeSet.{IsOrdered};
 ghost use Rattle.serde_json.specs.View.{view, items_view, members_view};
-ghost use Rattle.allocative_json.specs.Numbers.{is_whole, are_whole, have_whole, has_number, items_have, members_have, AddsKeys, IsIndexOf};
-ghost use Rattle.allocative_json.specs.Roots.{AreRoots, RefusesInput};
+ghost use Rattle.allocative_json.specs.Roots.{is_whole, are_whole, have_whole, has_number, items_have, members_have, AddsKeys, IsIndexOf, AreRoots, RefusesInput};
 
 use crate::fault::Fault;
 use serde_json::{Map, Value};
@@ -43,19 +42,6 @@ fn are_whole_members(members: &Map<String, Value>) -> bool
         all_whole = all_whole & is_whole_value(member);
     }
     all_whole
-}
-
-// Fails with `Fault::NotWhole` exactly if a number of the document is neither an i64 nor a u64.
-fn check_numbers(document: &Value) -> Result<(), Fault>
-    ensures ok { OnOk result (is_whole (view document.now) ≡ true) }
-    ensures not_whole { OnErr result (is_whole (view document.now) ≡ false) }
-    ensures err { IfErr result (λ f. f ≡ Fault.NotWhole) }
-{
-    if is_whole_value(document) {
-        Ok(())
-    } else {
-        Err(Fault::NotWhole)
-    }
 }
 
 // Adds each whole number of the document to the set.
@@ -126,7 +112,9 @@ pub fn read_roots(
     ensures err { IfErr result (RefusesInput input.now) }
 {
     let document = Value::from_slice(alloc, input)?;
-    check_numbers(&document)?;
+    if !is_whole_value(&document) {
+        return Err(Fault::NotWhole);
+    }
     let set = if index {
         Some(index_of(alloc, &document)?)
     } else {

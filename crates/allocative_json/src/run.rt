@@ -1,17 +1,18 @@
-//! The program `allocative-json`, over any reader and two writers.
-ghost use Rattle.std.specs.Prelude.{◌≡◌, ◌≢◌, OnOk, IfOk, IfErr, IfSome};
+//! The programs `allocative-json` and `allocative-fields`, over any reader and two writers.
+ghost use Rattle.std.specs.Prelude.{◌≡◌, ◌≢◌, None, OnOk, IfOk, IfErr, IfSome, string_bytes};
 ghost use Rattle.allocative_io.specs.Streams.{AppendsBeginning};
 ghost use Rattle.allocative_json.specs.Fault.{status_of, line_of};
+ghost use Rattle.allocative_json.specs.Fields.{lines_asked, fields_status, place_line, fields_line, AreFieldsFor, MayEndFields, EndsWithFields, CutsOffFields, FailsFields};
 ghost use Rattle.allocative_json.specs.Profile.{IsRightReport, RefusesReport};
-ghost use Rattle.allocative_json.specs.Run.{StopsReading, IsReportFor, IsWritten, IsBegun, EndsWell, EndsCutOff, EndsIn, MayEndRun, program};
-ghost use Rattle.allocative_json.specs.Words.{words_of, AreWords};
+ghost use Rattle.allocative_json.specs.Run.{StopsReading, IsReportFor, IsWritten, IsBegun, EndsWell, EndsCutOff, EndsIn, MayEndRun, program, words_of, AreWords};
 
 use crate::fault::Fault;
-use crate::printed::Report;
-use crate::profile::{report_by_registry, report_of};
+use crate::fields::{FieldsFault, fields_json};
+use crate::profile::{Report, report_by_registry, report_of};
 use crate::roots::read_roots;
 use crate::words::{Words, read_words};
 use allocative_io::{ReadError, read_input, write_line, write_text};
+use itoa::Buffer;
 use std::alloc::Global;
 use std::io::{self, Read, Write};
 use std::mem;
@@ -118,5 +119,112 @@ pub fn run_json<R: Read, W: Write, E: Write>(
             Err(_) => report_fault(errors, "allocative-json: ", Fault::Writing),
         },
         Err(fault) => report_fault(errors, "allocative-json: ", fault),
+    }
+}
+
+// Whether documents are lines, or `None` if a word is not accepted.
+fn lines_asked(words: &[String]) -> Option<bool>
+    ensures { result ≡ lines_asked words.now }
+{
+    let Some((word, others)) = words.split_first() else {
+        return Some(false);
+    };
+    if others.is_empty() && word.as_str() == "--lines" {
+        Some(true)
+    } else {
+        None
+    }
+}
+
+// Parses the words, reads the input, and makes the text of its fields.
+fn make_fields<R: Read>(
+    alloc: Global,
+    words: &[String],
+    input: &mut R,
+) -> Result<String, FieldsFault>
+    ensures ok { IfOk result (λ made. AreFieldsFor (lines_asked words.now)
+        (R.remaining input.old) (string_bytes made)) }
+    ensures err { IfErr result
+        (MayEndFields (lines_asked words.now) (R.remaining input.old)) }
+    ensures unread { lines_asked words.now ≡ None → input.new ≡ input.old }
+{
+    let Some(by_lines) = lines_asked(words) else {
+        return Err(FieldsFault::Other(Fault::Words));
+    };
+    let bytes = read_bytes(alloc, input)?;
+    fields_json(alloc, bytes.as_slice(), by_lines)
+}
+
+// Writes the line of a text that is not JSON.
+fn say_place<'a, E: Write>(errors: &mut E, line: &'a str, column: &'a str, said: &'a str)
+    ensures { AppendsBeginning (E.contents errors.old) (E.contents errors.new)
+        (place_line line.entry.now column.entry.now said.entry.now) }
+{
+    let _is_whole = write_line(
+        errors,
+        &[
+            "allocative-fields: input is not JSON: line ",
+            line,
+            ", column ",
+            column,
+            ": ",
+            said,
+        ],
+    );
+}
+
+// Writes the line of the fault and returns its status, even if the line cannot be written.
+fn report_fields_fault<E: Write>(errors: &mut E, fault: FieldsFault) -> u8
+    ensures status { result ≡ fields_status fault }
+    ensures line { AppendsBeginning (E.contents errors.old) (E.contents errors.new)
+        (fields_line fault) }
+{
+    match fault {
+        FieldsFault::NotJson(line, column, said) => {
+            let mut lines = Buffer::new();
+            let mut columns = Buffer::new();
+            say_place(
+                errors,
+                lines.format(line),
+                columns.format(column),
+                said.as_str(),
+            );
+            Fault::NotJson.status()
+        }
+        FieldsFault::Other(fault) => report_fault(errors, "allocative-fields: ", fault),
+    }
+}
+
+/// Runs the program `allocative-fields` and returns its status. It accepts one word, `--lines`: then each line of the
+/// input is a document. If the words are not accepted, nothing is read.
+///
+/// The text is made before anything is written. With status 0 it is on the output, and with status 7 a beginning of it.
+/// With any other status nothing is written to the output. With every status but 0 the line of the fault is written to
+/// the errors, or a beginning of it if that fails, and the status is that of the fault. The line of a text that is not
+/// JSON has its place. No clause says which place that is, but that by lines its line is the first that is neither JSON
+/// nor blank.
+pub fn run_fields<R: Read, W: Write, E: Write>(
+    alloc: Global,
+    words: &[String],
+    input: &mut R,
+    output: &mut W,
+    errors: &mut E,
+) -> u8
+    ensures well { result ≡ 0 → EndsWithFields (lines_asked words.now)
+        (R.remaining input.old) (W.contents output.old) (W.contents output.new) }
+    ensures cut_off { result ≡ 7 → CutsOffFields (lines_asked words.now)
+        (R.remaining input.old) (W.contents output.old) (W.contents output.new)
+        (E.contents errors.old) (E.contents errors.new) }
+    ensures fault { result ≢ 0 → result ≢ 7 → FailsFields (lines_asked words.now)
+        (R.remaining input.old) (E.contents errors.old) (E.contents errors.new) result }
+    ensures untouched { result ≢ 0 → result ≢ 7 → output.new ≡ output.old }
+    ensures unread { lines_asked words.now ≡ None → input.new ≡ input.old }
+{
+    match make_fields(alloc, words, input) {
+        Ok(text) => match write_text(output, text.as_str()) {
+            Ok(()) => 0,
+            Err(_) => report_fault(errors, "allocative-fields: ", Fault::Writing),
+        },
+        Err(fault) => report_fields_fault(errors, fault),
     }
 }

@@ -1,11 +1,10 @@
 //! The texts that a run writes.
 ghost use Rattle.std.specs.Prelude.{◌≡◌, ◌++◌, OnOk, IfOk, MatchResult, string_bytes};
 ghost use Rattle.allocative.specs.Graph.{last_key};
-ghost use Rattle.allocative_json.specs.Lines.{kept_line, kept_lines};
-ghost use Rattle.allocative_json.specs.Profile.{AreTexts};
+ghost use Rattle.allocative_json.specs.Profile.{kept_line, kept_lines, AreTexts};
 
 use crate::fault::Fault;
-use crate::printed::Report;
+use crate::profile::Report;
 use allocative::FlameGraphOutput;
 use std::alloc::{AllocError, Global};
 

@@ -1,6 +1,6 @@
 //! The words that the program accepts.
 ghost use Rattle.std.specs.Prelude.{◌≡◌, ◌↔◌, IsTrue, Contains, MatchResult};
-ghost use Rattle.allocative_json.specs.Words.{words_of, IsKnown, AreWords, Asks};
+ghost use Rattle.allocative_json.specs.Run.{words_of, IsKnown, AreWords, Asks};
 
 use crate::fault::Fault;
 

@@ -1,11 +1,11 @@
 -- What refuses an item, a member, or adding one, refuses the whole graph.
-use Rattle.std.proofs.Common.{◌≡◌, ◌+◌, length, map, take, ap, ◌∙◌, arith}
+use Rattle.std.proofs.Common.{◌≡◌, ◌+◌, length, map, take, codes, ap, ◌∙◌, arith}
 use Rattle.std.specs.Prelude.{string_capacity, vec_capacity}
 use Rattle.std.proofs.lemmas.Iterator.Consumers.{YieldsList-end, YieldsList-from_rest, YieldsList-turn}
 use Rattle.allocative_graph.specs.Graph.{total}
 use Rattle.allocative_graph.specs.Rows.{sum_of_all, total_of}
 use Rattle.allocative_graph.proofs.Graphs.{total-all}
-use Rattle.allocative_json.specs.Fields.{bytes_alone, array_bytes, item_of, member_below, member_of, fields_of}
+use Rattle.allocative_json.specs.Fields.{bytes_alone, array_bytes, value_below, member_below, member_of, fields_of}
 use Rattle.allocative_json.proofs.FieldsLemmas.{passed_on, refused_more, refused_sum, start_within, more_within}
 use Rattle.allocative_json.proofs.FieldsLemmas.{total-add_self}
 use Rattle.allocative_json.proofs.fields.+fields.Goals as goal
@@ -13,7 +13,7 @@ use Rattle.allocative_json.proofs.fields.+fields.Goals as goal
 pub graph_of_items-returns-in_err-graph : goal.graph_of_items-returns-in_err-graph
 graph_of_items-returns-in_err-graph t c =
     let start = bytes_alone (array_bytes (length c.args.items.now.items) (vec_capacity c.args.items.now)) in
-    let children = map item_of c.args.items.now.items in
+    let children = map (value_below (codes "[]")) c.args.items.now.items in
     passed_on _ (sum_of_all start children) c.from_residual.result c.in_err-graph.field-0.0 c.from_residual.ensures.1
     (refused_more start (sum_of_all start children) c.in_err-graph.field-0.0 (start_within start children)
     c.in_err-graph.ensures)
@@ -22,8 +22,8 @@ pub graph_of_items-returns-in_err-graph_of : goal.graph_of_items-returns-in_err-
 graph_of_items-returns-in_err-graph_of t c =
     let xs = c.deref-item-items.result.now in
     let start = bytes_alone (array_bytes (length xs) (vec_capacity c.args.items.now)) in
-    let all = sum_of_all start (map item_of xs) in
-    let within = more_within item_of start xs c.loop-item.item-index c.item-item.result c.loop-item-test.true
+    let all = sum_of_all start (map (value_below (codes "[]")) xs) in
+    let within = more_within (value_below (codes "[]")) start xs c.loop-item.item-index c.item-item.result c.loop-item-test.true
     c.item-item.is in
     rw (← c.deref-item-items.ensures.value) (passed_on _ all c.from_residual-in_err-graph_of.result c.in_err-graph_of.field-0.0 c.from_residual-in_err-graph_of.ensures.1
     (refused_more (fields_of c.item-item.result) all c.in_err-graph_of.field-0.0 (omega (arith, within))
@@ -33,10 +33,10 @@ pub graph_of_items-returns-in_err-add_child : goal.graph_of_items-returns-in_err
 graph_of_items-returns-in_err-add_child t c =
     let xs = c.deref-item-items.result.now in
     let start = bytes_alone (array_bytes (length xs) (vec_capacity c.args.items.now)) in
-    let all = sum_of_all start (map item_of xs) in
-    let within = more_within item_of start xs c.loop-item.item-index c.item-item.result c.loop-item-test.true
+    let all = sum_of_all start (map (value_below (codes "[]")) xs) in
+    let within = more_within (value_below (codes "[]")) start xs c.loop-item.item-index c.item-item.result c.loop-item-test.true
     c.item-item.is in
-    let before : total c.loop-item.graph ≡ total (sum_of_all start (map item_of (take c.loop-item.item-index xs))) =
+    let before : total c.loop-item.graph ≡ total (sum_of_all start (map (value_below (codes "[]")) (take c.loop-item.item-index xs))) =
     ap total c.loop-item.invariant in
     let next : total c.in_ok-graph_of.field-0 ≡ total (fields_of c.item-item.result) =
     ap total c.in_ok-graph_of.ensures in

@@ -1,16 +1,16 @@
 -- of fields: the invariant of its loop
-use Rattle.std.proofs.Common.{◌≡◌, length, map, take}
+use Rattle.std.proofs.Common.{◌≡◌, length, map, take, codes}
 use Rattle.std.specs.Prelude.{vec_capacity}
 use Rattle.allocative_json.proofs.Common.{deref_pair}
 use Rattle.allocative_graph.specs.Rows.{sum_of_all}
-use Rattle.allocative_json.specs.Fields.{bytes_alone, array_bytes, item_of, member_of}
+use Rattle.allocative_json.specs.Fields.{bytes_alone, array_bytes, value_below, member_of}
 use Rattle.allocative_json.proofs.fields.+fields.Given as goal
 
 -- The graph has the items before this one.
 abbrev pub invariant-graph_of_items-loop-item : goal.invariant-graph_of_items-loop-item
 invariant-graph_of_items-loop-item l =
     l.graph ≡ sum_of_all (bytes_alone (array_bytes (length l.item-items) (vec_capacity l.fn.items)))
-    (map item_of (take l.item-index l.item-items))
+    (map (value_below (codes "[]")) (take l.item-index l.item-items))
 
 -- The children are the members so far.
 abbrev pub invariant-graph_of_members-loop-name : goal.invariant-graph_of_members-loop-name

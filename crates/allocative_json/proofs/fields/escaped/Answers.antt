@@ -5,7 +5,7 @@ use Rattle.std.proofs.lemmas.List.{map-id}
 use Rattle.std.proofs.lemmas.Iterator.{YieldsList-from_chars}
 use Rattle.std.proofs.lemmas.Iterator.Consumers.{YieldsList-end}
 use Rattle.allocative_json.specs.Fields.{escaped_char}
-use Rattle.allocative_json.proofs.fields.key.escaped.Goals as goal
+use Rattle.allocative_json.proofs.fields.escaped.Goals as goal
 
 -- After the last character the key of the whole name is made.
 pub returns : goal.returns

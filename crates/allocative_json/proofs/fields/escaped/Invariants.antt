@@ -1,7 +1,7 @@
 -- of escaped: the invariant of its loop
 use Rattle.std.proofs.Common.{◌≡◌, flat_map, string_bytes}
 use Rattle.allocative_json.specs.Fields.{escaped_char}
-use Rattle.allocative_json.proofs.fields.key.escaped.Given as goal
+use Rattle.allocative_json.proofs.fields.escaped.Given as goal
 
 -- The text is the key of the characters so far.
 abbrev pub invariant-loop-c : goal.invariant-loop-c
