@@ -1,12 +1,13 @@
 -- The accounts of a ledger after one of them has changed.
 use Rattle.std.proofs.Common.{◌≡◌, ◌≢◌, ◌∙◌, ℕ, ◌+◌, ◌≤◌, Bool, false, List, Option, Some, None, refl, sym, ap, arith}
-use Rattle.std.proofs.Common.{subst, nat_cmp, string_bytes, IfNone, OnErr, OnOk, Result, Ok, Err, String}
+use Rattle.std.proofs.Common.{subst, nat_cmp, string_bytes, IfNone, OnErr, OnOk, OnSome, Result, Ok, Err, String}
 use Rattle.std.proofs.Common.{Global}
 use Rattle.allocative_service.proofs.Common.{AccountData, ChangesAccount, is_at, lookup, remove_entry}
 use Rattle.std.specs.BTreeMap.{BTreeMap, UpdatesBy, WritesThrough, get_by_text, insert_entry}
 use Rattle.std.specs.Cmp.Lexicographic.{slice_cmp}
 use Rattle.std.specs.List.Sorted.{IsStrictlySortedBy}
-use Rattle.std.specs.Map.{keys_of}
+use Rattle.std.specs.List.{sum_by}
+use Rattle.std.specs.Map.{keys_of, set_value, values_of}
 use Rattle.std.specs.Option.{is_some, option_and_then, unwrap_or}
 use Rattle.std.specs.Str.{bytes_eq}
 use Rattle.std.specs.String.{string_cmp, string_cmp_total}
@@ -17,34 +18,42 @@ use Rattle.std.proofs.lemmas.Map.Steps.{set_value_same}
 use Rattle.std.proofs.lemmas.Map.Text.{btree_map_updates_text}
 use Rattle.std.proofs.lemmas.Slice.Eq.{bytes_eq-Decides}
 use Rattle.allocative_service.specs.declared.ledger.Ledger.{Ledger}
-use Rattle.allocative_service.specs.AccountData.{all_bytes, bytes_at, sum_of}
+use Rattle.allocative_service.specs.AccountData.{bytes_at, sum_of}
 use Rattle.allocative_service.specs.Accounts.{SameTerms, EntersWithin, Stores, account_of, entry_of, overgrown_of, total_of}
+use Rattle.allocative_service.specs.Store.{is_tenant}
 
--- All accounts, by their tenants' names.
-abbrev Accounts : Type 0
-Accounts = BTreeMap (String Global) AccountData
+-- Values by the names of tenants.
+abbrev ByName : Type 0 → Type 0
+ByName A = BTreeMap (String Global) A
 
--- Whether a name is that of the tenant.
-abbrev is_tenant : List ℕ → String Global → Bool
-is_tenant tenant = is_at (λ k. slice_cmp nat_cmp tenant (string_bytes k))
+-- The bytes of an account.
+abbrev pub account_bytes : AccountData → ℕ
+account_bytes = λ h. sum_of h.entries
 
 -- ---- one account
--- The tenant now has this account, or none, and no other account has changed.
-pub record ChangesOne (tenant : List ℕ) (now : Option AccountData) (old new : Accounts) : Type 0 where
-  pub changed : get_by_text new tenant ≡ now
-  pub others : (other : List ℕ) → other ≢ tenant → get_by_text new other ≡ get_by_text old other
+module _ {A : Type 0} where
+  -- The tenant now has this account, or none, and no other account has changed.
+  pub record ChangesOne (tenant : List ℕ) (now : Option A) (old new : ByName A) : Type 0 where
+    pub changed : get_by_text new tenant ≡ now
+    pub others : (other : List ℕ) → other ≢ tenant → get_by_text new other ≡ get_by_text old other
 
--- Updating the map under a tenant's name changes the account of this tenant and no other.
-pub changes : (tenant : List ℕ) (now : Option AccountData) (old new : Accounts) →
-    UpdatesBy string_cmp (λ k. slice_cmp nat_cmp tenant (string_bytes k)) old new now → ChangesOne tenant now old new
-changes tenant now old new h = record {
-  changed = h.1;
-  others = λ other apart.
-      let differs : bytes_eq tenant other ≡ false =
-      false_from_ne_true _ (λ same. apart (sym ((bytes_eq-Decides tenant other).0 same))) in
-      btree_map_updates_text tenant old new now h other
-      ∙ update_other bytes_eq (λ (q : List ℕ). get_by_text old q) tenant now other differs;
-}
+  -- Updating the map under a tenant's name changes the account of this tenant and no other.
+  pub changes : (tenant : List ℕ) (now : Option A) (old new : ByName A) →
+      UpdatesBy string_cmp (λ k. slice_cmp nat_cmp tenant (string_bytes k)) old new now → ChangesOne tenant now old new
+  changes tenant now old new h = record {
+    changed = h.1;
+    others = λ other apart.
+        let differs : bytes_eq tenant other ≡ false =
+        false_from_ne_true _ (λ same. apart (sym ((bytes_eq-Decides tenant other).0 same))) in
+        btree_map_updates_text tenant old new now h other
+        ∙ update_other bytes_eq (λ (q : List ℕ). get_by_text old q) tenant now other differs;
+  }
+
+  -- Inserting an account under a tenant's name changes the account of this tenant and no other.
+  pub opens : (tenant : List ℕ) (name : String Global) (now : A) (old new : ByName A) → string_bytes name ≡ tenant →
+      UpdatesBy string_cmp (string_cmp name) old new (Some now) → ChangesOne tenant (Some now) old new
+  opens tenant name now old new same h = subst (λ (t : List ℕ). ChangesOne t (Some now) old new) same
+      (changes (string_bytes name) (Some now) old new h)
 
 -- A ledger whose accounts have changed so, on the same terms.
 pub in_ledger : (tenant : List ℕ) (now : Option AccountData) (old new : Ledger) →
@@ -53,53 +62,50 @@ pub in_ledger : (tenant : List ℕ) (now : Option AccountData) (old new : Ledger
 in_ledger tenant now old new c same over =
     record { changed = c.changed; others = c.others; terms = same; overgrown = over }
 
--- What is written through the account that `get_mut` lent: the account changes and no other. The sum of all changes
--- by as much as that of the account. If the account stays as it is, so do all.
-pub record Written (tenant : List ℕ) (before now : AccountData) (old new : Accounts) : Type 0 where
-  pub one : ChangesOne tenant (Some now) old new
-  pub all : all_bytes new.entries + sum_of before.entries ≡ all_bytes old.entries + sum_of now.entries
-  pub same : now ≡ before → new.entries ≡ old.entries
+module _ {A : Type 0} (size : A → ℕ) where
+  -- The sum of the bytes of all accounts.
+  abbrev sum_all : List (String Global × A) → ℕ
+  sum_all accounts = sum_by size (values_of accounts)
 
--- A write through the account that `get_mut` lent changes this account, and the sum by as much.
-pub written : (tenant : List ℕ) (before now : AccountData) (old new : Accounts) → Some before ≡ get_by_text old tenant
-    → WritesThrough string_cmp (λ k. slice_cmp nat_cmp tenant (string_bytes k)) old now new →
-    Written tenant before now old new
-written tenant before now old new account w = record {
-  one = changes tenant (Some now) old new (w.3 (rw (← account) refl));
-  all = rw w.0 (sum_by-set_value (λ (h : AccountData). sum_of h.entries) (is_tenant tenant) old.entries before now
-      (sym account));
-  same = λ is. w.0 ∙ set_value_same _ old.entries now (sym account ∙ ap Some (sym is));
-}
+  -- What is written through the account that `get_mut` lent: the account changes and no other. The sum of all changes
+  -- by as much as that of the account. If the account stays as it is, so do all.
+  pub record Written (tenant : List ℕ) (before now : A) (old new : ByName A) : Type 0 where
+    pub one : ChangesOne tenant (Some now) old new
+    pub is : new.entries ≡ set_value (is_tenant tenant) old.entries now
+    pub all : sum_all new.entries + size before ≡ sum_all old.entries + size now
+    pub same : now ≡ before → new.entries ≡ old.entries
 
--- Inserting an account under a tenant's name changes the account of this tenant and no other.
-pub opens : (tenant : List ℕ) (name : String Global) (now : AccountData) (old new : Accounts) → string_bytes name ≡ tenant →
-    UpdatesBy string_cmp (string_cmp name) old new (Some now) → ChangesOne tenant (Some now) old new
-opens tenant name now old new same h = subst (λ (t : List ℕ). ChangesOne t (Some now) old new) same
-    (changes (string_bytes name) (Some now) old new h)
+  -- A write through the account that `get_mut` lent changes this account, and the sum by as much.
+  pub written : (tenant : List ℕ) (before now : A) (old new : ByName A) → Some before ≡ get_by_text old tenant
+      → WritesThrough string_cmp (λ k. slice_cmp nat_cmp tenant (string_bytes k)) old now new →
+      Written tenant before now old new
+  written tenant before now old new account w = record {
+    one = changes tenant (Some now) old new (w.3 (rw (← account) refl));
+    is = w.0;
+    all = rw w.0 (sum_by-set_value size (is_tenant tenant) old.entries before now (sym account));
+    same = λ is. w.0 ∙ set_value_same _ old.entries now (sym account ∙ ap Some (sym is));
+  }
 
--- ---- the sum of all accounts
--- A new account without bytes leaves the sum as it is.
-pub all_bytes-open : (tenant : List ℕ) (name : String Global) (now : AccountData) (old : Accounts) →
-    string_bytes name ≡ tenant → get_by_text old tenant ≡ None → sum_of now.entries ≡ 0 →
-    IsStrictlySortedBy string_cmp (keys_of old.entries)
-    → all_bytes (insert_entry string_cmp old.entries name now) ≡ all_bytes old.entries
-all_bytes-open tenant name now old same none empty sorted =
-    let here : lookup (is_at (string_cmp name)) old.entries ≡ None =
-    subst (λ (t : List ℕ). get_by_text old t ≡ None) (sym same) none in
-    let sum = rw here at (sum_by-insert_entry (λ (h : AccountData). sum_of h.entries) string_cmp_total old.entries name now
-    sorted) in
-    omega (arith, sum, empty)
+  -- ---- the sum of all accounts
+  -- A new account without bytes leaves the sum as it is.
+  pub all_bytes-open : (tenant : List ℕ) (name : String Global) (now : A) (old : ByName A) → string_bytes name ≡ tenant
+      → get_by_text old tenant ≡ None → size now ≡ 0 → IsStrictlySortedBy string_cmp (keys_of old.entries)
+      → sum_all (insert_entry string_cmp old.entries name now) ≡ sum_all old.entries
+  all_bytes-open tenant name now old same none empty sorted =
+      let here : lookup (is_at (string_cmp name)) old.entries ≡ None =
+      subst (λ (t : List ℕ). get_by_text old t ≡ None) (sym same) none in
+      let sum = rw here at (sum_by-insert_entry size string_cmp_total old.entries name now sorted) in
+      omega (arith, sum, empty)
 
--- Without one account the sum is less by its bytes.
-pub all_bytes-close : (tenant : List ℕ) (old : Accounts) (h : AccountData) → Some h ≡ get_by_text old tenant →
-    all_bytes (remove_entry (is_tenant tenant) old.entries) + sum_of h.entries ≡ all_bytes old.entries
-all_bytes-close tenant old h account = rw (sym account)
-    at (sum_by-remove_entry (λ (h : AccountData). sum_of h.entries) (is_tenant tenant) old.entries)
+  -- Without one account the sum is less by its bytes.
+  pub all_bytes-close : (tenant : List ℕ) (old : ByName A) (h : A) → Some h ≡ get_by_text old tenant →
+      sum_all (remove_entry (is_tenant tenant) old.entries) + size h ≡ sum_all old.entries
+  all_bytes-close tenant old h account = rw (sym account) at (sum_by-remove_entry size (is_tenant tenant) old.entries)
 
--- The bytes of one account are part of the sum.
-pub account_within : (tenant : List ℕ) (old : Accounts) (h : AccountData) → get_by_text old tenant ≡ Some h →
-    sum_of h.entries ≤ all_bytes old.entries
-account_within tenant old h account = omega (arith, all_bytes-close tenant old h (sym account))
+  -- The bytes of one account are part of the sum.
+  pub account_within : (tenant : List ℕ) (old : ByName A) (h : A) → get_by_text old tenant ≡ Some h →
+      size h ≤ sum_all old.entries
+  account_within tenant old h account = omega (arith, all_bytes-close tenant old h (sym account))
 
 -- ---- entries
 -- What is stored is within limits, if there was room for it.
@@ -145,3 +151,8 @@ none_where (Some x) h = absurd cc
 pub either_way : {T E P Q G : Type 0} (r : Result T E) → OnOk r P → OnErr r Q → (P → G) → (Q → G) → G
 either_way (Ok x) p q f g = f p
 either_way (Err e) p q f g = g q
+
+-- What holds holds also if the option is Some.
+pub OnSome-always : {T P : Type 0} (r : Option T) → P → OnSome r P
+OnSome-always None h = tt
+OnSome-always (Some x) h = h

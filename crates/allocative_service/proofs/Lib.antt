@@ -5,6 +5,7 @@ mod Evicting
 mod Inserting
 mod Most
 mod Shelving
+mod Storing
 mod Sums
 mod Using
 mod Walk

@@ -147,6 +147,7 @@ module _ {V : Type 0} (size : Option ℕ) (may_show : V → Forest → Type 0) w
 
     -- The value of the key that passes the test was changed as `changed` says, and inserting it again is refused. The
     -- refusal has the key and the changed value.
-    abbrev pub RefusesChange : Bool → (K → Bool) → (V → V → Type 0) → Bounded K V → Refused K V → Type 0
+    abbrev pub RefusesChange : Bool → (K → Bool) → (V → V → Type 0) → Bounded K V → Refused K V CacheError
+        → Type 0
     RefusesChange is_strict test changed old r = (had : Kept V) × (lookup_entry test old.entries ≡ Some (r.key, had))
         × changed had.value r.value × RefusesInsert is_strict r.value old.measure old.bound r.error

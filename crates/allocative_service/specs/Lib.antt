@@ -5,6 +5,7 @@ pub mod Rejected
 pub mod Told
 pub mod Entries
 pub mod Shelf
+pub mod Store
 pub mod Changes
 pub mod Walk
 pub mod History

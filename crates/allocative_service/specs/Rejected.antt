@@ -70,7 +70,7 @@ IsLedgerFull bytes limit (LedgerFull b l) = (b ≡ bytes) × (l ≡ limit) × (l
 IsLedgerFull bytes limit _ = ⊥
 
 -- The tenant has no account, as the rejection says, or the rejection of its account is one that P allows.
-abbrev pub RejectsIn : (AccountData → Rejection → Type 0) → Option AccountData → Rejection → Type 0
+abbrev pub RejectsIn : {A : Type 0} → (A → Rejection → Type 0) → Option A → Rejection → Type 0
 RejectsIn P None r = r ≡ NoAccount
 RejectsIn P (Some h) r = P h r
 
@@ -82,7 +82,7 @@ RejectsMeasured measure is_strict size p P h r =
     ⊎ ((bytes : ℕ) × Declares measure size p bytes × P bytes h r)
 
 -- The tenant already has an account, as the rejection says, or it has none and memory runs out.
-abbrev pub RejectsOpening : Option AccountData → Rejection → Type 0
+abbrev pub RejectsOpening : {A : Type 0} → Option A → Rejection → Type 0
 RejectsOpening had HasAccount = IsSome had
 RejectsOpening had NotKept = had ≡ None
 RejectsOpening had _ = ⊥

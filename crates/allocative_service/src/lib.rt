@@ -1,5 +1,5 @@
-//! What a service needs beside its values: a limit in bytes for each tenant, a shelf that keeps a tenant's values,
-//! a cache bounded in bytes, and a history of profiles that says what changed.
+//! What a service needs beside its values: a limit in bytes for each tenant, a store that keeps the tenants' values, a
+//! cache bounded in bytes, and a history of profiles that says what changed.
 #![tactic(auto)]
 
 pub mod cache;
@@ -7,3 +7,4 @@ pub mod history;
 pub mod ledger;
 pub mod measure;
 pub mod shelf;
+pub mod store;

@@ -9,7 +9,7 @@ use allocative::{FlameGraph, FlameGraphOutput, profile_value, push_path};
 use anyhow::Result;
 use budget::serve;
 use recipes::print_recipes;
-use services::{print_budget, print_cache, print_ledger, print_shelf};
+use services::{print_budget, print_cache, print_ledger, print_store};
 use std::alloc::Global;
 use std::cmp::Reverse;
 
@@ -52,6 +52,6 @@ fn main(rt: HostRuntime) -> Result<()> {
     print_budget(&rt, rt.alloc())?;
     print_ledger(&rt, rt.alloc())?;
     print_cache(&rt, rt.alloc())?;
-    print_shelf(&rt, rt.alloc())?;
+    print_store(&rt, rt.alloc())?;
     serve(&rt, rt.alloc())
 }

@@ -1,8 +1,8 @@
-//! A budget for one value, and what a ledger, a shelf and a cache answer.
+//! A budget for one value, and what a ledger, a store and a cache answer.
 use allocative_service::cache::BoundedCache;
 use allocative_service::ledger::{Budget, Ledger};
 use allocative_service::measure::Measure;
-use allocative_service::shelf::Shelf;
+use allocative_service::store::Store;
 use anyhow::Result;
 use std::alloc::Global;
 
@@ -34,29 +34,30 @@ pub(crate) fn print_ledger(rt: &impl Print, alloc: Global) -> Result<()> {
     Ok(())
 }
 
-/// Puts a note on a shelf, and prints the bytes of all notes, or why it is not kept.
-fn put_note(rt: &impl Print, notes: &mut Shelf<u64, String>, key: u64, note: String) -> Result<()> {
-    match notes.put(key, note) {
+/// Puts a note into a store, and prints the bytes of all notes, or why it is not kept.
+fn put_note(rt: &impl Print, notes: &mut Store<u64, String>, key: u64, note: String) -> Result<()> {
+    match notes.put("acme", key, note) {
         Ok(_had) => println!(rt; "{} bytes", notes.bytes())?,
         Err(refused) => println!(rt; "{}", refused.error)?,
     }
     Ok(())
 }
 
-/// Prints the bytes of a shelf: a note grows past the limit, another is refused, and is kept once the first is gone.
-pub(crate) fn print_shelf(rt: &impl Print, alloc: Global) -> Result<()> {
-    let mut notes = Shelf::new(alloc, Measure::Owned, Budget { limit: 40 })?;
+/// Prints the bytes of a store: a note grows past the limit, another is refused, and is kept once the first is gone.
+pub(crate) fn print_store(rt: &impl Print, alloc: Global) -> Result<()> {
+    let mut notes = Store::new(alloc, Measure::Owned);
+    notes.open("acme", Budget { limit: 40 })?;
     put_note(rt, &mut notes, 1, String::from_str(alloc, "twelve bytes")?)?;
     let mut pushed = Ok(());
-    let changed = notes.change(&1, |note: &mut String| {
+    let changed = notes.change("acme", &1, |note: &mut String| {
         pushed = note.push_str(" and more");
     });
     pushed?;
-    if changed.is_ok() {
-        println!(rt; "{} bytes, {} too many", notes.bytes(), notes.excess())?;
+    if let Ok(Some(standing)) = changed {
+        println!(rt; "{} bytes, {} too many", standing.bytes, standing.excess)?;
     }
     put_note(rt, &mut notes, 2, String::from_str(alloc, "twelve bytes")?)?;
-    if notes.remove(&1).is_some() {
+    if notes.remove("acme", &1).is_some() {
         put_note(rt, &mut notes, 2, String::from_str(alloc, "twelve bytes")?)?;
     }
     Ok(())

@@ -21,11 +21,11 @@ pub enum CacheError {
     Memory,
 }
 
-/// A value that a cache does not keep, with its key and the cause.
+/// A value that a cache or a store does not keep, with its key and the cause.
 #[derive(Drop)]
-pub struct Refused<K, V> {
+pub struct Refused<K, V, E = CacheError> {
     /// Why the value is not kept.
-    pub error: CacheError,
+    pub error: E,
     /// The key that the value would have been under.
     pub key: K,
     /// The value itself.

@@ -2,7 +2,7 @@
 use Rattle.std.proofs.Common.{◌≡◌, ◌∙◌, None, ap, refl, sym}
 use Rattle.std.specs.BTreeMap.{get_by_text}
 use Rattle.allocative_service.proofs.Common.{AccountData}
-use Rattle.allocative_service.proofs.Accounts.{all_bytes-open, either_way, in_ledger, none_where, opens}
+use Rattle.allocative_service.proofs.Accounts.{account_bytes, all_bytes-open, either_way, in_ledger, none_where, opens}
 use Rattle.allocative_service.specs.AccountData.{sum_of}
 use Rattle.allocative_service.proofs.ledger.Ledger.open.Goals as goal
 
@@ -14,7 +14,7 @@ invariant_of-self c =
     none_where _ (sym c.contains_key.ensures ∙ c.if-contains_key.false) in
     let empty : sum_of c.new-account.result.entries ≡ 0 =
     ap (λ (h : AccountData). sum_of h.entries) c.new-account.ensures in
-    let same = all_bytes-open c.args.tenant.now c.in-Ok.name c.new-account.result old.accounts c.in-Ok.ensures.ok none
+    let same = all_bytes-open account_bytes c.args.tenant.now c.in-Ok.name c.new-account.result old.accounts c.in-Ok.ensures.ok none
     empty c.insert.ensures.was_ordered in
     record {
       summed = either_way c.insert.result c.insert.ensures.entries c.insert.ensures.err

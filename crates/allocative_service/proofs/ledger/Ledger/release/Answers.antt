@@ -2,20 +2,20 @@
 use Rattle.std.proofs.Common.{arith, ap, refl, sym, ◌≡◌, ◌+◌, subst}
 use Rattle.allocative_service.proofs.Common.{AccountData}
 use Rattle.allocative_service.specs.AccountData.{sum_of}
-use Rattle.allocative_service.proofs.Accounts.{IfNone-always, IfNone-weaker, in_ledger, written}
+use Rattle.allocative_service.proofs.Accounts.{account_bytes, IfNone-always, IfNone-weaker, in_ledger, written}
 use Rattle.allocative_service.proofs.ledger.Ledger.release.Goals as goal
 
 -- If there is no entry, the sum is as it was.
 pub invariant_of-self-in-Break-branch-2 : goal.invariant_of-self-in-Break-branch-2
 invariant_of-self-in-Break-branch-2 c =
-    let w = written c.args.tenant.now _ _ c.args.self.now.accounts (c.get_mut.follows.lender c.release.new.self)
+    let w = written account_bytes c.args.tenant.now _ _ c.args.self.now.accounts (c.get_mut.follows.lender c.release.new.self)
     c.in_ok-account.ensures.value (c.get_mut.follows.holds c.release.new.self) in
     record { summed = omega (arith, w.all, ap (λ (h : AccountData). sum_of h.entries) c.in_err-bytes.ensures.unchanged, c.args.self.now.summed); within = c.args.self.now.within; fits = c.args.self.now.fits }
 
 -- If there is no entry, no account changes.
 pub returns-in_err-bytes-clause-unchanged : goal.returns-in_err-bytes-clause-unchanged
 returns-in_err-bytes-clause-unchanged c =
-    let w = written c.args.tenant.now _ _ c.args.self.now.accounts (c.get_mut.follows.lender c.release.new.self)
+    let w = written account_bytes c.args.tenant.now _ _ c.args.self.now.accounts (c.get_mut.follows.lender c.release.new.self)
     c.in_ok-account.ensures.value (c.get_mut.follows.holds c.release.new.self) in
     IfNone-weaker c.from_residual-in_err-bytes.result (λ is. (w.same is, (refl, refl), refl))
     (IfNone-always c.from_residual-in_err-bytes.result c.in_err-bytes.ensures.unchanged)
@@ -23,14 +23,14 @@ returns-in_err-bytes-clause-unchanged c =
 -- The sum is less by the bytes of the entry.
 pub invariant_of-self-2 : goal.invariant_of-self-2
 invariant_of-self-2 c =
-    let w = written c.args.tenant.now _ _ c.args.self.now.accounts (c.get_mut.follows.lender c.release.new.self)
+    let w = written account_bytes c.args.tenant.now _ _ c.args.self.now.accounts (c.get_mut.follows.lender c.release.new.self)
     c.in_ok-account.ensures.value (c.get_mut.follows.holds c.release.new.self) in
     record { summed = omega (arith, w.all, c.in_ok-bytes.ensures.sum, c.args.self.now.summed); within = omega (arith, c.args.self.now.within); fits = omega (arith, c.args.self.now.fits) }
 
 -- The entry is removed from the tenant's account.
 pub returns-clause-released : goal.returns-clause-released
 returns-clause-released c =
-    let w = written c.args.tenant.now _ _ c.args.self.now.accounts (c.get_mut.follows.lender c.release.new.self)
+    let w = written account_bytes c.args.tenant.now _ _ c.args.self.now.accounts (c.get_mut.follows.lender c.release.new.self)
     c.in_ok-account.ensures.value (c.get_mut.follows.holds c.release.new.self) in
     let before = c.in_ok-account.account.now in
     record {

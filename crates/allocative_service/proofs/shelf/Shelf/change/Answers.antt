@@ -1,24 +1,138 @@
--- of Shelf::change: ok and refused
-use Rattle.std.proofs.Common.{rules}
-use Rattle.allocative_service.proofs.Using.{taken}
+-- of Shelf::change: a difference, invariants, and what it ensures after a change and after a refusal
+use Rattle.std.proofs.Common.{◌≡◌, ◌∙◌, ℕ, ◌+◌, ◌-◌, ◌^◌, Some, None, OnErr, ap, arith, max, rules, subst, sym}
+use Rattle.std.specs.Map.{set_value}
+use Rattle.lru.specs.LruCache.{lru_cache}
+use Rattle.allocative_service.proofs.Common.{lookup_entry, remove_entry, bytes_of}
+use Rattle.allocative_service.proofs.Accounts.{OnErr-always}
+use Rattle.allocative_service.proofs.Inserting.{bytes_of-remove_entry}
+use Rattle.allocative_service.proofs.Shelving.{bytes_of-set_value, changed-kept, found_is, lookup_entry-set_value, remove_entry-set_value, without-kept}
+use Rattle.allocative_service.specs.Entries.{kept}
+use Rattle.allocative_service.specs.Shelf.{RefusesFigure, shelved}
+use Rattle.allocative_service.proofs.shelf.Shelf.change.Goals.{in-Some-pop_entry, in-None}
 use Rattle.allocative_service.proofs.shelf.Shelf.change.Goals as goal
 
--- The value is changed and kept again.
+-- The bytes of an entry are part of the sum.
+pub overflow_sub-others : goal.overflow_sub-others
+overflow_sub-others g c =
+    let part = bytes_of-remove_entry (g.K.PartialEq.eq c.args.key.now) c.self.inside.entries.entries
+    (Some c.in-Some.kept.now) c.in-Some.ensures.value in
+    omega (arith, part, c.self.invariant.1)
+
+-- The changed value has its figure, and the others have theirs.
+pub invariant_of-self-in-Ok : goal.invariant_of-self-in-Ok
+invariant_of-self-in-Ok g c =
+    let es = c.self.inside.entries.entries in
+    let test = g.K.PartialEq.eq c.args.key.now in
+    let w = kept c.change.new.arg2 c.in-Ok.bytes in
+    let part = bytes_of-remove_entry test es (Some c.in-Some.kept.now) c.in-Some.ensures.value in
+    let sum = bytes_of-set_value test es c.in-Some.kept.now w (sym c.in-Some.ensures.value) in (
+      c.self.invariant.0,
+      omega (arith, sum, part, c.self.invariant.1),
+      changed-kept g.V.Described.size g.V.Allocative.may_show test w es c.self.inside.limit c.self.inside.overgrown
+          c.max-self-inside.result c.self.inside.measure c.in-Ok.ensures.figure
+          (omega (arith, sum, part, c.self.invariant.1)) c.self.invariant.2,
+    )
+
+-- The value is changed in its place.
 pub returns-in-Ok-clause-ok : goal.returns-in-Ok-clause-ok
 returns-in-Ok-clause-ok g c =
-    let t = taken _ c.in-Some.key c.in-Some.value c.in-Some.ensures.value in
-    record {
-      key = c.in-Some.key;
-      had = t.0;
+    let es = c.self.inside.entries.entries in
+    let test = g.K.PartialEq.eq c.args.key.now in
+    let w = kept c.change.new.arg2 c.in-Ok.bytes in
+    let part = bytes_of-remove_entry test es (Some c.in-Some.kept.now) c.in-Some.ensures.value in
+    let sum = bytes_of-set_value test es c.in-Some.kept.now w (sym c.in-Some.ensures.value) in
+    let over : c.max-self-inside.result ≡ max c.self.inside.overgrown (bytes_of (set_value test es w) - c.self.inside.limit) =
+    omega (arith, sum, part, c.self.invariant.1) in
+    rw (← c.self.view_is) (record {
+      had = c.in-Some.kept.now;
       value = c.change.new.arg2;
-      found = t.1;
-      changes = rw t.2 (search rules);
-      keeps = rw c.remove.ensures.others at c.in-Ok.ensures.ok;
-    }
+      bytes = c.in-Ok.bytes;
+      found = sym c.in-Some.ensures.value;
+      changes = search rules;
+      figure = c.in-Ok.ensures.figure;
+      is = ap (λ (o : ℕ). shelved (set_value test es w) c.self.inside.limit o c.self.inside.measure) over;
+    })
 
--- The value is changed, and refused as a value that is put.
-pub returns-in-Err-clause-refused : goal.returns-in-Err-clause-refused
-returns-in-Err-clause-refused g c =
-    let t = taken _ c.in-Some.key c.in-Some.value c.in-Some.ensures.value in
-    rw (c.in-Err.ensures.returned.0, c.in-Err.ensures.returned.1)
-    (t.0, t.1, rw t.2 (search rules), rw c.remove.ensures.others at c.in-Err.ensures.refused)
+-- All bytes still fit a word.
+pub returns-in-Ok-clause-fits : goal.returns-in-Ok-clause-fits
+returns-in-Ok-clause-fits g c =
+    let es = c.self.inside.entries.entries in
+    let test = g.K.PartialEq.eq c.args.key.now in
+    let part = bytes_of-remove_entry test es (Some c.in-Some.kept.now) c.in-Some.ensures.value in
+    let sum = bytes_of-set_value test es c.in-Some.kept.now (kept c.change.new.arg2 c.in-Ok.bytes)
+    (sym c.in-Some.ensures.value) in
+    let fits = rw (← c.self.view_is) at c.requires.fits in
+    omega (arith, sum, part, fits, c.in-Ok.ensures.within, c.self.invariant.1)
+
+-- Each value has its figure when it returns.
+pub returns-in-Ok-clause-kept : goal.returns-in-Ok-clause-kept
+returns-in-Ok-clause-kept g c = (invariant_of-self-in-Ok g c).2
+
+-- Without the refused value the others have their figures.
+pub invariant_of-self-2 : goal.invariant_of-self-2
+invariant_of-self-2 g c =
+    let es = c.self.inside.entries.entries in
+    let test = g.K.PartialEq.eq c.args.key.now in
+    let w = kept c.change.new.arg2 c.in-Some.kept.now.bytes in
+    let part = bytes_of-remove_entry test es (Some c.in-Some.kept.now) c.in-Some.ensures.value in
+    let is = c.pop_entry.ensures.entries
+    ∙ ap (λ l. lru_cache l c.self.inside.entries.cap) (remove_entry-set_value test es w) in
+    let old = shelved es c.self.inside.limit c.self.inside.overgrown c.self.inside.measure in
+    rw is (c.self.invariant.0, omega (arith, part, c.self.invariant.1), without-kept g.V.Described.size g.V.Allocative.may_show test old c.self.invariant.2)
+
+-- A value that was found is found again.
+pub returns-clause-ok : goal.returns-clause-ok
+returns-clause-ok g c =
+    let es = c.self.inside.entries.entries in
+    let w = kept c.change.new.arg2 c.in-Some.kept.now.bytes in
+    let l = lookup_entry-set_value (g.K.PartialEq.eq c.args.key.now) es c.in-Some.kept.now w (sym c.in-Some.ensures.value) in
+    elim c.match-pop_entry.branch [
+      | in-Some-pop_entry b ↦ rw b.result-is tt
+      | in-None b ↦ let no = sym b.in-None.is ∙ c.pop_entry.ensures.value ∙ l.2 in absurd cc
+    ]
+
+-- The refusal has the key and the changed value.
+pub returns-clause-refused : goal.returns-clause-refused
+returns-clause-refused g c =
+    let es = c.self.inside.entries.entries in
+    let test = g.K.PartialEq.eq c.args.key.now in
+    let had = c.in-Some.kept.now in
+    let w = kept c.change.new.arg2 had.bytes in
+    let l = lookup_entry-set_value test es had w (sym c.in-Some.ensures.value) in
+    let part = bytes_of-remove_entry test es (Some had) c.in-Some.ensures.value in
+    let room : 2 ^ 64 - 1 - c.args.rest - (c.self.inside.bytes - had.bytes)
+    ≡ 2 ^ 64 - 1 - (c.args.rest + bytes_of (remove_entry test es)) = omega (arith, part, c.self.invariant.1) in
+    let refused = subst (λ (n : ℕ). RefusesFigure g.V.Described.size g.V.Allocative.may_show g.V.Allocative.is_strict
+    c.self.inside.measure n c.change.new.arg2 c.in-Err.error) room c.in-Err.ensures.refused in
+    elim c.match-pop_entry.branch [
+      | in-Some-pop_entry b ↦
+          let s = found_is _ _ _ _ (b.in-Some-pop_entry.ensures.value ∙ l.2) in
+          rw (b.result-is, ← c.self.view_is) (had, l.1 ∙ ap (λ k. Some (k, had)) (sym s.0), rw s.1 (search rules), rw s.1 refused)
+      | in-None b ↦ let no = sym b.in-None.is ∙ c.pop_entry.ensures.value ∙ l.2 in absurd cc
+    ]
+
+-- The others are as they were.
+pub returns-clause-err : goal.returns-clause-err
+returns-clause-err g c =
+    let w = kept c.change.new.arg2 c.in-Some.kept.now.bytes in
+    let is = c.pop_entry.ensures.entries
+    ∙ ap (λ l. lru_cache l c.self.inside.entries.cap) (remove_entry-set_value (g.K.PartialEq.eq c.args.key.now)
+    c.self.inside.entries.entries w) in
+    rw (← c.self.view_is) (OnErr-always c.match-pop_entry.result
+    (ap (λ m. shelved m.entries c.self.inside.limit c.self.inside.overgrown c.self.inside.measure) is))
+
+-- All bytes still fit a word.
+pub returns-clause-fits : goal.returns-clause-fits
+returns-clause-fits g c =
+    let es = c.self.inside.entries.entries in
+    let test = g.K.PartialEq.eq c.args.key.now in
+    let w = kept c.change.new.arg2 c.in-Some.kept.now.bytes in
+    let part = bytes_of-remove_entry test es (Some c.in-Some.kept.now) c.in-Some.ensures.value in
+    let is = c.pop_entry.ensures.entries
+    ∙ ap (λ l. lru_cache l c.self.inside.entries.cap) (remove_entry-set_value test es w) in
+    let fits = rw (← c.self.view_is) at c.requires.fits in
+    rw is (omega (arith, part, fits))
+
+-- Each value has its figure when it returns.
+pub returns-clause-kept : goal.returns-clause-kept
+returns-clause-kept g c = (invariant_of-self-2 g c).2

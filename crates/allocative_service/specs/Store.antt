@@ -1,0 +1,79 @@
+-- The model of a store, and what its calls do.
+use Rattle.std.specs.Prelude.{◌≡◌, ℕ, ◌+◌, ◌-◌, ◌^◌, ◌<◌, ◌≤◌, Bool, List, Option, Some, None, [], String, max, string_bytes, sum_by, IsSomeAnd}
+use Rattle.std.specs.BTreeMap.{insert_entry, is_at}
+use Rattle.std.specs.Cmp.Lexicographic.{slice_cmp}
+use Rattle.std.specs.Global.{Global}
+use Rattle.std.specs.Map.{lookup, remove_entry, set_value, values_of}
+use Rattle.std.specs.Option.{option_and_then}
+use Rattle.std.specs.Ordering.{nat_cmp}
+use Rattle.std.specs.String.{string_cmp}
+use Rattle.allocative_service.specs.Entries.{bytes_of}
+use Rattle.allocative_service.specs.Shelf.{Shelved, shelved}
+use Rattle.allocative_service.specs.declared.ledger.Standing.{Standing}
+use Rattle.allocative_service.specs.declared.measure.Measure.{Measure}
+
+-- Whether a name is that of the tenant.
+abbrev pub is_tenant : List ℕ → String Global → Bool
+is_tenant tenant = is_at (λ k. slice_cmp nat_cmp tenant (string_bytes k))
+
+-- The model of a store: the shelf of each tenant, in the order of their names, the limit on the bytes of all values, by
+-- how many bytes at most growth exceeded that since it was set, and which bytes are counted.
+pub record Stored (K V : Type 0) : Type 0 where
+  pub shelves : List (String Global × Shelved K V)
+  pub limit : ℕ
+  pub overgrown : ℕ
+  pub measure : Measure
+
+module _ {K V : Type 0} where
+  -- The store with these shelves, this limit, this growth beyond it and this measure.
+  abbrev pub stored : List (String Global × Shelved K V) → ℕ → ℕ → Measure → Stored K V
+  stored shelves limit overgrown m =
+      record { shelves = shelves; limit = limit; overgrown = overgrown; measure = m }
+
+  -- The store with these shelves in place of its own.
+  abbrev pub with_shelves : List (String Global × Shelved K V) → Stored K V → Stored K V
+  with_shelves shelves s = stored shelves s.limit s.overgrown s.measure
+
+  -- The bytes of the values of all these shelves.
+  abbrev pub all_kept : List (String Global × Shelved K V) → ℕ
+  all_kept shelves = sum_by (λ h. bytes_of h.entries) (values_of shelves)
+
+  -- The shelf of the tenant.
+  abbrev pub shelf_of : List ℕ → Stored K V → Option (Shelved K V)
+  shelf_of tenant s = lookup (is_tenant tenant) s.shelves
+
+  -- The bytes of all values but those of this shelf.
+  abbrev pub rest_of : Stored K V → Shelved K V → ℕ
+  rest_of s h = all_kept s.shelves - bytes_of h.entries
+
+  -- The bytes are exactly those of all values, and at most the limit, unless growth exceeded that.
+  pub record IsTotal (bytes : ℕ) (s : Stored K V) : Type 0 where
+    pub sum : bytes ≡ all_kept s.shelves
+    pub within : bytes ≤ s.limit + s.overgrown
+    pub fits : bytes < 2 ^ 64
+
+  -- The tenant's shelf is replaced by one of which P holds with the one before it. Nothing else changes. If the bytes of
+  -- all values exceed the limit, growth exceeded it by at least as much.
+  pub record Replaces (tenant : List ℕ) (P : Shelved K V → Shelved K V → Type 0) (old new : Stored K V) : Type 0 where
+    pub before : Shelved K V
+    pub after : Shelved K V
+    pub had : shelf_of tenant old ≡ Some before
+    pub changes : P before after
+    pub overgrown : ℕ
+    pub grown : overgrown ≡ max old.overgrown (all_kept new.shelves - old.limit)
+    pub is : new ≡ stored (set_value (is_tenant tenant) old.shelves after) old.limit overgrown old.measure
+
+  -- The standing has the bytes of the tenant's values, what of them exceeds its limit, and what of the bytes of all
+  -- values exceeds the limit of the store.
+  abbrev pub StoreStands : List ℕ → Stored K V → Standing → Type 0
+  StoreStands tenant s standing = IsSomeAnd (shelf_of tenant s) (λ h. (standing.bytes ≡ bytes_of h.entries)
+      × (standing.excess ≡ bytes_of h.entries - h.limit))
+      × (standing.ledger_excess ≡ all_kept s.shelves - s.limit)
+
+  -- The tenant has a new shelf with no value, this limit and the measure of the store, where it had none. Nothing else
+  -- changes.
+  pub record Opens (tenant : List ℕ) (limit : ℕ) (old new : Stored K V) : Type 0 where
+    pub had : shelf_of tenant old ≡ None
+    pub name : String Global
+    pub named : string_bytes name ≡ tenant
+    pub is : new ≡ with_shelves (insert_entry string_cmp old.shelves name (shelved [] limit 0 old.measure)) old
