@@ -224,8 +224,9 @@ fn print_machine() {
     );
 }
 
-/// With the word `stack` what calls take of the stack, and with `resident` what containers take of memory; with another
-/// word only the workloads whose names have it. A container and a count make that one container.
+/// With the word `stack` what calls take of the stack, with `resident` what containers take of memory, and with
+/// `instructions` how many instructions calls of ledgers and stores take; with another word only the workloads whose names
+/// have it. A container and a count make that one container.
 fn main() {
     let words: Vec<String> = env::args().skip(1).collect();
     if let [_, container, count] = &words[..] {
@@ -237,6 +238,7 @@ fn main() {
     match only.as_deref() {
         Some("stack") => return stack::print_table(&names),
         Some("resident") => return resident::print_table(),
+        Some("instructions") => return services::print_instructions(),
         _ => {}
     }
     // A chain of 10,000 calls is deeper than the first thread's stack may be.

@@ -49,5 +49,6 @@ values! {
     boxes = bench_boxes();
     sizes = bench_sizes(measure: u32, kind: u32, count: usize);
     admit = bench_admit(measure: u32, count: usize);
+    entries = bench_entries(count: usize, has_own_tenants: bool, is_store: bool);
     chains = bench_chains(depth: usize);
 }

@@ -1,6 +1,8 @@
 //! What calls of services and pictures take, which have no counterpart in plain Rust.
 use crate::names::Names;
 use crate::{Side, measure, ours};
+use std::process::{Command, Stdio, id};
+use std::{env, fs};
 
 /// Steps of the proved crates, each of so many calls.
 struct Service {
@@ -19,6 +21,10 @@ const VALUES: [(&str, u32, usize, usize); 3] = [
     ("hashed map of 10,000 pairs", 2, 10_000, 1),
     ("vector of 100,000 records", 1, 100_000, 1),
 ];
+
+/// What is done with each entry of a ledger and of a store.
+const ENTERED: &[&str] = &["admit", "enter_growth", "charge", "release"];
+const STORED: &[&str] = &["put", "change", "remove"];
 
 /// What is done with two graphs; cubes are only compared.
 const COMPARED: &[&str] = &[
@@ -55,6 +61,15 @@ fn services() -> Vec<Service> {
         let name = format!("ledger of 100 records, {word}");
         all.push(service(name, &["admit", "release"], 100, admit));
     }
+    for (is_store, word, steps) in [(false, "ledger", ENTERED), (true, "store", STORED)] {
+        for (is_many, tenants) in [(false, "one tenant"), (true, "as many tenants")] {
+            for count in [1_000, 10_000, 100_000] {
+                let entries = move |names: &Names| ours::entries(names, count, is_many, is_store);
+                let name = format!("{word} of {count} entries, {tenants}");
+                all.push(service(name, steps, count, entries));
+            }
+        }
+    }
     let compare = |names: &Names| ours::compare(names, 46);
     let name = "two cubes of 46, 99,498 paths".into();
     all.push(service(name, COMPARED, 1, compare));
@@ -78,5 +93,38 @@ pub fn print_table(names: &Names, only: Option<&str>) {
             let each = time.as_secs_f64() * 1e6 / service.calls as f64;
             println!("| {} | {step} | {each:.3} |", service.name);
         }
+    }
+}
+
+/// How many instructions each call on an entry takes, by callgrind, which counts anew at each mark.
+pub fn print_instructions() {
+    println!("\n| value | call | instructions |\n|---|---|---:|");
+    let folder = env::temp_dir().join(format!("allocative-bench-{}", id()));
+    for service in services() {
+        if !service.name.contains("entries") {
+            continue;
+        }
+        fs::create_dir(&folder).unwrap();
+        let mut process = Command::new("valgrind");
+        process.args(["--tool=callgrind", "--dump-before=bench_mark"]);
+        process.arg(format!("--callgrind-out-file={}/out", folder.display()));
+        process.arg(env::current_exe().unwrap()).arg(&service.name);
+        let ended = process
+            .stdout(Stdio::null())
+            .stderr(Stdio::null())
+            .status()
+            .unwrap();
+        assert!(ended.success(), "{} is counted", service.name);
+        // The first count is of what comes before the first step.
+        for (step, at) in service.steps.iter().zip(2..) {
+            let text = fs::read_to_string(folder.join(format!("out.{at}"))).unwrap();
+            let total = text
+                .lines()
+                .find_map(|line| line.strip_prefix("totals: "))
+                .unwrap();
+            let each = total.trim().parse::<u64>().unwrap() / service.calls as u64;
+            println!("| {} | {step} | {each} |", service.name);
+        }
+        fs::remove_dir_all(&folder).unwrap();
     }
 }
