@@ -1,5 +1,5 @@
 -- The accounts of a ledger after one of them has changed.
-use Rattle.std.proofs.Common.{◌≡◌, ◌≢◌, ◌∙◌, ℕ, ◌+◌, ◌≤◌, Bool, false, List, Option, Some, None, refl, sym, ap, arith}
+use Rattle.std.proofs.Common.{◌≡◌, ◌≢◌, ◌∙◌, ℕ, ◌+◌, ◌≤◌, false, List, Option, Some, None, refl, sym, ap, arith}
 use Rattle.std.proofs.Common.{subst, nat_cmp, string_bytes, IfNone, OnErr, OnOk, OnSome, Result, Ok, Err, String}
 use Rattle.std.proofs.Common.{Global}
 use Rattle.allocative_service.proofs.Common.{AccountData, ChangesAccount, is_at, lookup, remove_entry}

@@ -1,5 +1,5 @@
 -- The bytes of a shelf after a value is kept, changed or removed.
-use Rattle.std.proofs.Common.{◌≡◌, ℕ, ◌+◌, ◌-◌, ◌≤◌, Bool, true, false, List, Option, Some, [], ◌∷◌, ap, arith, refl}
+use Rattle.std.proofs.Common.{◌≡◌, ℕ, ◌+◌, ◌≤◌, Bool, true, false, List, Option, Some, [], ◌∷◌, ap, arith, refl}
 use Rattle.std.proofs.Common.{unwrap_or}
 use Rattle.allocative_service.proofs.Common.{lookup, lookup_entry, remove_entry, values_of, Forest, Kept, Entries}
 use Rattle.allocative_service.proofs.Common.{bytes_of, IsMeasured}

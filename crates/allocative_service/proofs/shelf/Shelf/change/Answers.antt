@@ -1,8 +1,8 @@
 -- of Shelf::change: a difference, invariants, and what it ensures after a change and after a refusal
-use Rattle.std.proofs.Common.{◌≡◌, ◌∙◌, ℕ, ◌+◌, ◌-◌, ◌^◌, Some, None, OnErr, ap, arith, max, rules, subst, sym}
+use Rattle.std.proofs.Common.{◌≡◌, ◌∙◌, ℕ, ◌+◌, ◌-◌, ◌^◌, Some, ap, arith, max, rules, subst, sym}
 use Rattle.std.specs.Map.{set_value}
 use Rattle.lru.specs.LruCache.{lru_cache}
-use Rattle.allocative_service.proofs.Common.{lookup_entry, remove_entry, bytes_of}
+use Rattle.allocative_service.proofs.Common.{remove_entry, bytes_of}
 use Rattle.allocative_service.proofs.Accounts.{OnErr-always}
 use Rattle.allocative_service.proofs.Inserting.{bytes_of-remove_entry}
 use Rattle.allocative_service.proofs.Shelving.{bytes_of-set_value, changed-kept, found_is, lookup_entry-set_value, remove_entry-set_value, without-kept}

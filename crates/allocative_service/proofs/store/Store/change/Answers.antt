@@ -1,5 +1,5 @@
 -- of Store::change: an invariant, refused, err, none, changed and standing
-use Rattle.std.proofs.Common.{◌≡◌, ◌-◌, Bool, true, false, arith, ap, max, refl, rules, sym}
+use Rattle.std.proofs.Common.{◌≡◌, ◌-◌, true, false, arith, ap, max, refl, rules, sym}
 use Rattle.allocative_service.proofs.Accounts.{OnErr-always, account_within, written}
 use Rattle.allocative_service.proofs.Common.{bytes_of}
 use Rattle.allocative_service.proofs.Storing.{passed_on, replaces, shelf_bytes}
