@@ -22,8 +22,8 @@ use std::marker::Model;
 /// A value that was not put, or not kept after a change, with its key and the cause.
 pub type NotKept<K, V> = Refused<K, V, Rejection>;
 
-/// The values of one tenant of a `Store`, which alone changes it, with the bytes that each had when it was put or last
-/// changed.
+/// The values of one tenant of a `Store`, with the bytes that each had when it was put or last changed. Only the store
+/// changes its shelves. A shelf that `Store::close` handed back gives its values by `remove`.
 #[derive(Drop)]
 pub struct Shelf<K: Eq + Hash, V: Allocative + Described> {
     alloc: Global,
@@ -214,7 +214,7 @@ impl<K: Eq + Hash + Drop, V: Allocative + Described> Shelf<K, V> {
 
     /// Removes the key and returns it with its value. If there is no such key, it returns None and nothing changes.
     #[tactic(auto, using(crate::proofs::Using::removing))]
-    pub(crate) fn remove(&mut self, key: &K) -> Option<(K, V)>
+    pub fn remove(&mut self, key: &K) -> Option<(K, V)>
         ensures value { result ≡ entry_at (K.eq key.now) self.old.entries }
         ensures others { self.new ≡ shelf_without (K.eq key.now) self.old }
         ensures unchanged { IfNone result (self.new ≡ self.old) }
