@@ -41,21 +41,26 @@ MODULES = {known.module: {known.length.split("(")[1].split()[0]} for known in KN
 
 
 def of(scope: Scope, kind: Type) -> Foreign | None:
-    """How a field of a type is shown, if the type is one of those here, a range of numbers, or an option of one without a buffer."""
+    """How a field of a type is shown: of one of those here, of numbers in a range or an `ArrayVec`, or of an option of one without a buffer."""
     kind = scope.real(kind)
     path = scope.path(kind) if kind.path else ()
     if not path or scope.own(kind):
         return None
     homes = path[:1] if len(path) > 1 else [each[0] for each in scope.module.globs]
     known = [KNOWN[home, path[-1]] for home in homes if (home, path[-1]) in KNOWN]
-    if known or len(kind.parts) != 1:
+    if known or not kind.parts:
         return known[0] if known else None
-    part = kind.parts[0]
+    part, *counts = kind.parts
     size = NUMBERS.get(part.name, 0) if part.text == part.name else 0
     if path == ("std", "ops", "Range") and size:
         return plain("Range", f"[{part.name}; 2]", 2 * size, size)
     if path == ("std", "ops", "RangeInclusive") and size:
         return plain("RangeInclusive", f"({part.name}, {part.name}, bool)", 3 * size, size)
+    count = counts[0].text if len(counts) == 1 else ""
+    if path == ("arrayvec", "ArrayVec") and size and count.isdigit():
+        # The layout of `arrayvec` 0.7: a `u32` for the length, and the array.
+        align = max(4, size)
+        return plain("ArrayVec", f"(u32, [{part.name}; {count}])", -(-(4 + size * int(count)) // align) * align, align)
     held = of(scope, part) if path == ("Option",) else None
     if held is None or held.length:
         return None

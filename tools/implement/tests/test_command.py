@@ -284,7 +284,7 @@ class CommandTest(unittest.TestCase):
 
     def test_types_of_other_crates(self) -> None:
         """A size, or a size and a length, without a comment above the field."""
-        head = "use bytes::{Bytes, BytesMut};\nuse jiff::{Timestamp, civil::Date as Day};\nuse std::ops::{Range, RangeInclusive};\nuse std::path::PathBuf;\nuse url::Url;\nuse uuid::Uuid;\n"
+        head = "use arrayvec::ArrayVec;\nuse bytes::{Bytes, BytesMut};\nuse jiff::{Timestamp, civil::Date as Day};\nuse std::ops::{Range, RangeInclusive};\nuse std::path::PathBuf;\nuse url::Url;\nuse uuid::Uuid;\n"
         for kind, size, counted, shown in (
             ("Uuid", 16, "[u8; 16]", 'shows.Inside (codes "Uuid") 16 shows.Nothing'),
             ("jiff::Zoned<'static>", 40, "[Box<()>; 5]", 'shows.Inside (codes "Zoned") 40 shows.Nothing'),
@@ -294,6 +294,8 @@ class CommandTest(unittest.TestCase):
             ("std::net::SocketAddrV4", 6, "[u16; 3]", 'shows.Inside (codes "SocketAddrV4") 6 shows.Nothing'),
             ("Range<u32>", 8, "[u32; 2]", 'shows.Inside (codes "Range") 8 shows.Nothing'),
             ("RangeInclusive<u64>", 24, "(u64, u64, bool)", 'shows.Inside (codes "RangeInclusive") 24 shows.Nothing'),
+            ("ArrayVec<u16, 3>", 12, "(u32, [u16; 3])", 'shows.Inside (codes "ArrayVec") 12 shows.Nothing'),
+            ("Option<ArrayVec<u64, 3>>", 40, "Option<(u32, [u64; 3])>", 'shows.Inside (codes "Option") 40 shows.Nothing'),
             ("Url", 88, "[Box<()>; 11]", '(shows.Inside (codes "u8") (length (serialize x.a)) shows.Nothing)'),
             ("PathBuf", 24, "[Box<()>; 3]", '(shows.Inside (codes "u8") (length (path_buf_bytes x.a)) shows.Nothing)'),
             ("Bytes", 32, "[Box<()>; 4]", '(shows.Inside (codes "u8") (length x.a) shows.Nothing)'),
@@ -312,6 +314,7 @@ class CommandTest(unittest.TestCase):
             self.assertIn(line, output)
         for kind, what in (
             ("Vec<Uuid>", "`Uuid` of `uuid` has no implementation: put the `Uuid` into a struct of your own, or write above it"),
+            ("ArrayVec<String, 2>", "`ArrayVec` of `arrayvec` has no implementation: write above it `// allocative: size N`"),
             ("Option<Url>", "put the `Url` into a struct of your own, or write above it `// allocative: size 96`"),
             ("std::sync::Arc<u8>", "write `IdArc<u8>` of `allocative`, or write above it `// allocative: size 8`"),
             ("std::sync::Arc<str>", "`Arc` of `std` has no implementation: write above it `// allocative: size 16`"),
