@@ -1,4 +1,4 @@
--- The markup of a character has plain bytes only, and reads as that character.
+-- The markup of a character has plain bytes only, and unescapes to that character.
 use Rattle.std.proofs.Common.{◌≡◌, ℕ, ◌≤◌, ◌&&◌, Bool, true, false, not, cond, List, [], ◌∷◌, ◌++◌, refl, arith, codes}
 use Rattle.std.proofs.Common.{nat_lt, ◌==◌, encode_utf8, flat_map}
 use Rattle.allocative_picture.proofs.Common.{escaped_char}
@@ -7,8 +7,8 @@ use Rattle.std.proofs.lemmas.Bool.Decides.{nat_tests}
 use Rattle.std.specs.List.{AllByRecursion, list_all}
 use Rattle.std.specs.Str.{chars}
 use Rattle.allocative_graph.proofs.Basics.{each-append}
-use Rattle.allocative_picture.specs.Escape.{is_unfit, IsPlain, Reads, end, ampersand, less, greater, quote, apostrophe}
-use Rattle.allocative_picture.specs.Escape.{itself, EscapeLaws}
+use Rattle.allocative_picture.specs.Escape.{is_unfit, IsPlain, Unescapes, end, ampersand, less, greater, quote}
+use Rattle.allocative_picture.specs.Escape.{apostrophe, itself, EscapeLaws}
 
 -- What holds in both cases holds of a choice.
 by_cond : {X : Type 0} (P : X → Type 0) (b : Bool) (x y : X) → (b ≡ true → P x) → (b ≡ false → P y) → P (cond b x y)
@@ -40,9 +40,9 @@ all_plain_by [] e = tt
 all_plain_by (b ∷ bs) e = (plain_by b (and_parts _ _ e).0, all_plain_by bs (and_parts _ _ e).1)
 
 -- ---- characters
--- The markup x has plain bytes only, and reads as s wherever it stands.
+-- The markup x has plain bytes only, and unescapes to s wherever it stands.
 abbrev IsMarkup : List ℕ → List ℕ → Type 0
-IsMarkup x s = AllByRecursion IsPlain x × ((m t : List ℕ) → Reads m t → Reads (x ++ m) (s ++ t))
+IsMarkup x s = AllByRecursion IsPlain x × ((m t : List ℕ) → Unescapes m t → Unescapes (x ++ m) (s ++ t))
 
 -- All bytes are from 128 on.
 abbrev High : List ℕ → Type 0
@@ -59,7 +59,7 @@ high (b ∷ bs) h =
 abbrev legible_char : ℕ → List ℕ
 legible_char c = cond (is_unfit c) (encode_utf8 65533) (encode_utf8 c)
 
--- Each of the five references reads as its character. Other characters are one byte below 128, or bytes from 128 on.
+-- Each of the five references unescapes to its character. Other characters are one byte below 128, or bytes from 128 on.
 char : (c : ℕ) → IsMarkup (escaped_char c) (legible_char c)
 unfolding lib.Utf8.encode
 char c =
@@ -81,12 +81,12 @@ char c =
     by_cond High (nat_lt c 65536) _ _ (λ _. (omega arith, (omega arith, (omega arith, tt))))
     (λ _. (omega arith, (omega arith, (omega arith, (omega arith, tt))))))))))))))
 
--- The markup of some characters has plain bytes only, and reads as these characters.
+-- The markup of some characters has plain bytes only, and unescapes to these characters.
 markup : (cs : List ℕ) → AllByRecursion IsPlain (flat_map escaped_char cs)
-    × Reads (flat_map escaped_char cs) (flat_map legible_char cs)
+    × Unescapes (flat_map escaped_char cs) (flat_map legible_char cs)
 markup [] = (tt, end)
 markup (c ∷ cs) = (each-append IsPlain (escaped_char c) (flat_map escaped_char cs) (char c).0 (markup cs).0, (char c).1 _ _ (markup cs).1)
 
--- Markup of a text has plain bytes only, and reads as that text.
+-- Markup of a text has plain bytes only, and unescapes to that text.
 pub escapes : (t : List ℕ) → EscapeLaws t
-escapes t = record { plain = (markup (chars t)).0; reads = (markup (chars t)).1 }
+escapes t = record { plain = (markup (chars t)).0; unescapes = (markup (chars t)).1 }

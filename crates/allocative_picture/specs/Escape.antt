@@ -32,27 +32,27 @@ pub record IsPlain (b : ℕ) : Type 0 where
   pub no_apostrophe : b ≢ 39
   pub no_control : 32 ≤ b
 
--- The markup reads as the text: each of the five references stands for its character, and each other byte except `&`
--- and `<` stands for itself.
-pub data Reads : List ℕ → List ℕ → Type 0 where
-  end : Reads [] []
-  ampersand : (m t : List ℕ) → Reads m t → Reads (codes "&amp;" ++ m) (38 ∷ t)
-  less : (m t : List ℕ) → Reads m t → Reads (codes "&lt;" ++ m) (60 ∷ t)
-  greater : (m t : List ℕ) → Reads m t → Reads (codes "&gt;" ++ m) (62 ∷ t)
-  quote : (m t : List ℕ) → Reads m t → Reads (codes "&quot;" ++ m) (34 ∷ t)
-  apostrophe : (m t : List ℕ) → Reads m t → Reads (codes "&#39;" ++ m) (39 ∷ t)
-  itself : (b : ℕ) (m t : List ℕ) → b ≢ 38 → b ≢ 60 → Reads m t → Reads (b ∷ m) (b ∷ t)
+-- The markup unescapes to the text: each of the five references stands for its character, and each other byte except
+-- `&` and `<` stands for itself.
+pub data Unescapes : List ℕ → List ℕ → Type 0 where
+  end : Unescapes [] []
+  ampersand : (m t : List ℕ) → Unescapes m t → Unescapes (codes "&amp;" ++ m) (38 ∷ t)
+  less : (m t : List ℕ) → Unescapes m t → Unescapes (codes "&lt;" ++ m) (60 ∷ t)
+  greater : (m t : List ℕ) → Unescapes m t → Unescapes (codes "&gt;" ++ m) (62 ∷ t)
+  quote : (m t : List ℕ) → Unescapes m t → Unescapes (codes "&quot;" ++ m) (34 ∷ t)
+  apostrophe : (m t : List ℕ) → Unescapes m t → Unescapes (codes "&#39;" ++ m) (39 ∷ t)
+  itself : (b : ℕ) (m t : List ℕ) → b ≢ 38 → b ≢ 60 → Unescapes m t → Unescapes (b ∷ m) (b ∷ t)
 
 -- The text with U+FFFD in place of each unfit character.
 abbrev pub legible : List ℕ → List ℕ
 legible t = flat_map (λ c. cond (is_unfit c) (encode_utf8 65533) (encode_utf8 c)) (chars t)
 
 -- No byte of the markup of a text ends a text or an attribute, begins an element or is a control below 32, and the
--- markup reads as the legible text.
+-- markup unescapes to the legible text.
 pub record EscapeLaws (t : List ℕ) : Type 0 where
   pub plain : AllByRecursion IsPlain (escaped t)
-  pub reads : Reads (escaped t) (legible t)
+  pub unescapes : Unescapes (escaped t) (legible t)
 
--- The markup of every text is plain and reads as the text.
+-- The markup of every text is plain, and unescapes to the legible text.
 abbrev pub EscapeLaw : Type 0
 EscapeLaw = (t : List ℕ) → EscapeLaws t
