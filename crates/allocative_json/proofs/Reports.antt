@@ -22,7 +22,7 @@ use Rattle.allocative_json.specs.declared.fault.Fault.TheVariants as fault
 use Rattle.allocative_json.specs.declared.profile.Report.{Report}
 use Rattle.allocative_json.specs.declared.words.Words.{Words}
 use Rattle.allocative_json.specs.Profile.{AreTexts, IsReportOf, IsRightReport, RefusesRoots, RefusesReport}
-use Rattle.allocative_json.specs.Roots.{IsDocument, IsWholeDocument, AreRoots}
+use Rattle.allocative_json.specs.Roots.{IsDocument, AreRoots}
 use Rattle.allocative_json.specs.Run.{IsReportFor, MayEndRun}
 use Rattle.allocative_json.specs.Run.{Asks}
 
@@ -62,14 +62,10 @@ pub some_text : (input : List ℕ) (d : Data) → IsDocument input d → 0 < len
 some_text [] d h = absurd (nothing_read d h.is_read)
 some_text (b ∷ bs) d h = omega arith
 
--- Nor is that of a document whose numbers are whole.
-pub some_input : (input : List ℕ) (d : Data) → IsWholeDocument input d → 0 < length input
-some_input input d h = some_text input d h.document
-
 -- A fault of the roots is one of their input.
 refused_roots : (input : List ℕ) (index : Bool) (v : Value) (n : Option (BTreeSet ℤ)) (f : Fault) →
     AreRoots input index (view v) n → RefusesRoots (roots_show v n) f → RefusesReport input index f
-refused_roots input index v n Memory h r = some_input input (view v) h.document
+refused_roots input index v n Memory h r = some_text input (view v) h.document.document
 refused_roots input index v n TooLarge h r = (v, n, h, r)
 refused_roots input index v n f h r = absurd r
 

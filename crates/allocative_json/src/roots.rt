@@ -1,5 +1,5 @@
 //! Reads a document and its numbers.
-ghost use Rattle.std.specs.Prelude.{◌≡◌, OnOk, IfOk, IfErr};
+ghost use Rattle.std.specs.Prelude.{◌≡◌, IsTrue, OnOk, IfOk, IfErr};
 ghost use Rattle.std.specs.Ordering.{int_cmp};
 ghost use Rattle.std.specs.BTreeSet.{IsOrdered};
 ghost use Rattle.serde_json.specs.View.{view, items_view, members_view};
@@ -10,99 +10,70 @@ use serde_json::{Map, Value};
 use std::alloc::{AllocError, Global};
 use std::collections::BTreeSet;
 
-#[cycle(whole)]
-fn is_whole_value(value: &Value) -> bool
-    ensures { result ≡ is_whole (view value.now) }
-{
-    match value {
-        Value::Number(number) => number.is_i64() || number.is_u64(),
-        Value::Array(items) => are_whole_items(items),
-        Value::Object(members) => are_whole_members(members),
-        _ => true,
-    }
-}
-
-#[cycle(whole)]
-fn are_whole_items(items: &Vec<Value>) -> bool
-    ensures { result ≡ are_whole (items_view items.now.items) }
-{
-    let mut all_whole = true;
-    for item in items {
-        all_whole = all_whole & is_whole_value(item);
-    }
-    all_whole
-}
-
-#[cycle(whole)]
-fn are_whole_members(members: &Map<String, Value>) -> bool
-    ensures { result ≡ have_whole (members_view members.now.entries) }
-{
-    let mut all_whole = true;
-    for (_key, member) in members.iter() {
-        all_whole = all_whole & is_whole_value(member);
-    }
-    all_whole
-}
-
-// Adds each whole number of the document to the set.
+// Returns whether each number of the document is whole. With `index` it adds those that are to the set.
 #[cycle(numbers)]
-fn add_numbers(value: &Value, set: &mut BTreeSet<i128>) -> Result<(), AllocError>
-    ensures keys { OnOk result (AddsKeys (has_number (view value.now)) set.old set.new) }
+fn add_numbers(value: &Value, index: bool, set: &mut BTreeSet<i128>) -> Result<bool, AllocError>
+    ensures whole { IfOk result (λ all_whole. all_whole ≡ is_whole (view value.now)) }
+    ensures keys { OnOk result (IsTrue index
+        → AddsKeys (has_number (view value.now)) set.old set.new) }
     ensures ordered { IsOrdered int_cmp set.old → IsOrdered int_cmp set.new }
 {
     match value {
-        Value::Number(number) => {
-            if let Some(whole) = number.as_i128() {
-                set.insert(whole)?;
+        Value::Number(number) => match number.as_i128() {
+            Some(whole) => {
+                if index {
+                    set.insert(whole)?;
+                }
+                Ok(true)
             }
-            Ok(())
-        }
-        Value::Array(items) => add_items(items, set),
-        Value::Object(members) => add_members(members, set),
-        _ => Ok(()),
+            None => Ok(false),
+        },
+        Value::Array(items) => add_items(items, index, set),
+        Value::Object(members) => add_members(members, index, set),
+        _ => Ok(true),
     }
 }
 
 #[cycle(numbers)]
-fn add_items(items: &Vec<Value>, set: &mut BTreeSet<i128>) -> Result<(), AllocError>
-    ensures keys { OnOk result
-        (AddsKeys (items_have (items_view items.now.items)) set.old set.new) }
+fn add_items(items: &Vec<Value>, index: bool, set: &mut BTreeSet<i128>) -> Result<bool, AllocError>
+    ensures whole { IfOk result (λ all_whole. all_whole ≡ are_whole (items_view items.now.items)) }
+    ensures keys { OnOk result (IsTrue index
+        → AddsKeys (items_have (items_view items.now.items)) set.old set.new) }
     ensures ordered { IsOrdered int_cmp set.old → IsOrdered int_cmp set.new }
 {
+    let mut all_whole = true;
     for item in items {
-        add_numbers(item, set)?;
+        all_whole = all_whole & add_numbers(item, index, set)?;
     }
-    Ok(())
+    Ok(all_whole)
 }
 
 #[cycle(numbers)]
-fn add_members(members: &Map<String, Value>, set: &mut BTreeSet<i128>) -> Result<(), AllocError>
-    ensures keys { OnOk result
-        (AddsKeys (members_have (members_view members.now.entries)) set.old set.new) }
+fn add_members(
+    members: &Map<String, Value>,
+    index: bool,
+    set: &mut BTreeSet<i128>,
+) -> Result<bool, AllocError>
+    ensures whole { IfOk result
+        (λ all_whole. all_whole ≡ have_whole (members_view members.now.entries)) }
+    ensures keys { OnOk result (IsTrue index
+        → AddsKeys (members_have (members_view members.now.entries)) set.old set.new) }
     ensures ordered { IsOrdered int_cmp set.old → IsOrdered int_cmp set.new }
 {
+    let mut all_whole = true;
     for (_key, member) in members.iter() {
-        add_numbers(member, set)?;
+        all_whole = all_whole & add_numbers(member, index, set)?;
     }
-    Ok(())
-}
-
-// The set of the document's numbers.
-fn index_of(alloc: Global, document: &Value) -> Result<BTreeSet<i128>, AllocError>
-    ensures { IfOk result (IsIndexOf (view document.now)) }
-{
-    let mut set = BTreeSet::new(alloc);
-    add_numbers(document, &mut set)?;
-    Ok(set)
+    Ok(all_whole)
 }
 
 /// The document that `serde_json` reads from the input and, exactly with `index`, the set of its whole
 /// numbers at any depth.
 ///
-/// It returns `Fault::NotJson` if `serde_json` refuses the input for a reason other than memory,
-/// `Fault::NotWhole` if the document has a number that is neither an i64 nor a u64, and otherwise
-/// `Fault::Memory`, which an empty input never causes.
-#[tactic(auto, using(crate::proofs::Reports::some_input))]
+/// It returns `Fault::NotJson` only if `serde_json` refuses the input for a reason other than memory, `Fault::NotWhole`
+/// only if the document has a number that is neither an i64 nor a u64, and otherwise `Fault::Memory`, which an empty input
+/// never causes.
+#[tactic(auto, using(crate::proofs::Reports::some_text))]
 pub fn read_roots(
     alloc: Global,
     input: &[u8],
@@ -112,13 +83,12 @@ pub fn read_roots(
     ensures err { IfErr result (RefusesInput input.now) }
 {
     let document = Value::from_slice(alloc, input)?;
-    if !is_whole_value(&document) {
+    let mut numbers = BTreeSet::new(alloc);
+    if !add_numbers(&document, index, &mut numbers)? {
         return Err(Fault::NotWhole);
     }
-    let set = if index {
-        Some(index_of(alloc, &document)?)
-    } else {
-        None
-    };
-    Ok((document, set))
+    if index {
+        return Ok((document, Some(numbers)));
+    }
+    Ok((document, None))
 }
