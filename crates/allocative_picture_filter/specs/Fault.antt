@@ -8,8 +8,8 @@ use Rattle.allocative_graph.specs.declared.refusal.Refusal as refusal
 use Rattle.allocative_graph.specs.declared.refusal.Refusal.TheVariants as refused
 use Rattle.allocative_io.specs.Lines.{line_of}
 use Rattle.allocative_picture_filter.specs.declared.fault.Fault.{Fault}
-use Rattle.allocative_picture_filter.specs.declared.fault.Fault.TheVariants.{Memory, Line, NotText, TooLarge, Arguments}
-use Rattle.allocative_picture_filter.specs.declared.fault.Fault.TheVariants.{Reading, Writing, Empty}
+use Rattle.allocative_picture_filter.specs.declared.fault.Fault.TheVariants.{Memory, Line, NotText, TwoCounts, TooLarge}
+use Rattle.allocative_picture_filter.specs.declared.fault.Fault.TheVariants.{Arguments, Reading, Writing, Empty}
 use Rattle.allocative_picture_filter.specs.declared.fault.Source.{Source}
 use Rattle.allocative_picture_filter.specs.declared.fault.Source.TheVariants.{Input, File}
 
@@ -19,6 +19,7 @@ status_of Memory = 1
 status_of (Line s n line.TooLarge) = 4
 status_of (Line s n w) = 2
 status_of (NotText s) = 3
+status_of (TwoCounts s) = 2
 status_of TooLarge = 4
 status_of (Arguments m) = 5
 status_of (Reading s k) = 6
@@ -60,6 +61,8 @@ abbrev pub said_of : Fault → List (List ℕ)
 said_of Memory = codes "out of memory" ∷ []
 said_of (Line s n w) = codes "line " ∷ decimal n ∷ codes " of " ∷ name_of s (codes "the input") ∷ what_is_wrong w ∷ []
 said_of (NotText s) = name_of s (codes "a text") ∷ codes " is not UTF-8" ∷ []
+said_of (TwoCounts s) = codes "each line of " ∷ name_of s (codes "the input")
+    ∷ codes " has two counts: give the earlier stacks by --before" ∷ []
 said_of TooLarge = codes "sizes do not fit" ∷ []
 said_of (Arguments reason) = string_bytes reason ∷ []
 said_of (Reading s k) = codes "cannot read " ∷ name_of s (codes "input") ∷ cause_of k ∷ []

@@ -1,3 +1,4 @@
 pub mod Arguments
+pub mod Differential
 pub mod Fault
 pub mod Run

@@ -8,10 +8,12 @@ use Rattle.allocative_picture.specs.Picture.{profile_drawing, change_drawing}
 use Rattle.allocative_picture.specs.Table.{IsTable}
 use Rattle.allocative_picture.specs.Views.{IsOutline, by_last_key}
 use Rattle.allocative_picture.specs.declared.options.Options.{Options}
+use Rattle.allocative_picture_filter.specs.Differential.{IsDifferential}
 use Rattle.allocative_picture_filter.specs.Fault.{IsReadingOf}
 use Rattle.allocative_picture_filter.specs.declared.arguments.Arguments.{Arguments}
 use Rattle.allocative_picture_filter.specs.declared.fault.Fault.{Fault}
-use Rattle.allocative_picture_filter.specs.declared.fault.Fault.TheVariants.{Memory, Line, NotText, TooLarge, Empty}
+use Rattle.allocative_picture_filter.specs.declared.fault.Fault.TheVariants.{Memory, Line, NotText, TwoCounts, TooLarge}
+use Rattle.allocative_picture_filter.specs.declared.fault.Fault.TheVariants.{Empty}
 use Rattle.allocative_picture_filter.specs.declared.fault.Source.{Source}
 use Rattle.allocative_picture_filter.specs.declared.fault.Source.TheVariants.{Input}
 use Rattle.allocative_picture_filter.specs.declared.run.Text.{Text}
@@ -37,9 +39,9 @@ sourced t = (t.source, t.bytes.now)
 abbrev pub later_texts : List Text → Bool → List ℕ → List Sourced
 later_texts ts reads_input known = map sourced ts ++ cond reads_input ((Input, without_mark known) ∷ []) []
 
--- The text is UTF-8, and the graph is read of it.
+-- The text is UTF-8 and not in the differential form, and the graph is read of it.
 abbrev pub Reads : Sourced → Graph → Type 0
-Reads t g = IsUtf8 t.1 × IsRead t.1 g
+Reads t g = IsUtf8 t.1 × (¬ IsDifferential t.1) × IsRead t.1 g
 
 -- The graph g with that of the text is h, and their bytes together are a word.
 pub record Adds (g : Graph) (t : Sourced) (h : Graph) : Type 0 where
@@ -112,12 +114,14 @@ pub record IsMade (asked : Arguments) (before : List Text) (after : List Sourced
   pub is : Writes asked (is_change asked (length before)) shown_earlier shown_later made
 
 -- ---- what stops a run
--- Why no graph is read of a text: memory runs out; it is not UTF-8; a line of it is none; or its bytes exceed a word.
+-- Why no graph is read of a text: memory runs out; it is not UTF-8; it is in the differential form; or it is not, and a
+-- line of it is none, or its bytes exceed a word.
 abbrev pub StopsReading : Sourced → Fault → Type 0
 StopsReading t Memory = ⊤
-StopsReading t (Line s n w) = (s ≡ t.0) × IsUtf8 t.1 × IsFault t.1 n w
 StopsReading t (NotText s) = (s ≡ t.0) × ¬ IsUtf8 t.1
-StopsReading t TooLarge = IsUtf8 t.1 × Exceeds t.1
+StopsReading t (TwoCounts s) = (s ≡ t.0) × IsUtf8 t.1 × IsDifferential t.1
+StopsReading t (Line s n w) = (s ≡ t.0) × IsUtf8 t.1 × (¬ IsDifferential t.1) × IsFault t.1 n w
+StopsReading t TooLarge = IsUtf8 t.1 × (¬ IsDifferential t.1) × Exceeds t.1
 StopsReading t _ = ⊥
 
 -- Why two graphs with so many bytes together are not joined: memory runs out, or these exceed a word.

@@ -29,6 +29,8 @@ pub enum Fault<'a> {
     Line(Source<'a>, usize, LineFault),
     /// A text is not UTF-8.
     NotText(Source<'a>),
+    /// A text has a line that is not blank, and each such line ends in two counts.
+    TwoCounts(Source<'a>),
     /// The bytes of all lines together exceed `usize::MAX`.
     TooLarge,
     /// The arguments are wrong, for this reason.
@@ -51,6 +53,7 @@ impl Fault<'_> {
             Fault::Line(_, _, LineFault::TooLarge) => 4,
             Fault::Line(_, _, _) => 2,
             Fault::NotText(_) => 3,
+            Fault::TwoCounts(_) => 2,
             Fault::TooLarge => 4,
             Fault::Arguments(_) => 5,
             Fault::Reading(_, _) => 6,
@@ -137,6 +140,16 @@ pub fn report_fault<E: Write>(errors: &mut E, fault: &Fault<'_>) -> io::Result<(
                 name_of(*source, "a text"),
                 " is not UTF-8",
                 "",
+                "",
+                "",
+            )
+        }
+        Fault::TwoCounts(source) => {
+            say(
+                errors,
+                "each line of ",
+                name_of(*source, "the input"),
+                " has two counts: give the earlier stacks by --before",
                 "",
                 "",
             )

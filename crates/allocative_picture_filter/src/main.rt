@@ -8,6 +8,7 @@ ghost use Rattle.allocative_io.specs.Streams.{AppendsBeginning};
 ghost use Rattle.allocative_picture_filter.specs.declared.run.TheConstants.{USAGE};
 
 mod arguments;
+mod differential;
 mod fault;
 mod run;
 

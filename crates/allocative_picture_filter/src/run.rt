@@ -8,6 +8,7 @@ ghost use Rattle.allocative_picture_filter.specs.Run.{sourced, without_mark, lat
 ghost use Rattle.allocative_picture.specs.Views.{IsOutline};
 
 use crate::arguments::Arguments;
+use crate::differential::is_differential;
 use crate::fault::{Fault, Source};
 use allocative_graph::flamegraph::FlameGraph;
 use allocative_graph::read::ReadFault;
@@ -94,6 +95,9 @@ fn graph_of<'a>(alloc: Global, text: &Text<'a>) -> Result<FlameGraph, Fault<'a>>
     let Ok(lines) = str::from_utf8(text.bytes) else {
         return Err(Fault::NotText(text.source));
     };
+    if is_differential(lines) {
+        return Err(Fault::TwoCounts(text.source));
+    }
     match FlameGraph::read(alloc, lines) {
         Ok(graph) => Ok(graph),
         Err(ReadFault::Memory) => Err(Fault::Memory),

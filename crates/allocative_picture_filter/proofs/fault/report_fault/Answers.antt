@@ -7,3 +7,11 @@ returns-in-NotText-clause-whole g c =
 
 pub returns-in-TooLarge-clause-whole : goal.returns-in-TooLarge-clause-whole
 returns-in-TooLarge-clause-whole g c = rw c.in-TooLarge.is c.say-in-TooLarge.ensures.whole
+
+pub returns-in-TwoCounts-clause-whole : goal.returns-in-TwoCounts-clause-whole
+returns-in-TwoCounts-clause-whole g c =
+    rw c.in-TwoCounts.is (rw c.name_of-in-TwoCounts.ensures at c.say-in-TwoCounts.ensures.whole)
+
+pub returns-in-TwoCounts-clause-beginning : goal.returns-in-TwoCounts-clause-beginning
+returns-in-TwoCounts-clause-beginning g c =
+    rw c.in-TwoCounts.is (rw c.name_of-in-TwoCounts.ensures at c.say-in-TwoCounts.ensures.beginning)

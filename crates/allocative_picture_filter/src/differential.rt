@@ -1,0 +1,34 @@
+//! Texts in the differential form, whose lines have two counts.
+ghost use Rattle.std.specs.Prelude.{◌↔◌, IsTrue};
+ghost use Rattle.std.specs.Str.Parse.{IsNumeral};
+ghost use Rattle.allocative_picture_filter.specs.Differential.{HasTwoCounts, IsDifferential};
+
+// Whether a text is one decimal digit or more, and nothing else.
+fn is_numeral(text: &str) -> bool
+    ensures { IsTrue result ↔ IsNumeral 10 text.now }
+{
+    !text.is_empty() && text.as_bytes().iter().all(|b| b.is_ascii_digit())
+}
+
+// Whether a line ends in two counts.
+fn has_two_counts(line: &str) -> bool
+    ensures { IsTrue result ↔ HasTwoCounts line.now }
+{
+    let Some((front, second)) = line.rsplit_once(' ') else {
+        return false;
+    };
+    let Some((_, first)) = front.rsplit_once(' ') else {
+        return false;
+    };
+    is_numeral(first) && is_numeral(second)
+}
+
+/// Whether a text has a line that is not blank, and each such line ends in two counts.
+pub fn is_differential(text: &str) -> bool
+    ensures { IsTrue result ↔ IsDifferential text.now }
+{
+    text.lines().any(|line| !line.is_empty())
+        && text
+            .lines()
+            .all(|line| line.is_empty() || has_two_counts(line))
+}
