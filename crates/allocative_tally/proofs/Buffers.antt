@@ -7,6 +7,7 @@ use Rattle.allocative_graph.specs.Owned.{direct}
 use Rattle.allocative_graph.proofs.Owned.{direct-following}
 use Rattle.allocative.proofs.Common.{Key, Showing, Nothing, Both, Inside, InsideAs, Field, slice_shows, buffer_shows}
 use Rattle.allocative.proofs.Common.{with_room, without_room, without_size}
+use Rattle.allocative.proofs.ContainerMeaning.{checked_fits}
 use Rattle.allocative.specs.Bodies.{cut_shows, is_cut, text_shows, is_text, are_shown_each, bytes_shown}
 use Rattle.allocative_tally.specs.Shapes.{Shape, Unique, Wide, NoEntry, Beside, EntryAt, forest_of, sum_of, sum_times}
 use Rattle.allocative_tally.specs.Shapes.{entries, bytes_times, top_bytes, items_shape, buffer_shape, unused_shape}
@@ -60,7 +61,7 @@ next_container n room fits inside =
 
 -- ---- places
 -- The bytes of so many values of a size, if they fit a word.
-times_is : (size : Option ℕ) {z : ℕ} (n : ℕ) → size ≡ Some z → z * n < 2 ^ 64 → bytes_times size n ≡ z * n
+pub times_is : (size : Option ℕ) {z : ℕ} (n : ℕ) → size ≡ Some z → z * n < 2 ^ 64 → bytes_times size n ≡ z * n
 times_is None n e fits = absurd (cc)
 times_is (Some s) {z} n e fits = let same : s * n ≡ z * n = ap (λ (y : ℕ). y * n) (cc) in omega (arith, fits, same)
 
@@ -71,13 +72,13 @@ times_most (Some s) {z} n e = let same : s * n ≡ z * n = ap (λ (y : ℕ). y *
 
 -- The bytes of the places before and of those that were added fit a word.
 pub places_fit : {size : Option ℕ} {l u : ℕ} {old new : Places} → (a : AddsPlaces size l u old new) →
-    a.bytes * old.items + a.bytes * l + (a.bytes * old.unused + a.bytes * u) < 2 ^ 64
+    a.room.bytes * old.items + a.room.bytes * l + (a.room.bytes * old.unused + a.room.bytes * u) < 2 ^ 64
 places_fit {l = l} {u} {old} {new} a = omega (
   arith,
-  a.fits,
-  mul-add a.bytes new.items new.unused,
-  ap (λ (i : ℕ). a.bytes * i) a.items ∙ mul-add a.bytes old.items l,
-  ap (λ (i : ℕ). a.bytes * i) a.unused ∙ mul-add a.bytes old.unused u,
+  a.room.fits,
+  mul-add a.room.bytes new.items new.unused,
+  ap (λ (i : ℕ). a.room.bytes * i) a.items ∙ mul-add a.room.bytes old.items l,
+  ap (λ (i : ℕ). a.room.bytes * i) a.unused ∙ mul-add a.room.bytes old.unused u,
 )
 
 -- What was counted of so many values of a size is within the bytes of all.
@@ -92,39 +93,31 @@ most_direct {size} n s e most = omega (arith, shape_direct s, most, times_most s
 
 -- A pointer is counted with the items in its buffer.
 pub pointer_counted : {size : Option ℕ} {l u : ℕ} {old new : Places} (k : Key) {p : Showing} {s t : Shape} →
-    (a : AddsPlaces size l u old new) → direct (forest_of s) ≤ a.bytes * old.items → Tallies (Some (a.bytes * l)) p s t →
+    (a : AddsPlaces size l u old new) → direct (forest_of s) ≤ a.room.bytes * old.items → Tallies (Some (a.room.bytes * l)) p s t →
     Tallies (Some 8) (InsideAs true k 8 p) (EntryAt Unique k (sum_times (Some 8) old.buffers) s)
     (EntryAt Unique k (sum_times (Some 8) new.buffers) t)
 pointer_counted {old = old} {new} k a before items =
     counted_unique {k = k} (one_more (Some 8) old.buffers new.buffers refl a.buffers) items
     (λ r. omega (arith, before, items.within, places_fit a))
 
--- A size that fits a word is checked as itself.
-checked_fits : (m : ℕ) → m < 2 ^ 64 → checked m ≡ Some m
-checked_fits m h = by_test (nat_lt m (2 ^ 64)) (grind (arith, h))
-  where
-    by_test : (b : Bool) → b ≡ true → (if b then Some m else None) ≡ Some m
-    by_test true e = refl
-    by_test false e = absurd (cc)
-
 -- A buffer is counted with its items and its unused places.
 pub places_counted : {size : Option ℕ} {l u : ℕ} {old new : Places} (k : Key) {p : Showing} {s t : Shape} →
-    (a : AddsPlaces size l u old new) → direct (forest_of s) ≤ a.bytes * old.items → Tallies (Some (a.bytes * l)) p s t →
+    (a : AddsPlaces size l u old new) → direct (forest_of s) ≤ a.room.bytes * old.items → Tallies (Some (a.room.bytes * l)) p s t →
     Tallies (Some 8) (InsideAs true k 8 (Both p (bytes_shown (codes "unused_capacity") size u)))
     (buffer_shape k old.buffers s (bytes_times size old.unused))
     (buffer_shape k new.buffers t (bytes_times size new.unused))
 places_counted {size} {l} {u} {old} {new} k {s = s} a before items =
     let fits = places_fit a in
-    let bytes : size_product size (Some u) ≡ Some (a.bytes * u) =
-    ap (λ v. size_product v (Some u)) a.sized ∙ checked_fits (a.bytes * u) (omega (arith, fits)) in
+    let bytes : size_product size (Some u) ≡ Some (a.room.bytes * u) =
+    ap (λ v. size_product v (Some u)) a.room.sized ∙ checked_fits (a.room.bytes * u) (omega (arith, fits)) in
     let left = counted_field {k = codes "unused_capacity"} bytes
-    (counted_leaf (adds_times size old.buffers new.buffers old.unused u new.unused (omega (arith, a.buffers)) a.sized
+    (counted_leaf (adds_times size old.buffers new.buffers old.unused u new.unused (omega (arith, a.buffers)) a.room.sized
     a.unused)) in
     let inside = tallies_both items left in
     let top = direct-following (forest_of s) (forest_of (unused_shape old.buffers (bytes_times size old.unused))) in
     let unused = entry_direct Wide (codes "unused_capacity") (sum_of old.buffers (bytes_times size old.unused)) NoEntry in
-    let most = times_most size old.unused a.sized in
-    let within : direct inside.counted ≤ a.bytes * l + a.bytes * u = grind (arith, inside.within, bytes) in
+    let most = times_most size old.unused a.room.sized in
+    let within : direct inside.counted ≤ a.room.bytes * l + a.room.bytes * u = grind (arith, inside.within, bytes) in
     counted_unique {k = k} (one_more (Some 8) old.buffers new.buffers refl a.buffers) inside
     (λ r. omega (arith, before, top, unused, most, within, fits))
 
@@ -215,14 +208,14 @@ buffer_counted name needs_drop (no_room item e x y v) is i j most items = absurd
 buffer_counted {size} {n = n} {m} {c} {old = old} {new} name needs_drop {p} {s} {t} (is_room {item} e some room a)
     is i j most items =
     let fits = places_fit a in
-    let all : a.bytes * new.items ≡ a.bytes * old.items + a.bytes * n =
-    ap (λ (v : ℕ). a.bytes * v) a.items ∙ mul-add a.bytes old.items n in
-    let first = times_is size old.items a.sized (omega (arith, fits)) in
-    let last = times_is size new.items a.sized (omega (arith, fits, all)) in
+    let all : a.room.bytes * new.items ≡ a.room.bytes * old.items + a.room.bytes * n =
+    ap (λ (v : ℕ). a.room.bytes * v) a.items ∙ mul-add a.room.bytes old.items n in
+    let first = times_is size old.items a.room.sized (omega (arith, fits)) in
+    let last = times_is size new.items a.room.sized (omega (arith, fits, all)) in
     let more : new.items ≡ old.items + m = omega (arith, a.items, i) in
-    let slice = items.next a.bytes old.buffers new.buffers old.items new.items a.sized (omega (arith, a.buffers)) more in
-    let top = items_direct (are_shown_each needs_drop size) name old.buffers (a.bytes * old.items) (s old.items)
-    (most_direct old.items (s old.items) a.sized (most old.items)) in
+    let slice = items.next a.room.bytes old.buffers new.buffers old.items new.items a.room.sized (omega (arith, a.buffers)) more in
+    let top = items_direct (are_shown_each needs_drop size) name old.buffers (a.room.bytes * old.items) (s old.items)
+    (most_direct old.items (s old.items) a.room.sized (most old.items)) in
     let whole : Tallies (Some 8) (buffer_shows size p n c) (buffer_of name size needs_drop old s)
     (buffer_of name size needs_drop new t) =
     rw (first, last) (tallies_as (λ h x. with_room e some room x)

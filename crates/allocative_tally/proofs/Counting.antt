@@ -13,7 +13,7 @@ use Rattle.allocative_tally.specs.Tallies.{Tallies, IsWithin, AddsEntry, both_bo
 use Rattle.allocative_tally.specs.declared.tally.Sum.{Sum}
 use Rattle.allocative_tally.proofs.Sizes.{HoldsBound, holds_nothing}
 use Rattle.allocative_tally.proofs.Merging.{plain_parts, plain_inside, merged_same, merged_then, merged_both}
-use Rattle.allocative_tally.proofs.Merging.{merged_crossed, merged_entry, merged_inside, KeepsOwned}
+use Rattle.allocative_tally.proofs.Merging.{merged_crossed, merged_entry, merged_inside, KeepsOwned, direct_entry}
 
 -- No bytes are within any bound.
 zero_within : (w : Option ℕ) → IsWithin 0 w
@@ -129,11 +129,6 @@ entries_merged : (u : Bool) (k : Key) (m n : ℕ) (f h g : Forest) → m + n < 2
 entries_merged u k m n f h g room keeps t =
     let x = plain_parts f h t.plain in
     merged_then (merged_entry u k m n f h x.0 x.1 room keeps) (merged_inside u k (m + n) t)
-
--- An entry has its own bytes at its top.
-direct_entry : (u : Bool) (k : Key) (n : ℕ) (f : Forest) → direct (entry_of u k n f) ≡ n
-direct_entry true k n f = omega arith
-direct_entry false k n f = omega arith
 
 -- One more entry was counted, with what is inside it.
 pub tallies_entry : {w : Option ℕ} {p : Showing} (x : Width) (k : Key) (n : ℕ) {old new : Sum} {s t : Shape} →

@@ -1,62 +1,35 @@
 -- What was entered as the merged forest was entered as the forests that it merges.
-use Rattle.std.proofs.Common.{◌≡◌, ℕ, ◌+◌, ◌-◌, min, Bool, true, false, cond, Result, Ok, refl, sym, ap, subst, ◌∙◌}
-use Rattle.std.proofs.Common.{arith, Option, Some, ◌<◌, ◌≤◌, ◌^◌, append-nil, List, [], ◌∷◌, ◌++◌, length, get_or, take}
-use Rattle.std.proofs.Common.{drop}
-use Rattle.allocative_graph.specs.Owned.{direct}
+use Rattle.std.proofs.Common.{◌≡◌, ℕ, ◌+◌, Bool, true, false, Result, Ok, refl, sym, ap, subst, ◌∙◌, arith, Option, Some}
+use Rattle.std.proofs.Common.{◌<◌, ◌≤◌, ◌^◌, List, [], ◌∷◌, ◌++◌, length, get_or, take, drop}
 use Rattle.std.proofs.lemmas.List.{take-append-drop}
-use Rattle.allocative.proofs.Common.{Refusal, Key, Forest, Empty, followed_by, entry_of, add_all, Live, Kind, OfGraph}
-use Rattle.allocative.proofs.Common.{OfSum, State, plus, Showing, Nothing, Both, InsideAs, AddsForest, already, refused}
-use Rattle.allocative.proofs.Common.{hidden, forgotten, CanTake, HasRoomFor, FailsOnlyIfFull, each_shows, has_added}
-use Rattle.allocative.proofs.Common.{has_refused, Entered, Means}
-use Rattle.allocative_graph.specs.Forest.{own_behind, met_after}
-use Rattle.allocative_graph.specs.Collector.{Restore, plus_live, forest_bytes, figure_after, entries_at}
-use Rattle.allocative_graph.specs.declared.restore.Restore.TheVariants.{Held, Owned}
-use Rattle.allocative_graph.specs.Path.{Path}
+use Rattle.allocative_graph.specs.Owned.{direct}
+use Rattle.allocative_graph.specs.Sums.{bytes_entered}
 use Rattle.allocative_graph.specs.Visits.{added}
-use Rattle.allocative_graph.specs.Identity.{Identities}
 use Rattle.allocative.specs.Strict.{had_failed}
+use Rattle.allocative.proofs.Common.{Refusal, Key, Forest, Empty, followed_by, entry_of, Kind, OfGraph, OfSum, State, plus}
+use Rattle.allocative.proofs.Common.{Showing, Nothing, Both, InsideAs, AddsForest, already, refused, hidden, forgotten}
+use Rattle.allocative.proofs.Common.{CanTake, HasRoomFor, FailsOnlyIfFull, each_shows, has_added, has_refused, Entered}
+use Rattle.allocative.proofs.Common.{Means}
 use Rattle.allocative.proofs.Meaning.{entered_as, entered_none, means_same}
 use Rattle.allocative.proofs.Strict.{may_refuse, declared_first, declared_append, each_append, each_one}
+use Rattle.allocative.proofs.Strict.{bytes_entered-plus}
 use Rattle.allocative_tally.specs.Shapes.{IsPlain, Merged, Width, is_unique, Shape, NoEntry, Beside, EntryAt, forest_of}
 use Rattle.allocative_tally.specs.Shapes.{IsNothing, entry_counted, shape_shows, is_shape}
 use Rattle.allocative_tally.specs.Tallies.{Tallies, EntersShape, IsWithin}
 use Rattle.allocative_tally.specs.declared.tally.Sum.{Sum}
-use Rattle.allocative_tally.proofs.Merging.{plain_contents, plain_taken, plain_shows}
+use Rattle.allocative_tally.proofs.Merging.{plain_taken, plain_shows}
 
 -- ---- no collector tells the two apart
--- A forest without shared entries adds its own entries alone.
-own_added : (p : Path) (f : Forest) → IsPlain f → entries_at p f ≡ own_behind p f
-own_added p f h = rw (plain_contents f h) (append-nil (own_behind p f))
-
--- A forest without shared entries meets no identity.
-same_met : (s : Identities) (f : Forest) → IsPlain f → met_after s f ≡ s
-same_met s f h = rw (plain_contents f h) refl
-
--- A flame graph is the same after either forest.
-same_live : (c : Live) (f g : Forest) → Merged f g → plus_live c f ≡ plus_live c g
-same_live c f g m =
-    let sums = ap (add_all c.sums) (own_added c.here f m.plain) ∙ m.same_sums c.sums c.here
-    ∙ sym (ap (add_all c.sums) (own_added c.here g m.plain_merged)) in
-    let met = same_met c.met f m.plain ∙ sym (same_met c.met g m.plain_merged) in
-    λ i. record c { sums = sums i; met = met i }
-
--- Held and owned bytes are the same after either forest.
-same_bytes : (r : Restore) (f g : Forest) → Merged f g → forest_bytes r f ≡ forest_bytes r g
-same_bytes (Held is_in_unique) f g m = λ i. m.same_held i + cond is_in_unique (m.same_inline i) 0
-same_bytes (Owned spare) f g m = λ i. m.same_owned i - min spare (m.same_direct i)
-
--- Each collector is the same after either forest.
-same_plus : (c : Kind) (f g : Forest) → Merged f g → plus c f ≡ plus c g
-same_plus (OfGraph c) f g m = ap OfGraph (same_live c f g m)
-same_plus (OfSum s) f g m = λ i. OfSum (record s {
-  sum = s.sum + same_bytes s.figure f g m i;
-  figure = figure_after s.figure (m.same_direct i);
-})
+-- The bytes that a collector has counted.
+abbrev bytes_counted : Kind → ℕ
+bytes_counted (OfGraph c) = bytes_entered c.sums
+bytes_counted (OfSum s) = s.sum
 
 -- If a forest exceeds no bound of a collector, the merged one exceeds none.
 room_merged : (b : Kind) (f g : Forest) → Merged f g → HasRoomFor b f → HasRoomFor b g
-room_merged (OfGraph c) f g m h = omega (arith, m.same_bytes)
-room_merged (OfSum s) f g m h = (omega (arith, h.0, same_bytes s.figure f g m), m.fits s.open_visitors h.1)
+room_merged (OfGraph c) f g m h =
+    omega (arith, h, bytes_entered-plus c f, bytes_entered-plus c g, ap bytes_counted (m.same (OfGraph c)))
+room_merged (OfSum s) f g m h = (omega (arith, h.0, ap bytes_counted (m.same (OfSum s))), m.fits s.open_visitors h.1)
 
 -- ---- entering
 -- p allows a forest that the shape merges.
@@ -82,7 +55,7 @@ can_take {t = t} b w (d, room) = (
 
 -- A collector with what was counted is the collector with the forest that p allows.
 after : {p : Showing} {t : Shape} (b : Kind) (h : Forest) → (w : Counts p t) → shape_shows t h → plus b h ≡ plus b w.one
-after {t = t} b h w x = ap (plus b) (shown_alone x) ∙ sym (same_plus b w.one (forest_of t) w.merged)
+after {t = t} b h w x = ap (plus b) (shown_alone x) ∙ sym (w.merged.same b)
 
 -- What was shown as the shape was shown as p.
 shows_counted : {p : Showing} {t : Shape} {a b : State} {r : Result Unit Refusal} → Counts p t →

@@ -1,5 +1,7 @@
 -- How values of structs and enums are counted, by their fields.
 use Rattle.std.proofs.Common.{◌≡◌, ◌≤◌, ◌<◌, ◌+◌, ◌*◌, mul-add, ℕ, Option, Some, None, refl, sym, ap, subst, arith, ◌∙◌}
+use Rattle.std.proofs.Common.{Result, IfOk}
+use Rattle.std.proofs.lemmas.Result.{MatchResult-weaker}
 use Rattle.allocative_graph.specs.Owned.{direct}
 use Rattle.allocative.proofs.Common.{Key, Forest, Showing, Nothing, Both, Inside, Field}
 use Rattle.allocative_tally.specs.Shapes.{Shape, NoEntry, Beside, IsNothing, bytes_times, entries, sum_of, sum_times}
@@ -9,6 +11,11 @@ use Rattle.allocative_tally.proofs.Counting.{counted_leaf, counted_field, counte
 use Rattle.allocative_tally.proofs.Counting.{tallies_as}
 use Rattle.allocative_tally.proofs.Sizes.{HoldsBound, holds_up, holds_both, holds_first, holds_second, holds_first_of}
 use Rattle.allocative_tally.proofs.Sizes.{holds_second_of, holds_itself, holds_bytes, holds_nothing, holds_grouped}
+
+-- ---- results
+-- What follows from what holds of a value that was returned holds of it.
+pub if_ok : {X Y : Type 0} (r : Result X Y) {P Q : X → Type 0} → IfOk r P → ((x : X) → P x → Q x) → IfOk r Q
+if_ok r h up = MatchResult-weaker r h up (λ _ _. tt)
 
 -- ---- sums
 -- Entries have more bytes.
@@ -114,19 +121,16 @@ pub next_as : {w : Option ℕ} {p q : Showing} {s t : ℕ → Shape} → ((f : F
     TalliesNext w q s t
 next_as up a = record { declared = a.declared; next = λ n. tallies_as up (a.next n) }
 
--- A value that may show an entry with nothing inside it is that entry.
-pub next_leaf : {size : Option ℕ} {k : Key} {p : Showing} → ((f : Forest) → Field k size Nothing f → p f) →
-    IsDeclared size → TalliesNext size p (λ n. entries k size n NoEntry) (λ n. entries k size n NoEntry)
-next_leaf {size} up d = record {
-  declared = d;
-  next = λ n. tallies_as up (whole_counted n (n + 1) d.sized refl nothing_counted (holds_nothing size));
-}
-
 -- ---- cases
 -- A value is its own entry, with what its case shows inside it, whatever the number of the values.
 pub next_case : {size w : Option ℕ} {k : Key} {p : Showing} {s t : Shape} → IsDeclared size → Tallies w p s t →
     HoldsBound size w → TalliesNext size (Field k size p) (λ n. entries k size n s) (λ n. entries k size n t)
 next_case d inside holds = next_whole d (record { next = λ n. inside }) holds
+
+-- A value that may show an entry with nothing inside it is that entry.
+pub next_leaf : {size : Option ℕ} {k : Key} {p : Showing} → ((f : Forest) → Field k size Nothing f → p f) →
+    IsDeclared size → TalliesNext size p (λ n. entries k size n NoEntry) (λ n. entries k size n NoEntry)
+next_leaf {size} up d = next_as up (next_case d nothing_counted (holds_nothing size))
 
 -- A case of several fields is its entry, with the fields inside it.
 pub case_counted : {v w : Option ℕ} {k : Key} {p : Showing} {n m : ℕ} {s t : ℕ → Shape} → IsDeclared v → m ≡ n + 1 →

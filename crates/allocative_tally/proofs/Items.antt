@@ -16,10 +16,10 @@ use Rattle.allocative.proofs.Common.{Key, Forest, Showing, Both, Inside, InsideA
 use Rattle.allocative.proofs.Common.{table_shows, Refusal, Entered, Empty}
 use Rattle.allocative.specs.declared.visitor.Visitor.{Visitor}
 use Rattle.allocative_tally.specs.Shapes.{Shape, Unique, Wide, NoEntry, Beside, EntryAt, forest_of, entries, sum_of}
-use Rattle.allocative_tally.specs.Shapes.{sum_times, bytes_times, top_bytes, pairs_shape, data_shape, buffer_shape}
+use Rattle.allocative_tally.specs.Shapes.{sum_times, bytes_times, top_bytes, pairs_shape, buffer_shape, Narrow}
 use Rattle.allocative_tally.specs.Shapes.{table_shape, shape_shows, IsNothing}
 use Rattle.allocative_tally.specs.Tallies.{Tallies, TalliesNext, TalliesMany, TalliesEach, FitsWord, IsDeclared}
-use Rattle.allocative_tally.specs.Tallies.{IsWithin, both_bounds, size_times, AddsPlaces, CountsData, TalliesFields}
+use Rattle.allocative_tally.specs.Tallies.{IsWithin, both_bounds, size_times, AddsPlaces, TalliesFields}
 use Rattle.allocative_tally.specs.Tallies.{HoldsOfRun, EntersShape}
 use Rattle.allocative_tally.specs.declared.places.Places.{Places}
 use Rattle.allocative_tally.proofs.Counting.{counted_field, counted_inline, counted_narrow, counted_unique}
@@ -31,7 +31,7 @@ use Rattle.allocative_tally.proofs.Fields.{adds_of, one_more, next_case, tallies
 use Rattle.allocative_tally.proofs.Fields.{next_value, next_field, next_both}
 use Rattle.allocative_tally.proofs.Entering.{entered_counted, counts}
 use Rattle.allocative_tally.proofs.Buffers.{next_container, places_fit, pointer_counted, places_counted, times_counted}
-use Rattle.allocative_tally.proofs.Buffers.{most_direct}
+use Rattle.allocative_tally.proofs.Buffers.{most_direct, times_is}
 use Rattle.std.proofs.lemmas.Iterator.{YieldsList, items_from_drains}
 
 -- ---- one by one
@@ -41,14 +41,14 @@ times_more None n m e = refl
 times_more (Some s) n m e = ap Some (omega (arith, mul-suc s n, ap (λ (i : ℕ). s * i) e))
 
 -- No value more was counted.
-many_none : {w : Option ℕ} {p : Showing} {s : ℕ → Shape} → p Empty → TalliesMany w 0 p s s
+pub many_none : {w : Option ℕ} {p : Showing} {s : ℕ → Shape} → p Empty → TalliesMany w 0 p s s
 many_none {w} {p} {s} x = record {
   next = λ n m e. let same : n ≡ m = omega (arith, e) in
       subst (λ (k : ℕ). Tallies (size_times w 0) p (s n) (s k)) same (tallies_none x);
 }
 
 -- One more item was counted.
-many_more : {T : Type 0} {w : Option ℕ} (p : T → Showing) (xs : List T) (x : T) {s t u : ℕ → Shape} →
+pub many_more : {T : Type 0} {w : Option ℕ} (p : T → Showing) (xs : List T) (x : T) {s t u : ℕ → Shape} →
     TalliesMany w (length xs) (each_shows p xs) s t → TalliesFields w (p x) t u →
     TalliesMany w (length (xs ++ x ∷ [])) (each_shows p (xs ++ x ∷ [])) s u
 many_more {w = w} p xs x {s} {t} {u} a b = record {
@@ -73,25 +73,16 @@ each_more {w = w} p xs x a b = record {
   fields = λ k. many_more (field_of k w p) xs x (a.fields k) (next_field b);
 }
 
--- No pair was counted.
-pub pairs_none : {K V : Type 0} (v w : Option ℕ) (p : K → Showing) (q : V → Showing) {s : ℕ → Shape} →
-    TalliesMany (both_bounds v w) 0 (each_shows (pair_shows v p w q) []) s s
-pairs_none v w p q = many_none refl
-
--- One more pair was counted.
-pub pairs_more : {K V : Type 0} (v w : Option ℕ) (p : K → Showing) (q : V → Showing) (es : List (K × V)) (e : K × V)
-    {r : ℕ → Shape} {s s' t t' : ℕ → Shape} →
-    TalliesMany (both_bounds v w) (length es) (each_shows (pair_shows v p w q) es) r (pairs_shape v w s t) →
-    TalliesNext v (p e.0) s s' → TalliesNext w (q e.1) t t' →
-    TalliesMany (both_bounds v w) (length (es ++ e ∷ [])) (each_shows (pair_shows v p w q) (es ++ e ∷ [])) r
-    (pairs_shape v w s' t')
-pairs_more v w p q es e a key value = many_more (pair_shows v p w q) es e a (next_both (next_field key) (next_field value))
-
 -- What holds of the items of a run holds of those that every run gives.
 pub of_run : {S A B : Type 0} {steps : S → Option A → S → Type 0} {s : S} {v : A → B} {r : List B → Type 0}
     {all : List B} → YieldsList steps v s all → HoldsOfRun steps s v r → r all
 of_run {r = r} y o =
     let d = o.drained in subst r (items_from_drains o.given (d.1.0, d.1.1, λ _. (d.0, d.1.2)) y) o.holds
+
+-- What holds of the items of a run holds if it follows from what does.
+pub run_as : {S A B : Type 0} {steps : S → Option A → S → Type 0} {s : S} {v : A → B} {q r : List B → Type 0} →
+    HoldsOfRun steps s v q → ((xs : List B) → q xs → r xs) → HoldsOfRun steps s v r
+run_as o up = record { given = o.given; drained = o.drained; holds = up _ o.holds }
 
 -- ---- arrays
 -- A size that has room for n items has room for at most n items.
@@ -124,10 +115,10 @@ pub box_counted : {size : Option ℕ} {old new : Places} {p : Showing} {s t : �
     (EntryAt Unique (codes "ptr") (sum_times (Some 8) old.buffers) (s old.items))
     (EntryAt Unique (codes "ptr") (sum_times (Some 8) new.buffers) (t new.items))
 box_counted {size} {old} {new} {p} {s} {t} a most value =
-    let one : Tallies (Some (a.bytes * 1)) p (s old.items) (t new.items) =
-    subst (λ (w : Option ℕ). Tallies w p (s old.items) (t new.items)) (a.sized ∙ ap Some (omega arith))
+    let one : Tallies (Some (a.room.bytes * 1)) p (s old.items) (t new.items) =
+    subst (λ (w : Option ℕ). Tallies w p (s old.items) (t new.items)) (a.room.sized ∙ ap Some (omega arith))
     (subst (λ (i : ℕ). Tallies size p (s old.items) (t i)) (sym a.items) (value.next old.items)) in
-    pointer_counted (codes "ptr") a (most_direct old.items (s old.items) a.sized (most old.items)) one
+    pointer_counted (codes "ptr") a (most_direct old.items (s old.items) a.room.sized (most old.items)) one
 
 -- ---- small vectors
 -- The size of a small vector with n places.
@@ -160,54 +151,36 @@ pub spilled_counted : {T : Type 0} {w : Option ℕ} {k : Key} {p : T → Showing
 spilled_counted {w = w} n align xs {old} {new} {s} {l = l} is declared count adds each =
     let a : AddsPlaces w (length xs.items) 0 old new = rw count at adds in
     next_case declared (tallies_as (λ h x. is_spilled is x) (second_counted (pointer_counted (codes "ptr") a
-    (most_direct old.items (entries (codes "data") w old.items (s old.items)) a.sized (le_refl _))
-    (times_counted (length xs.items) a.sized ((each.fields (codes "data")).next old.items new.items a.items)))))
+    (most_direct old.items (entries (codes "data") w old.items (s old.items)) a.room.sized (le_refl _))
+    (times_counted (length xs.items) a.room.sized ((each.fields (codes "data")).next old.items new.items a.items)))))
     (holds_up _ align (holds_second (Some 8) _ (holds_first_of (Some 16) (size_product (Some n) w)
     (holds_bytes (omega arith)))))
 
 -- ---- the bytes of pairs
 -- A field has its declared size.
-field_direct : (k : Key) (n : ℕ) (p : Showing) (f : Forest) → Field k (Some n) p f → direct f ≡ n
-field_direct k n p f (sized (g, x, e)) = ap direct e ∙ omega arith
+pub field_direct : (k : Key) (w : Option ℕ) (n : ℕ) (p : Showing) (f : Forest) → w ≡ Some n → Field k w p f → direct f ≡ n
+field_direct k None n p f e x = cc
+field_direct k (Some m) n p f e (sized (g, x, i)) = let same : m ≡ n = cc in omega (arith, ap direct i, same)
 
--- Pairs have the bytes of both sizes each.
-pairs_direct : {K V : Type 0} (m n : ℕ) (p : K → Showing) (q : V → Showing) (es : List (K × V)) (f : Forest) →
-    each_shows (pair_shows (Some m) p (Some n) q) es f → direct f ≡ (m + n) * length es
-pairs_direct m n p q [] f e = ap direct e ∙ omega arith
-pairs_direct m n p q (e ∷ es) f (g, h, (a, b, x, y, i), z, j) =
-    let both = ap direct i ∙ direct-following a b in
-    let all = ap direct j ∙ direct-following g h in
-    omega (
-      arith,
-      both,
-      all,
-      field_direct (codes "key") m (p e.0) a x,
-      field_direct (codes "value") n (q e.1) b y,
-      pairs_direct m n p q es h z,
-    )
+-- A pair has the bytes of both sizes.
+pub pair_direct : {K V : Type 0} (v w : Option ℕ) (n : ℕ) (p : K → Showing) (q : V → Showing) (e : K × V) (f : Forest) →
+    size_sum v w ≡ Some n → pair_shows v p w q e f → direct f ≡ n
+pair_direct None w n p q e f s x = cc
+pair_direct (Some m) None n p q e f s x = cc
+pair_direct (Some m) (Some k) n p q e f s (a, b, x, y, i) = omega (
+  arith,
+  ap direct i ∙ direct-following a b,
+  field_direct (codes "key") (Some m) m (p e.0) a refl x,
+  field_direct (codes "value") (Some k) k (q e.1) b refl y,
+  checked_is (m + k) n s,
+)
 
--- The same, of a size of pairs.
-pub sized_direct : {K V : Type 0} (v w : Option ℕ) (n : ℕ) (p : K → Showing) (q : V → Showing) (es : List (K × V))
-    (f : Forest) → size_sum v w ≡ Some n → each_shows (pair_shows v p w q) es f → direct f ≡ n * length es
-sized_direct None w n p q es f e x = cc
-sized_direct (Some m) None n p q es f e x = cc
-sized_direct (Some m) (Some k) n p q es f e x =
-    pairs_direct m k p q es f x ∙ ap (λ s. s * length es) (checked_is (m + k) n e)
-
--- Keys have the bytes of their size each.
-pub keys_direct : {K : Type 0} (w : Option ℕ) (n : ℕ) (k : Key) (p : K → Showing) (xs : List K) (f : Forest) →
-    w ≡ Some n → each_shows (field_of k w p) xs f → direct f ≡ n * length xs
-keys_direct None n k p xs f e x = cc
-keys_direct (Some m) n k p [] f e x = ap direct x ∙ omega arith
-keys_direct (Some m) n k p (y ∷ ys) f e (g, h, x, z, j) =
-    let same : m ≡ n = cc in
-    omega (
-      arith,
-      ap direct j ∙ direct-following g h,
-      field_direct k m (p y) g x,
-      same,
-      keys_direct (Some m) n k p ys h e z,
-    )
+-- Items of so many bytes each have the bytes of all.
+pub each_direct : {T : Type 0} (p : T → Showing) (z : ℕ) → ((x : T) (f : Forest) → p x f → direct f ≡ z) → (xs : List T)
+    (f : Forest) → each_shows p xs f → direct f ≡ z * length xs
+each_direct p z one [] f e = ap direct e ∙ omega arith
+each_direct p z one (y ∷ ys) f (g, h, x, l, i) =
+    omega (arith, ap direct i ∙ direct-following g h, one y g x, each_direct p z one ys h l)
 
 -- A size that has room for a bound has room for so many times the bound.
 pub items_within : {size w : Option ℕ} {z : ℕ} (l : ℕ) {p : Showing} {s t : Shape} → HoldsBound size w → size ≡ Some z →
@@ -239,48 +212,38 @@ pairs_most {size} v w {z} i s t holds e =
 
 -- ---- the entry `data`
 -- What is shown inside an entry of 8 bytes can be shown otherwise.
-inside_as : (k : Key) {p q : Showing} → ((f : Forest) → p f → q f) → (h : Forest) → Inside k 8 p h → Inside k 8 q h
-inside_as k up h (f, x, e) = (f, up f x, e)
+pub inside_as : {k : Key} {p q : Showing} → ((f : Forest) → p f → q f) → (h : Forest) → Inside k 8 p h → Inside k 8 q h
+inside_as up h (f, x, e) = (f, up f x, e)
 
--- Items that have at most 8 bytes were counted.
-pub small_counted : {found size w : Option ℕ} {m l : ℕ} {is : Bool} (n b : ℕ) {k : Key} {q u : Showing}
-    {old new other other' : Places} {s t : ℕ → Shape} {r : Shape} → 8 ≤ n → n < 2 ^ 64 → ((f : Forest) → q f → u f) →
-    HoldsBound size w → found ≡ size → CountsData found m old new other other' is → is ≡ true → m ≡ l →
-    TalliesMany w l q s t → TalliesNext (Some n) (Field k (Some n) (Inside (codes "data") 8 u))
-    (λ i. entries k (Some n) i (data_shape old.buffers (s old.items) b r))
-    (λ i. entries k (Some n) i (data_shape new.buffers (t new.items) b r))
-small_counted {l = l} n b {old = old} {new} room bound up holds e counted is same items =
-    let a = (counted.if_small is).1 in
-    let more : new.items ≡ old.items + l = omega (arith, a.items, same) in
-    let least : counted.item * l ≤ 8 =
-    omega (arith, (counted.if_small is).0, ap (λ (i : ℕ). counted.item * i) same) in
-    next_container n room bound (first_counted (tallies_as (inside_as (codes "data") up)
-    (counted_inline (one_more (Some 8) old.buffers new.buffers refl a.buffers)
-    (items_within l holds (sym e ∙ counted.sized) (items.next old.items new.items more)) (holds_bytes least))))
+-- An entry `data` of items that have at most 8 bytes was counted.
+pub small_counted : {found size w : Option ℕ} {m l : ℕ} {q : Showing} {old new : Places} {s t : ℕ → Shape} {r : Shape} →
+    HoldsBound size w → found ≡ size → bytes_times found m ≤ 8 → AddsPlaces found m 0 old new → m ≡ l →
+    TalliesMany w l q s t → Tallies (Some 8) (Inside (codes "data") 8 q)
+    (Beside (EntryAt Wide (codes "data") (sum_times (Some 8) old.buffers) (s old.items)) r)
+    (Beside (EntryAt Wide (codes "data") (sum_times (Some 8) new.buffers) (t new.items)) r)
+small_counted {found} {m = m} {l} {old = old} {new} holds e least a same items =
+    let z = a.room.bytes in
+    let bytes = times_is found m a.room.sized (omega (arith, places_fit a)) in
+    first_counted (counted_inline (one_more (Some 8) old.buffers new.buffers refl a.buffers)
+    (items_within l holds (sym e ∙ a.room.sized) (items.next old.items new.items (omega (arith, a.items, same))))
+    (holds_bytes (omega (arith, least, bytes, ap (λ (i : ℕ). z * i) same))))
 
--- Items that have at least 8 bytes were counted.
-pub large_counted : {found size w : Option ℕ} {m l : ℕ} {is : Bool} (n b : ℕ) {k : Key} {q u : Showing}
-    {old new other other' : Places} {s t : ℕ → Shape} {r : Shape} → 8 ≤ n → n < 2 ^ 64 → ((f : Forest) → q f → u f) →
-    HoldsBound size w → found ≡ size → CountsData found m other other' old new is → is ≡ false → m ≡ l →
+-- An entry `data` of items that have more than 8 bytes was counted.
+pub large_counted : {found size w : Option ℕ} {m l : ℕ} {q : Showing} {old new : Places} {s t : ℕ → Shape} {r : Shape} →
+    HoldsBound size w → found ≡ size → 8 < bytes_times found m → AddsPlaces found m 0 old new → m ≡ l →
     TalliesMany w l q s t → ((z i : ℕ) → size ≡ Some z → direct (forest_of (s i)) ≤ z * i) →
-    ((z : ℕ) (f : Forest) → size ≡ Some z → q f → direct f ≡ z * l) →
-    TalliesNext (Some n) (Field k (Some n) (Inside (codes "data") 8 u))
-    (λ i. entries k (Some n) i (data_shape b r old.buffers (s old.items)))
-    (λ i. entries k (Some n) i (data_shape b r new.buffers (t new.items)))
-large_counted {m = m} {l} n b {old = old} {new} room bound up holds e counted is same items most bytes =
-    let a = (counted.if_large is).1 in
-    let more : new.items ≡ old.items + l = omega (arith, a.items, same) in
-    let z = a.bytes in
-    let is_size = sym e ∙ a.sized in
-    let all = items_within l holds is_size (items.next old.items new.items more) in
-    let before = most z old.items is_size in
-    let item : counted.item ≡ z = let i = sym counted.sized ∙ a.sized in cc in
-    let least : 8 ≤ z * l =
-    omega (arith, (counted.if_large is).0, ap (λ (i : ℕ). i * m) item, ap (λ (i : ℕ). z * i) same) in
-    next_container n room bound (second_counted (tallies_as (inside_as (codes "data") up)
-    (counted_narrow (one_more (Some 8) old.buffers new.buffers refl a.buffers) all
-    (λ r. omega (arith, before, all.within, places_fit a, ap (λ (i : ℕ). z * i) same))
-    (λ f x. omega (arith, least, bytes z f is_size x)))))
+    ((z : ℕ) (f : Forest) → size ≡ Some z → q f → direct f ≡ z * l) → Tallies (Some 8) (Inside (codes "data") 8 q)
+    (Beside r (EntryAt Narrow (codes "data") (sum_times (Some 8) old.buffers) (s old.items)))
+    (Beside r (EntryAt Narrow (codes "data") (sum_times (Some 8) new.buffers) (t new.items)))
+large_counted {found} {m = m} {l} {old = old} {new} holds e least a same items most direct_is =
+    let z = a.room.bytes in
+    let is_size = sym e ∙ a.room.sized in
+    let all = items_within l holds is_size (items.next old.items new.items (omega (arith, a.items, same))) in
+    let bytes = times_is found m a.room.sized (omega (arith, places_fit a)) in
+    let same_bytes = ap (λ (i : ℕ). z * i) same in
+    second_counted (counted_narrow (one_more (Some 8) old.buffers new.buffers refl a.buffers) all
+    (λ r. omega (arith, most z old.items is_size, all.within, places_fit a, same_bytes))
+    (λ f x. omega (arith, least, bytes, same_bytes, direct_is z f is_size x)))
 
 -- The pairs in their own order are the pairs in some order.
 pub own_order : {T : Type 0} (p : T → Showing) (xs : List T) (f : Forest) → each_shows p xs f → in_any_order p xs f
@@ -314,8 +277,8 @@ pub index_counted : {found size w : Option ℕ} {m l u places n : ℕ} {k : Key}
 index_counted {size = size} {l = l} {places = places} {old = old} {new} holds e same unused count adds items most table =
     let a : AddsPlaces size l places old new = rw (e, same, unused) at adds in
     next_container 72 (omega arith) (omega arith) (tallies_both (tallies_as (λ h x. is_index_data x)
-    (places_counted (codes "data") a (most a.bytes old.items a.sized)
-    (items_within l holds a.sized (items.next old.items new.items a.items)))) (rw count at table))
+    (places_counted (codes "data") a (most a.room.bytes old.items a.room.sized)
+    (items_within l holds a.room.sized (items.next old.items new.items a.items)))) (rw count at table))
 
 -- ---- what is entered
 -- Items that were counted from nothing, and entered, were entered as each of them shows.

@@ -1,22 +1,25 @@
 -- Forests without shared entries, and how merged forests compose.
 use Rattle.std.proofs.Common.{◌≡◌, ℕ, suc, ◌+◌, ◌-◌, ◌<◌, ◌^◌, Bool, true, false, cond, List, [], ◌∷◌, ◌++◌, refl, sym}
 use Rattle.std.proofs.Common.{ap, subst, ◌∙◌, arith, append-nil}
-use Rattle.allocative.proofs.Common.{Key, Forest, Empty, First, Again, followed_by, entry_of, add_all, held, all_bytes}
-use Rattle.allocative.proofs.Common.{ShowsContents, Kind, OfGraph, OfSum, Takes}
 use Rattle.std.proofs.lemmas.List.Sums.{fold-append, sum_by-append}
 use Rattle.allocative_graph.specs.Path.{Path}
 use Rattle.allocative_graph.specs.Forest.{Inline, Unique, Entry, Bag, Mark, AsInline, AsUnique, own_behind, contents}
 use Rattle.allocative_graph.specs.Forest.{Fits, met_after}
+use Rattle.allocative_graph.specs.Identity.{Identities}
 use Rattle.allocative_graph.specs.Sums.{Sums, add}
-use Rattle.allocative_graph.specs.Owned.{inline_bytes, direct}
+use Rattle.allocative_graph.specs.Owned.{direct}
+use Rattle.allocative_graph.specs.Collector.{Restore, forest_bytes, figure_after, entries_at}
+use Rattle.allocative_graph.specs.declared.restore.Restore.TheVariants.{Held, Owned}
 use Rattle.allocative_graph.proofs.Basics.{same_path_itself}
 use Rattle.allocative_graph.proofs.Sums.{add_all-same, get-add, same_sums}
 use Rattle.allocative_graph.proofs.Showings.{own-following}
 use Rattle.allocative_graph.proofs.Owned.{direct-following, owned-following}
+use Rattle.allocative_graph.proofs.Plus.{plus-following, forest_bytes-following, inside_entry}
 use Rattle.allocative.specs.Strict.{FitsWords}
+use Rattle.allocative.proofs.Common.{Key, Forest, Empty, First, Again, followed_by, entry_of, add_all, ShowsContents}
+use Rattle.allocative.proofs.Common.{Kind, OfGraph, OfSum, Takes, plus, enter, leave, outer_of}
 use Rattle.allocative.proofs.Strict.{followed_by_assoc}
 use Rattle.allocative_tally.specs.Shapes.{IsPlain, Merged}
-use Rattle.allocative_graph.specs.Identity.{Identities}
 
 -- Two forests without shared entries have none one after another.
 pub plain_both : (f g : Forest) → IsPlain f → IsPlain g → IsPlain (followed_by f g)
@@ -76,61 +79,45 @@ plain_taken (OfSum s) f h = rw (plain_contents f h) tt
 -- ---- merged forests
 -- A forest with no shared entry merges itself.
 pub merged_same : (f : Forest) → IsPlain f → Merged f f
-merged_same f h = record {
-  plain = h;
-  plain_merged = h;
-  same_sums = λ s p. refl;
-  same_inline = refl;
-  same_held = refl;
-  same_direct = refl;
-  same_owned = refl;
-  same_bytes = refl;
-  fits = λ o w. w;
-}
+merged_same f h =
+    record { plain = h; plain_merged = h; same = λ b. refl; same_direct = refl; fits = λ o w. w }
 
 -- What merges a forest that merges another one merges that one too.
 pub merged_then : {f g h : Forest} → Merged f g → Merged g h → Merged f h
 merged_then m l = record {
   plain = m.plain;
   plain_merged = l.plain_merged;
-  same_sums = λ s p. m.same_sums s p ∙ l.same_sums s p;
-  same_inline = m.same_inline ∙ l.same_inline;
-  same_held = m.same_held ∙ l.same_held;
+  same = λ b. m.same b ∙ l.same b;
   same_direct = m.same_direct ∙ l.same_direct;
-  same_owned = m.same_owned ∙ l.same_owned;
-  same_bytes = m.same_bytes ∙ l.same_bytes;
   fits = λ o w. l.fits o (m.fits o w);
 }
+
+-- A forest without shared entries adds its own entries alone.
+own_added : (p : Path) (f : Forest) → IsPlain f → entries_at p f ≡ own_behind p f
+own_added p f h = rw (plain_contents f h) (append-nil (own_behind p f))
+
+-- A forest without shared entries meets no identity.
+same_met : (s : Identities) (f : Forest) → IsPlain f → met_after s f ≡ s
+same_met s f h = rw (plain_contents f h) refl
+
+-- Each collector is the same after two forests without shared entries that add the same to all sums at each place, and
+-- the same bytes to each sum.
+same_plus : (f g : Forest) → IsPlain f → IsPlain g →
+    ((s : Sums) (p : Path) → add_all s (own_behind p f) ≡ add_all s (own_behind p g)) →
+    ((r : Restore) → forest_bytes r f ≡ forest_bytes r g) → direct f ≡ direct g → (b : Kind) → plus b f ≡ plus b g
+same_plus f g x y sums bytes direct_is (OfGraph c) =
+    let own = ap (add_all c.sums) (own_added c.here f x) ∙ sums c.sums c.here
+    ∙ sym (ap (add_all c.sums) (own_added c.here g y)) in
+    let met = same_met c.met f x ∙ sym (same_met c.met g y) in
+    λ i. OfGraph (record c { sums = own i; met = met i })
+same_plus f g x y sums bytes direct_is (OfSum s) =
+    λ i. OfSum (record s { sum = s.sum + bytes s.figure i; figure = figure_after s.figure (direct_is i) })
 
 -- ---- one forest after another
 -- Adding two forests, one after another, adds the first and then the second.
 sums_both : (s : Sums) (p : Path) (f g : Forest) → add_all s (own_behind p (followed_by f g)) ≡ add_all (add_all s
     (own_behind p f)) (own_behind p g)
 sums_both s p f g = ap (add_all s) (own-following p f g) ∙ fold-append add s (own_behind p f) (own_behind p g)
-
--- The inline bytes of two forests, one after another, add up.
-inline_both : (f g : Forest) → inline_bytes (followed_by f g) ≡ inline_bytes f + inline_bytes g
-inline_both Empty g = omega arith
-inline_both (Inline k n f after) g = omega (arith, inline_both after g)
-inline_both (Unique k n f after) g = inline_both after g
-inline_both (First k n j f after) g = inline_both after g
-inline_both (Again k n j after) g = inline_both after g
-
--- The held bytes of two forests, one after another, add up.
-held_both : (f g : Forest) → held (followed_by f g) ≡ held f + held g
-held_both Empty g = omega arith
-held_both (Inline k n f after) g = omega (arith, held_both after g)
-held_both (Unique k n f after) g = omega (arith, held_both after g)
-held_both (First k n j f after) g = held_both after g
-held_both (Again k n j after) g = held_both after g
-
--- All bytes of two forests, one after another, add up.
-bytes_both : (f g : Forest) → all_bytes (followed_by f g) ≡ all_bytes f + all_bytes g
-bytes_both Empty g = omega arith
-bytes_both (Inline k n f after) g = omega (arith, bytes_both after g)
-bytes_both (Unique k n f after) g = omega (arith, bytes_both after g)
-bytes_both (First k n j f after) g = omega (arith, bytes_both after g)
-bytes_both (Again k n j after) g = omega (arith, bytes_both after g)
 
 -- If two forests together exceed no word, neither does.
 words_apart : (o : ℕ) (f g : Forest) → FitsWords o (followed_by f g) → FitsWords o f × FitsWords o g
@@ -153,13 +140,8 @@ pub merged_both : {f g h k : Forest} → Merged f g → Merged h k → Merged (f
 merged_both {f} {g} {h} {k} m l = record {
   plain = plain_both f h m.plain l.plain;
   plain_merged = plain_both g k m.plain_merged l.plain_merged;
-  same_sums = λ s p. sums_both s p f h ∙ ap (λ t. add_all t (own_behind p h)) (m.same_sums s p) ∙ l.same_sums _ p
-      ∙ sym (sums_both s p g k);
-  same_inline = omega (arith, inline_both f h, inline_both g k, m.same_inline, l.same_inline);
-  same_held = omega (arith, held_both f h, held_both g k, m.same_held, l.same_held);
+  same = λ b. plus-following b f h ∙ ap (λ c. plus c h) (m.same b) ∙ l.same (plus b g) ∙ sym (plus-following b g k);
   same_direct = omega (arith, direct-following f h, direct-following g k, m.same_direct, l.same_direct);
-  same_owned = omega (arith, owned-following f h, owned-following g k, m.same_owned, l.same_owned);
-  same_bytes = omega (arith, bytes_both f h, bytes_both g k, m.same_bytes, l.same_bytes);
   fits = λ o w. let r = words_apart o f h w in words_both o g k (m.fits o r.0) (l.fits o r.1);
 }
 
@@ -171,20 +153,28 @@ swapped a b = (s : Sums) → add_all s (a ++ b) ≡ add_all s (b ++ a)
 swaps : (a b : Bag) → swapped a b
 swaps a b s = add_all-same s (a ++ b) (b ++ a) (λ w. simp sum_by-append (omega arith))
 
+-- Two forests add the same bytes to a sum in either order.
+bytes_swapped : (f g : Forest) (r : Restore) → forest_bytes r (followed_by f g) ≡ forest_bytes r (followed_by g f)
+bytes_swapped f g (Held u) = omega (arith, forest_bytes-following (Held u) f g, forest_bytes-following (Held u) g f)
+bytes_swapped f g (Owned spare) =
+    grind (arith, owned-following f g, owned-following g f, direct-following f g, direct-following g f)
+
 -- Two forests merge each other in the other order.
 pub merged_swapped : (f g : Forest) → IsPlain f → IsPlain g → Merged (followed_by f g) (followed_by g f)
-merged_swapped f g h l = record {
-  plain = plain_both f g h l;
-  plain_merged = plain_both g f l h;
-  same_sums = λ s p. ap (add_all s) (own-following p f g) ∙ swaps (own_behind p f) (own_behind p g) s
-      ∙ sym (ap (add_all s) (own-following p g f));
-  same_inline = omega (arith, inline_both f g, inline_both g f);
-  same_held = omega (arith, held_both f g, held_both g f);
-  same_direct = omega (arith, direct-following f g, direct-following g f);
-  same_owned = omega (arith, owned-following f g, owned-following g f);
-  same_bytes = omega (arith, bytes_both f g, bytes_both g f);
-  fits = λ o w. let r = words_apart o f g w in words_both o g f r.1 r.0;
-}
+merged_swapped f g h l =
+    let x = plain_both f g h l in
+    let y = plain_both g f l h in
+    let top : direct (followed_by f g) ≡ direct (followed_by g f) =
+    omega (arith, direct-following f g, direct-following g f) in
+    record {
+      plain = x;
+      plain_merged = y;
+      same = same_plus _ _ x y (λ s p. ap (add_all s) (own-following p f g)
+          ∙ swaps (own_behind p f) (own_behind p g) s ∙ sym (ap (add_all s) (own-following p g f)))
+          (bytes_swapped f g) top;
+      same_direct = top;
+      fits = λ o w. let r = words_apart o f g w in words_both o g f r.1 r.0;
+    }
 
 -- Two forests after two others, each beside its own.
 pub merged_crossed : (f g h k : Forest) → IsPlain f → IsPlain g → IsPlain h → IsPlain k →
@@ -242,57 +232,56 @@ sums_entry u k n m f g s p =
     ∙ sym (sums_both (add s (entry_at u p k (n + m))) q f g)
     ∙ sym (ap (add_all s) (own_entry u p k (n + m) (followed_by f g)))
 
+-- They add the same bytes to a sum.
+bytes_entry : (u : Bool) (k : Key) (n m : ℕ) (f g : Forest) → KeepsOwned u n m f g → (r : Restore) →
+    forest_bytes r (followed_by (entry_of u k n f) (entry_of u k m g))
+    ≡ forest_bytes r (entry_of u k (n + m) (followed_by f g))
+bytes_entry true k n m f g keeps (Held v) = grind (arith, forest_bytes-following (Held true) f g)
+bytes_entry false k n m f g keeps (Held v) = grind (arith, forest_bytes-following (Held false) f g)
+bytes_entry true k n m f g keeps (Owned spare) = grind (arith, owned-following f g)
+bytes_entry false k n m f g keeps (Owned spare) =
+    grind (arith, owned-following f g, direct-following f g, keeps refl)
+
+-- An entry has its own bytes at its top.
+pub direct_entry : (u : Bool) (k : Key) (n : ℕ) (f : Forest) → direct (entry_of u k n f) ≡ n
+direct_entry true k n f = omega arith
+direct_entry false k n f = omega arith
+
 -- Two entries of one key and mark are one entry of the bytes of both, with both insides.
 pub merged_entry : (u : Bool) (k : Key) (n m : ℕ) (f g : Forest) → IsPlain f → IsPlain g → n + m < 2 ^ 64 →
     KeepsOwned u n m f g → Merged (followed_by (entry_of u k n f) (entry_of u k m g)) (entry_of u k (n + m)
     (followed_by f g))
-merged_entry true k n m f g x y room keeps = record {
-  plain = (x, (y, tt));
-  plain_merged = (plain_both f g x y, tt);
-  same_sums = sums_entry true k n m f g;
-  same_inline = refl;
-  same_held = omega (arith, inline_both f g, held_both f g);
-  same_direct = omega arith;
-  same_owned = omega (arith, owned-following f g);
-  same_bytes = omega (arith, bytes_both f g);
-  fits = λ o w. (room, w.1, words_both (suc o) f g w.2 w.3.2, tt);
-}
-merged_entry false k n m f g x y room keeps = record {
-  plain = (x, (y, tt));
-  plain_merged = (plain_both f g x y, tt);
-  same_sums = sums_entry false k n m f g;
-  same_inline = omega arith;
-  same_held = omega (arith, held_both f g);
-  same_direct = omega arith;
-  same_owned = omega (arith, owned-following f g, direct-following f g, keeps refl);
-  same_bytes = omega (arith, bytes_both f g);
-  fits = λ o w. (room, w.1, words_both (suc o) f g w.2 w.3.2, tt);
-}
+merged_entry u k n m f g x y room keeps =
+    let first = entry_of u k n f in
+    let second = entry_of u k m g in
+    let plain = plain_both first second (plain_entry u k n f x) (plain_entry u k m g y) in
+    let plain_one = plain_entry u k (n + m) (followed_by f g) (plain_both f g x y) in
+    let top : direct (followed_by first second) ≡ direct (entry_of u k (n + m) (followed_by f g)) =
+    omega (arith, direct-following first second, direct_entry) in
+    record {
+      plain = plain;
+      plain_merged = plain_one;
+      same = same_plus _ _ plain plain_one (sums_entry u k n m f g) (bytes_entry u k n m f g keeps) top;
+      same_direct = top;
+      fits = by_kind u;
+    }
+  where
+    by_kind : (u : Bool) (o : ℕ) → FitsWords o (followed_by (entry_of u k n f) (entry_of u k m g)) →
+        FitsWords o (entry_of u k (n + m) (followed_by f g))
+    by_kind true o w = (room, w.1, words_both (suc o) f g w.2 w.3.2, tt)
+    by_kind false o w = (room, w.1, words_both (suc o) f g w.2 w.3.2, tt)
 
 -- The same entry with what merges its inside.
 pub merged_inside : (u : Bool) (k : Key) (n : ℕ) {f g : Forest} → Merged f g →
     Merged (entry_of u k n f) (entry_of u k n g)
-merged_inside true k n {f} {g} m = record {
-  plain = (m.plain, tt);
-  plain_merged = (m.plain_merged, tt);
-  same_sums = λ s p. ap (add_all s) (own_entry true p k n f) ∙ m.same_sums (add s (entry_at true p k n))
-      (p ++ k ∷ []) ∙ sym (ap (add_all s) (own_entry true p k n g));
-  same_inline = refl;
-  same_held = omega (arith, m.same_held, m.same_inline);
-  same_direct = refl;
-  same_owned = omega (arith, m.same_owned, m.same_direct);
-  same_bytes = omega (arith, m.same_bytes);
-  fits = λ o w. (w.0, w.1, m.fits (suc o) w.2, tt);
+merged_inside u k n {f} {g} m = record {
+  plain = plain_entry u k n f m.plain;
+  plain_merged = plain_entry u k n g m.plain_merged;
+  same = λ b. sym (inside_entry u k n b f) ∙ ap (leave (outer_of n b)) (m.same (enter u k n b)) ∙ inside_entry u k n b g;
+  same_direct = direct_entry u k n f ∙ sym (direct_entry u k n g);
+  fits = by_kind u;
 }
-merged_inside false k n {f} {g} m = record {
-  plain = (m.plain, tt);
-  plain_merged = (m.plain_merged, tt);
-  same_sums = λ s p. ap (add_all s) (own_entry false p k n f)
-      ∙ m.same_sums (add s (entry_at false p k n)) (p ++ k ∷ []) ∙ sym (ap (add_all s) (own_entry false p k n g));
-  same_inline = refl;
-  same_held = omega (arith, m.same_held, m.same_inline);
-  same_direct = refl;
-  same_owned = omega (arith, m.same_owned, m.same_direct);
-  same_bytes = omega (arith, m.same_bytes);
-  fits = λ o w. (w.0, w.1, m.fits (suc o) w.2, tt);
-}
+  where
+    by_kind : (u : Bool) (o : ℕ) → FitsWords o (entry_of u k n f) → FitsWords o (entry_of u k n g)
+    by_kind true o w = (w.0, w.1, m.fits (suc o) w.2, tt)
+    by_kind false o w = (w.0, w.1, m.fits (suc o) w.2, tt)

@@ -2,13 +2,14 @@
 -- mark as one entry.
 use Rattle.std.specs.Prelude.{◌≡◌, ◌≤◌, ◌*◌, ◌-◌, ◌^◌, ◌+◌, ◌==◌, min, not, ℕ, Bool, true, false, cond, ⊤, Option, None}
 use Rattle.std.specs.Prelude.{Some, codes}
-use Rattle.allocative_graph.specs.Path.{Key, Path}
-use Rattle.allocative_graph.specs.Forest.{Forest, Empty, Inline, First, Again, followed_by, entry_of, own_behind}
+use Rattle.allocative_graph.specs.Path.{Key}
+use Rattle.allocative_graph.specs.Forest.{Forest, Empty, Inline, First, Again, followed_by, entry_of}
 use Rattle.allocative_graph.specs.Forest.{Unique as unique_entry}
-use Rattle.allocative_graph.specs.Sums.{Sums, add_all}
-use Rattle.allocative_graph.specs.Owned.{held, inline_bytes, direct, owned}
-use Rattle.allocative.specs.Strict.{all_bytes, FitsWords}
+use Rattle.allocative_graph.specs.Owned.{direct}
+use Rattle.allocative_graph.specs.Collector.{Kind, plus}
+use Rattle.allocative.specs.Strict.{FitsWords}
 use Rattle.allocative_tally.specs.declared.tally.Sum.{Sum}
+use Rattle.allocative_tally.specs.declared.map.DataTally.{DataTally}
 
 -- No entry is shared.
 abbrev pub IsPlain : Forest → Type 0
@@ -18,17 +19,13 @@ IsPlain (unique_entry k n inside after) = IsPlain inside × IsPlain after
 IsPlain (First k n i inside after) = ⊥
 IsPlain (Again k n i after) = ⊥
 
--- Neither forest has a shared entry, and no collector tells them apart: they add the same to all sums at each place,
--- they hold and own the same bytes, inside any entry, and if f exceeds no bound, g exceeds none.
+-- Neither forest has a shared entry, and no collector tells them apart: each is the same after either, they have as many
+-- bytes at the top, and if f exceeds no word, g exceeds none.
 pub record Merged (f g : Forest) : Type 0 where
   pub plain : IsPlain f
   pub plain_merged : IsPlain g
-  pub same_sums : (s : Sums) (p : Path) → add_all s (own_behind p f) ≡ add_all s (own_behind p g)
-  pub same_inline : inline_bytes f ≡ inline_bytes g
-  pub same_held : held f ≡ held g
+  pub same : (b : Kind) → plus b f ≡ plus b g
   pub same_direct : direct f ≡ direct g
-  pub same_owned : owned f ≡ owned g
-  pub same_bytes : all_bytes f ≡ all_bytes g
   pub fits : (open_visitors : ℕ) → FitsWords open_visitors f → FitsWords open_visitors g
 
 -- Each entry of one place is unique, or inline with at least the bytes directly inside it, or inline with at most
@@ -109,10 +106,14 @@ entries k size n s = EntryAt Wide k (sum_times size n) s
 abbrev pub pairs_shape : Option ℕ → Option ℕ → (ℕ → Shape) → (ℕ → Shape) → ℕ → Shape
 pairs_shape v w s t n = Beside (entries (codes "key") v n (s n)) (entries (codes "value") w n (t n))
 
--- The entries `data` of so many maps or sets whose items have at most 8 bytes, and of those whose items have more.
-abbrev pub data_shape : ℕ → Shape → ℕ → Shape → Shape
-data_shape n s m t = Beside (EntryAt Wide (codes "data") (sum_times (Some 8) n) s)
-    (EntryAt Narrow (codes "data") (sum_times (Some 8) m) t)
+-- The entries `data` of maps or sets whose items have at most 8 bytes, and of those whose items have more, by their
+-- tally and what so many items show by theirs.
+abbrev pub data_shape : {S : Type 0} → DataTally S → (S → ℕ → Shape) → Shape
+data_shape t s =
+    Beside (EntryAt Wide (codes "data") (sum_times (Some 8) t.small.places.buffers)
+    (s t.small.values t.small.places.items))
+    (EntryAt Narrow (codes "data") (sum_times (Some 8) t.large.places.buffers)
+    (s t.large.values t.large.places.items))
 
 -- The items of so many slices: what they show, or one entry of their bytes.
 abbrev pub items_shape : Bool → Key → ℕ → ℕ → Shape → Shape

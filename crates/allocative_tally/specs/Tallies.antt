@@ -1,6 +1,7 @@
 -- What counting a value does to what was counted before.
 use Rattle.std.specs.Prelude.{◌≡◌, ◌≤◌, ◌<◌, ◌+◌, ◌-◌, ◌*◌, ◌^◌, ℕ, Bool, true, false, List, length, map, Option, None}
 use Rattle.std.specs.Prelude.{Some, Result, ⊤, codes}
+use Rattle.std.specs.Option.{ForSome}
 use Rattle.std.specs.Iterator.{Drains}
 use Rattle.allocative_graph.specs.Path.{Key}
 use Rattle.allocative_graph.specs.Forest.{Forest, followed_by}
@@ -114,12 +115,17 @@ buffer_of name size needs_drop places s = buffer_shape (codes "ptr") places.buff
 
 -- A buffer with so many used and spare places of a declared size each was added, and the bytes of all fit a word.
 pub record AddsPlaces (size : Option ℕ) (used spare : ℕ) (old new : Places) : Type 0 where
-  pub bytes : ℕ
-  pub sized : size ≡ Some bytes
   pub buffers : new.buffers ≡ old.buffers + 1
   pub items : new.items ≡ old.items + used
   pub unused : new.unused ≡ old.unused + spare
-  pub fits : bytes * (new.items + new.unused) < 2 ^ 64
+  pub room : FitsWord size (new.items + new.unused)
+
+-- Such a buffer cannot be added: a number does not fit a word, or there is no size, or the bytes of all do not fit.
+pub data CannotAdd (size : Option ℕ) (used spare : ℕ) (old : Places) : Type 0 where
+  many_buffers : 2 ^ 64 ≤ old.buffers + 1 → CannotAdd size used spare old
+  many_places : 2 ^ 64 ≤ old.items + used + (old.unused + spare) → CannotAdd size used spare old
+  many_bytes : ForSome size (λ s. 2 ^ 64 ≤ s * (old.items + used + (old.unused + spare)))
+      → CannotAdd size used spare old
 
 -- A buffer of n items of a declared size, with room for so many, was added, if there is one; otherwise nothing.
 pub data CountsRoom (size : Option ℕ) (n capacity : ℕ) (old new : Places) : Bool → Type 0 where
@@ -127,11 +133,3 @@ pub data CountsRoom (size : Option ℕ) (n capacity : ℕ) (old new : Places) : 
   no_room : (item : ℕ) → size ≡ Some item → n ≡ 0 → capacity ≡ 0 → new ≡ old → CountsRoom size n capacity old new false
   is_room : {item : ℕ} → size ≡ Some item → 0 < item → 0 < n + capacity → AddsPlaces size n (capacity - n) old new
       → CountsRoom size n capacity old new true
-
--- An entry `data` of n items of a declared size was added to those whose items have at most 8 bytes, or to those whose
--- items have more.
-pub record CountsData (size : Option ℕ) (n : ℕ) (small small' large large' : Places) (is_small : Bool) : Type 0 where
-  pub item : ℕ
-  pub sized : size ≡ Some item
-  pub if_small : is_small ≡ true → (item * n ≤ 8) × AddsPlaces size n 0 small small' × (large' ≡ large)
-  pub if_large : is_small ≡ false → (8 ≤ item * n) × AddsPlaces size n 0 large large' × (small' ≡ small)

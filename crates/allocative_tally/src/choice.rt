@@ -32,10 +32,7 @@ impl<T: Tallied> Tallied for Option<T> {
         declared::<Option<T>>()?;
         match self {
             None => Ok(()),
-            Some(value) => {
-                count_own(tally, value)?;
-                Ok(())
-            }
+            Some(value) => count_own(tally, value),
         }
     }
 }
@@ -74,14 +71,8 @@ impl<T: Tallied, E: Tallied> Tallied for Result<T, E> {
     fn tally(&self, tally: &mut Self::Tally) -> Result<(), CountError> {
         declared::<Result<T, E>>()?;
         match self {
-            Ok(value) => {
-                count_own(&mut tally.first, value)?;
-                Ok(())
-            }
-            Err(value) => {
-                count_own(&mut tally.second, value)?;
-                Ok(())
-            }
+            Ok(value) => count_own(&mut tally.first, value),
+            Err(value) => count_own(&mut tally.second, value),
         }
     }
 }
@@ -113,14 +104,8 @@ impl<L: Tallied, R: Tallied> Tallied for Either<L, R> {
     fn tally(&self, tally: &mut Self::Tally) -> Result<(), CountError> {
         declared::<Either<L, R>>()?;
         match self {
-            Left(value) => {
-                count_own(&mut tally.first, value)?;
-                Ok(())
-            }
-            Right(value) => {
-                count_own(&mut tally.second, value)?;
-                Ok(())
-            }
+            Left(value) => count_own(&mut tally.first, value),
+            Right(value) => count_own(&mut tally.second, value),
         }
     }
 }

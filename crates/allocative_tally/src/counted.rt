@@ -15,8 +15,7 @@ use allocative::{Allocative, Described, Part, Refusal, Visitor};
 pub fn count_each<T: Tallied>(items: &[T], tally: &mut T::Tally) -> Result<(), CountError>
     ensures { IfOk result (λ _. TalliesEach T.size T.may_show items.now (T.shape tally.old) (T.shape tally.new)) }
 {
-    count_run(items.iter(), tally)?;
-    Ok(())
+    count_run(items.iter(), tally)
 }
 
 /// Counts what each item of an iterator shows. It returns `Err` as `Tallied::tally` does.
@@ -131,8 +130,7 @@ fn count_all<T: Tallied>(items: &[T], tally: &mut T::Tally) -> Result<(), CountE
     ensures fits { IfOk result (λ _. FitsWord T.size (length items.now)) }
 {
     all_fit(T::size(), items.len())?;
-    count_each(items, tally)?;
-    Ok(())
+    count_each(items, tally)
 }
 
 // What each item shows, one by one. It halves the slice, so its stack does not grow with the number of items.

@@ -2,21 +2,22 @@
 //! of 8 bytes.
 #![tactic(auto)]
 
-ghost use Rattle.std.specs.Prelude.{◌≡◌, ◌&&◌, ◌≤◌, ◌<◌, ◌*◌, true, false, codes, IfOk, Some, length};
+ghost use Rattle.std.specs.Prelude.{◌≡◌, ◌&&◌, true, codes, IfOk, Some, length};
 ghost use Rattle.std.specs.Iterator.{IsFinite};
-ghost use Rattle.std.specs.Map.Iter.{deref_pair};
+ghost use Rattle.std.specs.Map.Iter.{deref, deref_pair};
 ghost use Rattle.std.proofs.Common.{le_refl};
 ghost use Rattle.allocative_described.specs.Sizes.{size_sum};
-ghost use Rattle.allocative_graph.specs.Shows.{each_shows};
-ghost use Rattle.allocative.specs.Runs.{pair_shows};
+ghost use Rattle.allocative_graph.specs.Shows.{Inside as shows_inside, each_shows};
+ghost use Rattle.allocative.specs.Runs.{field_of, pair_shows};
 ghost use Rattle.allocative.specs.StdShows.{in_any_order};
-ghost use Rattle.allocative_tally.specs.Shapes.{entries, pairs_shape, data_shape};
-ghost use Rattle.allocative_tally.specs.Tallies.{TalliesMany, HoldsOfRun, FitsWord, both_bounds, CountsData, no_places};
+ghost use Rattle.allocative_tally.specs.Shapes.{Beside, EntryAt, Wide, Narrow, entries, pairs_shape, data_shape};
+ghost use Rattle.allocative_tally.specs.Shapes.{sum_times};
+ghost use Rattle.allocative_tally.specs.Tallies.{Tallies, TalliesMany, HoldsOfRun, FitsWord, both_bounds, no_places};
 
 use crate::counted::count_run;
 use crate::field::FieldMany;
-use crate::places::Places;
-use crate::tally::{CountError, Entries, InlineSum, Sum, Tallied, all_fit};
+use crate::places::Buffers;
+use crate::tally::{CountError, Entries, InlineSum, Sum, Tallied, all_fit, bytes_of};
 use allocative::{Described, Pairs, Part, Refusal, Visitor};
 use std::collections::{BTreeMap, BTreeSet, HashMap, HashSet};
 use std::hash::Hash;
@@ -71,50 +72,67 @@ pub(crate) fn pair_size<K: Described, V: Described>() -> Option<usize>
 /// more. No place in them is unused.
 #[derive(Drop)]
 pub struct DataTally<S> {
-    small: Places,
-    large: Places,
-    small_values: S,
-    large_values: S,
+    pub(crate) small: Buffers<S>,
+    pub(crate) large: Buffers<S>,
 }
 
 impl<S: Drop> DataTally<S> {
     // No entry, by two tallies of nothing.
-    fn none(small_values: S, large_values: S) -> DataTally<S>
+    fn none(small: S, large: S) -> DataTally<S>
         ensures { result ≡ record {
-          small = no_places;
-          large = no_places;
-          small_values = small_values;
-          large_values = large_values;
+          small = record { places = no_places; values = small };
+          large = record { places = no_places; values = large };
         } }
     {
         DataTally {
-            small: Places::none(),
-            large: Places::none(),
-            small_values,
-            large_values,
+            small: Buffers::none(small),
+            large: Buffers::none(large),
         }
     }
 }
 
-// Adds an entry `data` of so many items of a declared size to those whose items have at most its 8 bytes, or to the
-// others, and returns which. It returns `Err` as `Places::add` does.
-fn add_data(
-    size: Option<usize>,
+// Counts the entry `data` of so many pairs that an iterator gives. It returns `Err` as `count_pairs` does.
+fn count_map<'a, K: Tallied + 'a, V: Tallied + 'a, I: Iterator<Item = (&'a K, &'a V)> + Drop>(
+    pairs: I,
     count: usize,
-    small: &mut Places,
-    large: &mut Places,
-) -> Result<bool, CountError>
-    ensures { IfOk result (CountsData size count small.old small.new large.old large.new) }
+    tally: &mut DataTally<(K::Tally, V::Tally)>,
+) -> Result<(), CountError>
+    requires can { I.can_next pairs }
+    requires ends { IsFinite (I.remaining pairs) }
+    ensures { IfOk result (λ _. HoldsOfRun I.next_gives pairs deref_pair (λ es. count ≡ length es → Tallies (Some 8)
+        (shows_inside (codes "data") 8 (each_shows (pair_shows K.size K.may_show V.size V.may_show) es))
+        (data_shape tally.old (λ v. pairs_shape K.size V.size (K.shape v.0) (V.shape v.1)))
+        (data_shape tally.new (λ v. pairs_shape K.size V.size (K.shape v.0) (V.shape v.1))))) }
 {
-    let Some(bytes) = size else {
-        return Err(CountError);
-    };
-    if bytes.saturating_mul(count) <= 8 {
-        small.add(size, count, 0)?;
-        return Ok(true);
+    let size = pair_size::<K, V>();
+    if bytes_of(size, count) <= 8 {
+        tally.small.places.add(size, count, 0)?;
+        return count_pairs(pairs, count, &mut tally.small.values);
     }
-    large.add(size, count, 0)?;
-    Ok(false)
+    tally.large.places.add(size, count, 0)?;
+    count_pairs(pairs, count, &mut tally.large.values)
+}
+
+// Counts the entry `data` of so many keys that an iterator gives. It returns `Err` as `Tallied::tally` does.
+fn count_set<'a, K: Tallied + 'a, I: Iterator<Item = &'a K> + Drop>(
+    keys: I,
+    count: usize,
+    tally: &mut DataTally<K::Tally>,
+) -> Result<(), CountError>
+    requires can { I.can_next keys }
+    requires ends { IsFinite (I.remaining keys) }
+    ensures { IfOk result (λ _. HoldsOfRun I.next_gives keys deref (λ ks. count ≡ length ks → Tallies (Some 8)
+        (shows_inside (codes "data") 8 (each_shows (field_of (codes "key") K.size K.may_show) ks))
+        (data_shape tally.old (λ v i. entries (codes "key") K.size i (K.shape v i)))
+        (data_shape tally.new (λ v i. entries (codes "key") K.size i (K.shape v i))))) }
+{
+    let size = K::size();
+    if bytes_of(size, count) <= 8 {
+        tally.small.places.add(size, count, 0)?;
+        return count_run(keys, &mut tally.small.values);
+    }
+    tally.large.places.add(size, count, 0)?;
+    count_run(keys, &mut tally.large.values)
 }
 
 /// The entries `data` of a tally, with entries inside those whose items have at most 8 bytes, and with others inside
@@ -123,13 +141,22 @@ fn add_data(
 struct DataMany<'a, S, P, Q>(&'a DataTally<S>, P, Q);
 
 impl<'a, S, P: Entries, Q: Entries> Entries for DataMany<'a, S, P, Q> {
-    ghost shape = { λ e. data_shape e.0.now.small.buffers (P.shape e.1)
-        e.0.now.large.buffers (Q.shape e.2) };
+    ghost shape = { λ e. Beside
+        (EntryAt Wide (codes "data") (sum_times (Some 8) e.0.now.small.places.buffers) (P.shape e.1))
+        (EntryAt Narrow (codes "data") (sum_times (Some 8) e.0.now.large.places.buffers) (Q.shape e.2)) };
 
     fn enter(self, visitor: &mut Visitor<'_>) -> Result<(), Refusal> {
         let DataMany(tally, small, large) = self;
-        let small = InlineSum("data", Sum::times(Some(8), tally.small.buffers), small);
-        let large = InlineSum("data", Sum::times(Some(8), tally.large.buffers), large);
+        let small = InlineSum(
+            "data",
+            Sum::times(Some(8), tally.small.places.buffers),
+            small,
+        );
+        let large = InlineSum(
+            "data",
+            Sum::times(Some(8), tally.large.places.buffers),
+            large,
+        );
         (small, large).enter(visitor)
     }
 }
@@ -137,10 +164,8 @@ impl<'a, S, P: Entries, Q: Entries> Entries for DataMany<'a, S, P, Q> {
 impl<K: Tallied + Eq + Hash, V: Tallied> Tallied for HashMap<K, V> {
     type Tally = DataTally<(K::Tally, V::Tally)>;
 
-    ghost shape = { λ t n. entries (codes "HashMap") (Some 48) n (data_shape t.small.buffers
-        (pairs_shape K.size V.size (K.shape t.small_values.0) (V.shape t.small_values.1) t.small.items)
-        t.large.buffers
-        (pairs_shape K.size V.size (K.shape t.large_values.0) (V.shape t.large_values.1) t.large.items)) };
+    ghost shape = { λ t n. entries (codes "HashMap") (Some 48) n
+        (data_shape t (λ v. pairs_shape K.size V.size (K.shape v.0) (V.shape v.1))) };
 
     ghost bounded = { λ t n. le_refl _ };
 
@@ -151,31 +176,22 @@ impl<K: Tallied + Eq + Hash, V: Tallied> Tallied for HashMap<K, V> {
     }
 
     fn show(tally: &Self::Tally, count: usize, visitor: &mut Visitor<'_>) -> Result<(), Refusal> {
-        let small = PairsMany::<K, V>(&tally.small_values, tally.small.items);
-        let large = PairsMany::<K, V>(&tally.large_values, tally.large.items);
+        let small = PairsMany::<K, V>(&tally.small.values, tally.small.places.items);
+        let large = PairsMany::<K, V>(&tally.large.values, tally.large.places.items);
         let data = DataMany(tally, small, large);
         InlineSum("HashMap", Sum::times(Some(48), count), data).enter(visitor)
     }
 
     fn tally(&self, tally: &mut Self::Tally) -> Result<(), CountError> {
-        let (size, count) = (pair_size::<K, V>(), self.len());
-        let is_small = add_data(size, count, &mut tally.small, &mut tally.large)?;
-        if is_small {
-            count_pairs(self.iter(), count, &mut tally.small_values)?;
-            return Ok(());
-        }
-        count_pairs(self.iter(), count, &mut tally.large_values)?;
-        Ok(())
+        count_map(self.iter(), self.len(), tally)
     }
 }
 
 impl<K: Tallied + Ord, V: Tallied> Tallied for BTreeMap<K, V> {
     type Tally = DataTally<(K::Tally, V::Tally)>;
 
-    ghost shape = { λ t n. entries (codes "BTreeMap") (Some 24) n (data_shape t.small.buffers
-        (pairs_shape K.size V.size (K.shape t.small_values.0) (V.shape t.small_values.1) t.small.items)
-        t.large.buffers
-        (pairs_shape K.size V.size (K.shape t.large_values.0) (V.shape t.large_values.1) t.large.items)) };
+    ghost shape = { λ t n. entries (codes "BTreeMap") (Some 24) n
+        (data_shape t (λ v. pairs_shape K.size V.size (K.shape v.0) (V.shape v.1))) };
 
     ghost bounded = { λ t n. le_refl _ };
 
@@ -186,31 +202,22 @@ impl<K: Tallied + Ord, V: Tallied> Tallied for BTreeMap<K, V> {
     }
 
     fn show(tally: &Self::Tally, count: usize, visitor: &mut Visitor<'_>) -> Result<(), Refusal> {
-        let small = PairsMany::<K, V>(&tally.small_values, tally.small.items);
-        let large = PairsMany::<K, V>(&tally.large_values, tally.large.items);
+        let small = PairsMany::<K, V>(&tally.small.values, tally.small.places.items);
+        let large = PairsMany::<K, V>(&tally.large.values, tally.large.places.items);
         let data = DataMany(tally, small, large);
         InlineSum("BTreeMap", Sum::times(Some(24), count), data).enter(visitor)
     }
 
     fn tally(&self, tally: &mut Self::Tally) -> Result<(), CountError> {
-        let (size, count) = (pair_size::<K, V>(), self.len());
-        let is_small = add_data(size, count, &mut tally.small, &mut tally.large)?;
-        if is_small {
-            count_pairs(self.iter(), count, &mut tally.small_values)?;
-            return Ok(());
-        }
-        count_pairs(self.iter(), count, &mut tally.large_values)?;
-        Ok(())
+        count_map(self.iter(), self.len(), tally)
     }
 }
 
 impl<K: Tallied + Eq + Hash> Tallied for HashSet<K> {
     type Tally = DataTally<K::Tally>;
 
-    ghost shape = { λ t n. entries (codes "HashSet") (Some 48) n (data_shape t.small.buffers
-        (entries (codes "key") K.size t.small.items (K.shape t.small_values t.small.items))
-        t.large.buffers
-        (entries (codes "key") K.size t.large.items (K.shape t.large_values t.large.items))) };
+    ghost shape = { λ t n. entries (codes "HashSet") (Some 48) n
+        (data_shape t (λ v i. entries (codes "key") K.size i (K.shape v i))) };
 
     ghost bounded = { λ t n. le_refl _ };
 
@@ -219,31 +226,22 @@ impl<K: Tallied + Eq + Hash> Tallied for HashSet<K> {
     }
 
     fn show(tally: &Self::Tally, count: usize, visitor: &mut Visitor<'_>) -> Result<(), Refusal> {
-        let small = FieldMany::<K>("key", &tally.small_values, tally.small.items);
-        let large = FieldMany::<K>("key", &tally.large_values, tally.large.items);
+        let small = FieldMany::<K>("key", &tally.small.values, tally.small.places.items);
+        let large = FieldMany::<K>("key", &tally.large.values, tally.large.places.items);
         let data = DataMany(tally, small, large);
         InlineSum("HashSet", Sum::times(Some(48), count), data).enter(visitor)
     }
 
     fn tally(&self, tally: &mut Self::Tally) -> Result<(), CountError> {
-        let (size, count) = (K::size(), self.len());
-        let is_small = add_data(size, count, &mut tally.small, &mut tally.large)?;
-        if is_small {
-            count_run(self.iter(), &mut tally.small_values)?;
-            return Ok(());
-        }
-        count_run(self.iter(), &mut tally.large_values)?;
-        Ok(())
+        count_set(self.iter(), self.len(), tally)
     }
 }
 
 impl<K: Tallied + Ord> Tallied for BTreeSet<K> {
     type Tally = DataTally<K::Tally>;
 
-    ghost shape = { λ t n. entries (codes "BTreeSet") (Some 24) n (data_shape t.small.buffers
-        (entries (codes "key") K.size t.small.items (K.shape t.small_values t.small.items))
-        t.large.buffers
-        (entries (codes "key") K.size t.large.items (K.shape t.large_values t.large.items))) };
+    ghost shape = { λ t n. entries (codes "BTreeSet") (Some 24) n
+        (data_shape t (λ v i. entries (codes "key") K.size i (K.shape v i))) };
 
     ghost bounded = { λ t n. le_refl _ };
 
@@ -252,21 +250,14 @@ impl<K: Tallied + Ord> Tallied for BTreeSet<K> {
     }
 
     fn show(tally: &Self::Tally, count: usize, visitor: &mut Visitor<'_>) -> Result<(), Refusal> {
-        let small = FieldMany::<K>("key", &tally.small_values, tally.small.items);
-        let large = FieldMany::<K>("key", &tally.large_values, tally.large.items);
+        let small = FieldMany::<K>("key", &tally.small.values, tally.small.places.items);
+        let large = FieldMany::<K>("key", &tally.large.values, tally.large.places.items);
         let data = DataMany(tally, small, large);
         InlineSum("BTreeSet", Sum::times(Some(24), count), data).enter(visitor)
     }
 
     fn tally(&self, tally: &mut Self::Tally) -> Result<(), CountError> {
-        let (size, count) = (K::size(), self.len());
-        let is_small = add_data(size, count, &mut tally.small, &mut tally.large)?;
-        if is_small {
-            count_run(self.iter(), &mut tally.small_values)?;
-            return Ok(());
-        }
-        count_run(self.iter(), &mut tally.large_values)?;
-        Ok(())
+        count_set(self.iter(), self.len(), tally)
     }
 }
 

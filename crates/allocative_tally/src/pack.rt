@@ -96,8 +96,7 @@ impl<K: Tallied + Eq + Hash, V: Tallied> Tallied for IndexMap<K, V> {
         let (size, unused) = (<(K, V)>::size(), self.capacity() - self.len());
         tally.items.places.add(size, self.len(), unused)?;
         count_pairs(self.iter(), self.len(), &mut tally.items.values)?;
-        count_table(self.len(), &mut tally.tables, &mut tally.buckets)?;
-        Ok(())
+        count_table(self.len(), &mut tally.tables, &mut tally.buckets)
     }
 }
 
@@ -129,8 +128,7 @@ impl<T: Tallied + Eq + Hash> Tallied for IndexSet<T> {
         let unused = self.capacity() - self.len();
         tally.items.places.add(T::size(), self.len(), unused)?;
         count_run(self.iter(), &mut tally.items.values)?;
-        count_table(self.len(), &mut tally.tables, &mut tally.buckets)?;
-        Ok(())
+        count_table(self.len(), &mut tally.tables, &mut tally.buckets)
     }
 }
 
@@ -171,15 +169,13 @@ impl<T: Tallied, const N: usize> Tallied for SmallVec<T, N> {
         declared::<SmallVec<T, N>>()?;
         if self.spilled() {
             tally.spilled.places.add(T::size(), self.len(), 0)?;
-            count_each(self.as_slice(), &mut tally.spilled.values)?;
-            return Ok(());
+            return count_each(self.as_slice(), &mut tally.spilled.values);
         }
         // They have at most the bytes of the places, so they fit the entry.
         let count = self.len();
         prove!(count <= N);
         tally.in_place.count = added(tally.in_place.count, count)?;
-        count_each(self.as_slice(), &mut tally.in_place.values)?;
-        Ok(())
+        count_each(self.as_slice(), &mut tally.in_place.values)
     }
 }
 
@@ -206,8 +202,7 @@ impl<T: Tallied> Tallied for Slab<T> {
             return Ok(());
         }
         if are_shown_each::<T>() {
-            count_run(self.iter().map(|(_key, value)| value), &mut tally.values)?;
-            return Ok(());
+            return count_run(self.iter().map(|(_key, value)| value), &mut tally.values);
         }
         Ok(())
     }

@@ -1,10 +1,10 @@
 //! Numbers of buffers, of their items and of their unused places.
 #![tactic(auto)]
 
-ghost use Rattle.std.specs.Prelude.{◌≡◌, IfOk};
-ghost use Rattle.allocative_tally.specs.Tallies.{no_places, AddsPlaces};
+ghost use Rattle.std.specs.Prelude.{◌≡◌, MatchResult};
+ghost use Rattle.allocative_tally.specs.Tallies.{no_places, AddsPlaces, CannotAdd};
 
-use crate::tally::{CountError, added};
+use crate::tally::{CountError, added, all_fit};
 
 /// How many buffers there are, how many items are in them, and how many places in them are unused.
 #[derive(Clone, Copy)]
@@ -26,8 +26,8 @@ impl Places {
         }
     }
 
-    /// Adds a buffer of so many items and unused places, of a declared size each. It returns `Err` if the size is
-    /// missing, or the bytes of all places do not fit a word.
+    /// Adds a buffer of so many items and unused places, of a declared size each. It returns `Err` exactly if the size
+    /// is missing, or a number or the bytes of all places do not fit a word.
     #[inline(always)]
     pub fn add(
         &mut self,
@@ -35,17 +35,13 @@ impl Places {
         items: usize,
         unused: usize,
     ) -> Result<(), CountError>
-        ensures { IfOk result (λ _. AddsPlaces size items unused self.old self.new) }
+        ensures { MatchResult result (λ _. AddsPlaces size items unused self.old self.new)
+            (λ _. CannotAdd size items unused self.old) }
     {
-        let Some(place) = size else {
-            return Err(CountError);
-        };
         let buffers = added(self.buffers, 1)?;
         let items = added(self.items, items)?;
         let unused = added(self.unused, unused)?;
-        let Some(_bytes) = added(items, unused)?.checked_mul(place) else {
-            return Err(CountError);
-        };
+        all_fit(size, added(items, unused)?)?;
         *self = Places {
             buffers,
             items,

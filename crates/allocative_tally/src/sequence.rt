@@ -1,13 +1,13 @@
 //! Texts, boxes, vectors, deques and arrays.
 #![tactic(auto)]
 
-ghost use Rattle.std.specs.Prelude.{◌≡◌, codes, IfOk, Some, length};
+ghost use Rattle.std.specs.Prelude.{◌≡◌, ◌-◌, codes, IfOk, MatchResult, Some, length};
 ghost use Rattle.std.proofs.Common.{le_refl};
 ghost use Rattle.allocative_graph.specs.Shows.{slice_shows};
 ghost use Rattle.allocative.specs.Bodies.{are_shown_each as is_each};
 ghost use Rattle.allocative_tally.specs.Shapes.{Unique, Wide, EntryAt, Beside, NoEntry, entries, items_shape};
 ghost use Rattle.allocative_tally.specs.Shapes.{bytes_times, sum_of, sum_times, unused_shape};
-ghost use Rattle.allocative_tally.specs.Tallies.{buffer_of, CountsRoom};
+ghost use Rattle.allocative_tally.specs.Tallies.{buffer_of, CannotAdd, CountsRoom};
 ghost use Rattle.allocative_tally.specs.Tallies.{TalliesSlice};
 
 use crate::counted::count_each;
@@ -115,14 +115,13 @@ pub fn count_slice<T: Tallied>(items: &[T], tally: &mut T::Tally) -> Result<(), 
         (slice_shows T.name T.size T.needs_drop T.may_show items.now) (T.shape tally.old) (T.shape tally.new)) }
 {
     if are_shown_each::<T>() {
-        count_each(items, tally)?;
-        return Ok(());
+        return count_each(items, tally);
     }
     Ok(())
 }
 
-/// Counts the places of a buffer, and returns whether there is one. It returns `Err` if the size is missing, or a count
-/// exceeds a word.
+/// Counts the places of a buffer, and returns whether there is one. It returns `Err` exactly if the size is missing, or
+/// there is a buffer and `Places::add` returns `Err`.
 #[tactic(auto, using(crate::proofs::Buffers::rooms))]
 #[inline(always)]
 pub fn count_room<T: Described>(
@@ -130,7 +129,8 @@ pub fn count_room<T: Described>(
     capacity: usize,
     places: &mut Places,
 ) -> Result<bool, CountError>
-    ensures { IfOk result (CountsRoom T.size count capacity places.old places.new) }
+    ensures { MatchResult result (CountsRoom T.size count capacity places.old places.new)
+        (λ _. CannotAdd T.size count (capacity - count) places.old) }
 {
     let Some(size) = T::size() else {
         return Err(CountError);
@@ -166,8 +166,7 @@ impl<T: Tallied> Tallied for Box<T> {
     #[inline(always)]
     fn tally(&self, tally: &mut Self::Tally) -> Result<(), CountError> {
         tally.places.add(T::size(), 1, 0)?;
-        (**self).tally(&mut tally.values)?;
-        Ok(())
+        (**self).tally(&mut tally.values)
     }
 }
 
@@ -194,8 +193,7 @@ impl<T: Tallied> Tallied for Vec<T> {
         if !is_there {
             return Ok(());
         }
-        count_slice(self.as_slice(), &mut tally.values)?;
-        Ok(())
+        count_slice(self.as_slice(), &mut tally.values)
     }
 }
 
@@ -224,8 +222,7 @@ impl<T: Tallied> Tallied for VecDeque<T> {
         }
         let (front, back) = self.as_slices();
         count_slice(front, &mut tally.values)?;
-        count_slice(back, &mut tally.values)?;
-        Ok(())
+        count_slice(back, &mut tally.values)
     }
 }
 
@@ -250,7 +247,6 @@ impl<T: Tallied, const N: usize> Tallied for [T; N] {
     fn tally(&self, tally: &mut Self::Tally) -> Result<(), CountError> {
         declared::<[T; N]>()?;
         tally.count = added(tally.count, N)?;
-        count_each(self, &mut tally.values)?;
-        Ok(())
+        count_each(self, &mut tally.values)
     }
 }

@@ -1,7 +1,8 @@
 //! The trait of what can be counted, and the entries of what was counted.
 #![tactic(auto)]
 
-ghost use Rattle.std.specs.Prelude.{◌≡◌, ◌≤◌, ◌+◌, ℕ, true, IfOk};
+ghost use Rattle.std.specs.Prelude.{◌≡◌, ◌≤◌, ◌+◌, ◌*◌, ◌^◌, ℕ, true, None, IfOk, MatchResult};
+ghost use Rattle.std.specs.Option.{ForSome};
 ghost use Rattle.allocative_tally.specs.Shapes.{Shape, NoEntry, Beside, EntryAt, Wide, Unique as unique_width};
 ghost use Rattle.allocative_tally.specs.Shapes.{IsNothing, shape_shows, bytes_times, sum_of, sum_times, top_bytes};
 ghost use Rattle.allocative_tally.specs.Tallies.{TalliesNext, EntersShape, IsDeclared, FitsWord};
@@ -11,7 +12,7 @@ use thiserror::Error;
 
 /// A count exceeds a word, or a declared size is missing.
 #[derive(Clone, Copy, Debug, PartialEq, Eq, Error)]
-#[error("a count exceeds a word, or a size is missing")]
+#[error("count overflow, or a size is missing")]
 pub struct CountError;
 
 /// A value that can be counted. The tally of many values has what their number does not say, so whoever holds a tally
@@ -31,7 +32,7 @@ pub trait Tallied: Allocative + Described {
         ensures { EntersShape (Self.shape tally.now count) visitor.old visitor.new result };
 
     /// Counts what the value shows beyond its number. It returns `Err` if a declared size is missing or a count exceeds
-    /// a word; the tally is of no use then.
+    /// a word. Discard the tally then.
     fn tally(&self, tally: &mut Self::Tally) -> Result<(), CountError>
         ensures { IfOk result (λ _. TalliesNext Self.size (Self.may_show self.now)
             (Self.shape tally.old) (Self.shape tally.new)) };
@@ -77,10 +78,10 @@ pub fn bytes_of(size: Option<usize>, count: usize) -> usize
     }
 }
 
-/// Returns `Err` if a type's declared size is missing.
+/// Returns `Err` exactly if a type's declared size is missing.
 #[inline(always)]
 pub fn declared<T: Described>() -> Result<(), CountError>
-    ensures { IfOk result (λ _. IsDeclared T.size) }
+    ensures { MatchResult result (λ _. IsDeclared T.size) (λ _. T.size ≡ None) }
 {
     let Some(_size) = T::size() else {
         return Err(CountError);
@@ -88,10 +89,10 @@ pub fn declared<T: Described>() -> Result<(), CountError>
     Ok(())
 }
 
-/// Returns `Err` if a declared size is missing, or the bytes of so many values do not fit a word.
+/// Returns `Err` exactly if a declared size is missing, or the bytes of so many values do not fit a word.
 #[inline(always)]
 pub fn all_fit(size: Option<usize>, count: usize) -> Result<(), CountError>
-    ensures { IfOk result (λ _. FitsWord size count) }
+    ensures { MatchResult result (λ _. FitsWord size count) (λ _. ForSome size (λ s. 2 ^ 64 ≤ s * count)) }
 {
     let Some(bytes) = size else {
         return Err(CountError);
@@ -102,15 +103,12 @@ pub fn all_fit(size: Option<usize>, count: usize) -> Result<(), CountError>
     Ok(())
 }
 
-/// The sum of two numbers; `Err` if it does not fit a word.
+/// The sum of two numbers; `Err` exactly if it does not fit a word.
 #[inline(always)]
 pub fn added(number: usize, more: usize) -> Result<usize, CountError>
-    ensures { IfOk result (λ n. n ≡ number + more) }
+    ensures { MatchResult result (λ n. n ≡ number + more) (λ _. 2 ^ 64 ≤ number + more) }
 {
-    let Some(sum) = number.checked_add(more) else {
-        return Err(CountError);
-    };
-    Ok(sum)
+    number.checked_add(more).ok_or(CountError)
 }
 
 /// What a tally shows, made of sums.

@@ -33,8 +33,7 @@ impl<A: Tallied, B: Tallied> Tallied for (A, B) {
     fn tally(&self, tally: &mut Self::Tally) -> Result<(), CountError> {
         declared::<(A, B)>()?;
         self.0.tally(&mut tally.0)?;
-        self.1.tally(&mut tally.1)?;
-        Ok(())
+        self.1.tally(&mut tally.1)
     }
 }
 
@@ -65,8 +64,7 @@ impl<A: Tallied, B: Tallied, C: Tallied> Tallied for (A, B, C) {
         declared::<(A, B, C)>()?;
         self.0.tally(&mut tally.0)?;
         self.1.tally(&mut tally.1)?;
-        self.2.tally(&mut tally.2)?;
-        Ok(())
+        self.2.tally(&mut tally.2)
     }
 }
 
@@ -105,8 +103,7 @@ impl<A: Tallied, B: Tallied, C: Tallied, D: Tallied> Tallied for (A, B, C, D) {
         self.0.tally(&mut tally.0)?;
         self.1.tally(&mut tally.1)?;
         self.2.tally(&mut tally.2)?;
-        self.3.tally(&mut tally.3)?;
-        Ok(())
+        self.3.tally(&mut tally.3)
     }
 }
 
@@ -149,7 +146,6 @@ impl<A: Tallied, B: Tallied, C: Tallied, D: Tallied, E: Tallied> Tallied for (A,
         self.1.tally(&mut tally.1)?;
         self.2.tally(&mut tally.2)?;
         self.3.tally(&mut tally.3)?;
-        self.4.tally(&mut tally.4)?;
-        Ok(())
+        self.4.tally(&mut tally.4)
     }
 }

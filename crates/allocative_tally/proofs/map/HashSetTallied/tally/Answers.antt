@@ -1,22 +1,13 @@
--- of the tally of `HashSet`: its keys are counted with those of sets of its kind
-use Rattle.std.proofs.Common.{arith, codes, le_refl, rules}
+-- of the tally of `HashSet`: its entry, and inside it that of its keys
+use Rattle.std.proofs.Common.{arith, rules}
 use Rattle.std.proofs.lemmas.Iterator.Consumers.{YieldsList-from_rest}
-use Rattle.allocative_tally.specs.Shapes.{entries}
-use Rattle.allocative_tally.proofs.Items.{of_run, small_counted, large_counted, keys_direct, own_order}
-use Rattle.allocative_tally.proofs.Sizes.{holds_itself}
-use Rattle.allocative_tally.proofs.Buffers.{most_direct}
+use Rattle.allocative_tally.proofs.Buffers.{next_container}
+use Rattle.allocative_tally.proofs.Counting.{tallies_as}
+use Rattle.allocative_tally.proofs.Fields.{if_ok}
+use Rattle.allocative_tally.proofs.Items.{of_run, inside_as, own_order}
 use Rattle.allocative_tally.proofs.map.HashSetTallied.tally.Goals as goal
 
-pub returns-then-is_small : goal.returns-then-is_small
-returns-then-is_small g c =
-    rw (c.in_ok-is_small.ensures.if_small c.if-is_small.true).2 (small_counted 48 _ (omega arith) (omega arith) (own_order _ c.args.self.now.keys) holds_itself
-    (search rules) c.in_ok-is_small.ensures c.if-is_small.true (search rules)
-    ((of_run (YieldsList-from_rest _ c.iter.ensures.rest) c.in_ok-count_run.ensures).fields (codes "key")))
-
 pub returns : goal.returns
-returns g c =
-    rw (c.in_ok-is_small.ensures.if_large c.if-is_small.false).2 (large_counted 48 _ (omega arith) (omega arith) (own_order _ c.args.self.now.keys) holds_itself
-    (search rules) c.in_ok-is_small.ensures c.if-is_small.false (search rules)
-    ((of_run (YieldsList-from_rest _ c.iter-2.ensures.rest) c.in_ok-count_run-2.ensures).fields (codes "key"))
-    (λ z i e. most_direct i (entries (codes "key") g.K.Described.size i (g.K.Tallied.shape c.args.tally.now.large_values i)) e
-    (le_refl _)) (λ z f e x. keys_direct _ z _ _ c.args.self.now.keys f e x))
+returns g c = if_ok c.count_set.result c.count_set.ensures (λ _ entry. next_container 48 (omega arith) (omega arith)
+    (tallies_as (inside_as (own_order _ c.args.self.now.keys))
+    (of_run (YieldsList-from_rest _ c.iter.ensures.rest) entry (search rules))))

@@ -7,6 +7,7 @@ use Rattle.std.proofs.lemmas.Iterator.Consumers.{YieldsList-from_first}
 use Rattle.slab.specs.Slab.{values}
 use Rattle.allocative.proofs.Runs.{values_count, values_from}
 use Rattle.allocative_tally.proofs.Buffers.{next_inside, buffer_counted, buffer_missing, slice_each, slice_one}
+use Rattle.allocative_tally.proofs.Fields.{if_ok}
 use Rattle.allocative_tally.proofs.Items.{of_run}
 use Rattle.allocative_tally.proofs.pack.SlabTallied.tally.Goals as goal
 
@@ -20,11 +21,12 @@ returns-then-are_shown_each g c =
     let count : c.len.result ≡ length (values slab) = c.len.ensures ∙ sym (values_count slab.slots) in
     let entries = YieldsList-from_first {A = ℕ × Bor g.row.T.Denot} (λ e. (e.0, e.1.now)) (λ rest. rest)
     _ (c.map.ensures.source ∙ c.iter.ensures.rest) in
-    next_inside {m = 8} 40 (omega arith) (omega arith) (rw (← c.len.ensures, count) (buffer_counted _ _ c.in_ok-is_there.ensures
+    if_ok c.count_run.result c.count_run.ensures (λ _ run. next_inside {m = 8} 40 (omega arith) (omega arith)
+    (rw (← c.len.ensures, count) (buffer_counted _ _ c.in_ok-is_there.ensures
     (search rules) count (search rules) (g.met.T.Tallied.bounded c.args.tally.now.values)
     (slice_each _ _ _ _ (values slab) (search rules) (of_run (rw (← values_from 0 slab.slots)
     (YieldsList-from_map_by _ deref (λ (e : ℕ × g.row.T.Denot). e.1) entries c.map.ensures.closure
-    (λ x r q k. search rules))) c.in_ok-count_run.ensures))))
+    (λ x r q k. search rules))) run)))))
 
 pub returns : goal.returns
 returns g c =

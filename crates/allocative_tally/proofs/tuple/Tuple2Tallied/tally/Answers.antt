@@ -1,8 +1,8 @@
 -- of a tuple's tally: its entry, and inside it each field
-use Rattle.allocative_tally.proofs.Fields.{next_whole, next_both, next_field, holding_tuples}
+use Rattle.allocative_tally.proofs.Fields.{if_ok, next_whole, next_both, next_field, holding_tuples}
 use Rattle.allocative_tally.proofs.tuple.Tuple2Tallied.tally.Goals as goal
 
 pub returns : goal.returns
-returns g c = next_whole c.in_ok-declared.ensures
+returns g c = if_ok c.tally-2.result c.tally-2.ensures (λ _ last. next_whole c.in_ok-declared.ensures
     (next_both (next_field c.in_ok-tally.ensures)
-    (next_field c.in_ok-tally-2.ensures)) (search holding_tuples depth 4)
+    (next_field last)) (search holding_tuples depth 4))
