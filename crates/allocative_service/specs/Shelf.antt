@@ -77,7 +77,7 @@ module _ {V : Type 0} (size : Option ℕ) (may_show : V → Forest → Type 0) w
 
     -- The key now has v with a figure of v, as the first entry, and the others are as they were. All values have at most
     -- the limit, and with `rest` bytes of other shelves at most `most`.
-    pub record Keeps (eq : K → K → Bool) (rest most : ℕ) (key : K) (v : V) (old new : Shelved K V) : Type 0 where
+    pub record PutsOnShelf (eq : K → K → Bool) (rest most : ℕ) (key : K) (v : V) (old new : Shelved K V) : Type 0 where
       pub bytes : ℕ
       pub figure : IsFigure size may_show old.measure v bytes
       pub within : total_with (eq key) bytes old ≤ old.limit

@@ -6,7 +6,7 @@ ghost use Rattle.std.specs.Map.{lookup, remove_entry, keys_of};
 ghost use Rattle.std.specs.Map.Iter.{ShowsInOrder, deref_pair};
 ghost use Rattle.allocative_service.specs.Entries.{bytes_of, entry_at, value_at, IsFigure, ChangesTo};
 ghost use Rattle.allocative_service.specs.Rejected.{IsOverBudget};
-ghost use Rattle.allocative_service.specs.Shelf.{shelved, shelf_without, total_with, IsKept, Keeps, KeepsChanged, RefusesChanged, RefusesFigure, RefusesKept};
+ghost use Rattle.allocative_service.specs.Shelf.{shelved, shelf_without, total_with, IsKept, PutsOnShelf, KeepsChanged, RefusesChanged, RefusesFigure, RefusesKept};
 
 use crate::cache::error::Refused;
 use crate::cache::{Kept, put};
@@ -99,7 +99,7 @@ impl<K: Eq + Hash + Drop, V: Allocative + Described> Shelf<K, V> {
     ) -> Result<Option<V>, NotKept<K, V>>
         requires { rest + bytes_of self.old.entries < 2 ^ 64 }
         ensures ok { OnOk result
-            (Keeps V.size V.may_show K.eq rest most key value self.old self.new) }
+            (PutsOnShelf V.size V.may_show K.eq rest most key value self.old self.new) }
         ensures had { IfOk result (λ had. had ≡ value_at (K.eq key) self.old.entries) }
         ensures refused { IfErr result
             (λ r. RefusesKept V.size V.may_show V.is_strict (K.eq key) rest most value self.old r.error) }

@@ -5,7 +5,7 @@ ghost use Rattle.std.specs.Map.{lookup, remove_entry};
 ghost use Rattle.std.specs.Option.{option_and_then};
 ghost use Rattle.allocative_service.specs.Entries.{bytes_of, entry_at, value_at, ChangesTo};
 ghost use Rattle.allocative_service.specs.Rejected.{IsLedgerFull, IsOverBudget, RejectsIn, RejectsOpening};
-ghost use Rattle.allocative_service.specs.Shelf.{shelved, shelf_without, Keeps, KeepsChanged, RefusesChanged, RefusesKept};
+ghost use Rattle.allocative_service.specs.Shelf.{shelved, shelf_without, PutsOnShelf, KeepsChanged, RefusesChanged, RefusesKept};
 ghost use Rattle.allocative_service.specs.Store.{all_kept, is_tenant, rest_of, shelf_of, stored, with_shelves, IsTotal, Opens, Replaces, StoreStands};
 
 use crate::cache::error::Refused;
@@ -167,7 +167,7 @@ impl<K: Eq + Hash + Drop, V: Allocative + Described> Store<K, V> {
     /// The key and the value come with the error, and the store is unchanged.
     pub fn put(&mut self, tenant: &str, key: K, value: V) -> Result<Option<V>, NotKept<K, V>>
         ensures ok { OnOk result (Replaces tenant.now
-            (λ h. Keeps V.size V.may_show K.eq (rest_of self.old h) self.old.limit key value h) self.old self.new) }
+            (λ h. PutsOnShelf V.size V.may_show K.eq (rest_of self.old h) self.old.limit key value h) self.old self.new) }
         ensures had { IfOk result (λ had. had
             ≡ option_and_then (λ h. value_at (K.eq key) h.entries) (shelf_of tenant.now self.old)) }
         ensures refused { IfErr result (λ r. RejectsIn
