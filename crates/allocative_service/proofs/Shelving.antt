@@ -1,5 +1,5 @@
 -- The bytes of a shelf after a value is kept, changed or removed.
-use Rattle.std.proofs.Common.{◌≡◌, ℕ, ◌+◌, ◌≤◌, Bool, true, false, List, Option, Some, [], ◌∷◌, ap, arith, refl}
+use Rattle.std.proofs.Common.{◌≡◌, ℕ, ◌+◌, ◌≤◌, Bool, true, false, List, Option, Some, [], ◌∷◌, ap, arith, refl, sym}
 use Rattle.std.proofs.Common.{unwrap_or}
 use Rattle.allocative_service.proofs.Common.{lookup, lookup_entry, remove_entry, values_of, Forest, Kept, Entries}
 use Rattle.allocative_service.proofs.Common.{bytes_of, IsMeasured}
@@ -36,10 +36,12 @@ module _ {K X : Type 0} (test : K → Bool) where
   ]) refl
 
 module _ {K V : Type 0} where
-  -- The bytes of all entries after those of a key were written.
-  pub bytes_of-set_value : (test : K → Bool) (es : Entries K V) (had w : Kept V) → lookup test es ≡ Some had →
-      bytes_of (set_value test es w) + had.bytes ≡ bytes_of es + w.bytes
-  bytes_of-set_value test es had w is = sum_by-set_value (λ (k : Kept V). k.bytes) test es had w is
+  -- The bytes of all entries but that of a key, and of all after it was written.
+  pub written_bytes : (test : K → Bool) (es : Entries K V) (had w : Kept V) → Some had ≡ lookup test es →
+      (bytes_of (remove_entry test es) + had.bytes ≡ bytes_of es)
+      × (bytes_of (set_value test es w) + had.bytes ≡ bytes_of es + w.bytes)
+  written_bytes test es had w is =
+      (bytes_of-remove_entry test es (Some had) is, sum_by-set_value (λ (k : Kept V). k.bytes) test es had w (sym is))
 
 module _ {K V : Type 0} (size : Option ℕ) (may_show : V → Forest → Type 0) where
   -- After an entry is removed each value still has its figure.
