@@ -1,5 +1,5 @@
 -- What the account of one tenant holds.
-use Rattle.std.specs.Prelude.{◌≡◌, ℕ, ◌+◌, ◌-◌, ◌^◌, ◌≤◌, List, [], Option, String, max, sum_by, unwrap_or}
+use Rattle.std.specs.Prelude.{◌≡◌, ℕ, ◌+◌, ◌-◌, ◌^◌, ◌<◌, ◌≤◌, All, List, [], ◌∷◌, ◌++◌, Option, String, max, sum_by, unwrap_or}
 use Rattle.std.specs.BTreeMap.{insert_entry, is_at}
 use Rattle.std.specs.Global.{Global}
 use Rattle.std.specs.Map.{lookup, remove_entry, values_of}
@@ -58,6 +58,14 @@ with_peak_reset h = record h { peak = sum_of h.entries }
 -- The account without the entry under the number.
 abbrev pub without : ℕ → AccountData → AccountData
 without number h = record h { entries = remove_entry (is_at (nat_cmp number)) h.entries }
+
+-- This entry is the first of those with the most bytes: those before it have fewer, those after it no more.
+pub record IsLargest (entries : List (ℕ × ℕ)) (largest : ℕ × ℕ) : Type 0 where
+  pub before : List (ℕ × ℕ)
+  pub after : List (ℕ × ℕ)
+  pub is : entries ≡ before ++ (largest ∷ after)
+  pub fewer : All (λ e. e.1 < largest.1) before
+  pub no_more : All (λ e. e.1 ≤ largest.1) after
 
 -- The bytes are exactly the sum of the account's entries, and at most its peak, and its limit with what growth exceeded
 -- that by: at most the limit itself, if no growth exceeded it.

@@ -46,7 +46,7 @@ pub struct Ledger {
 
 impl Ledger {
     ghost use Rattle.allocative_service.specs.Accounts.{account_of, accounts_of, all_most_of, entry_of, limit_of, measure_of, overgrown_of, total_of, ChangesAccount, Enters, IsUnchanged, Lowers, MapsAccount, RejectsGrowth, RejectsNewBytes, RejectsPut, Releases, StandsAt, Stores};
-    ghost use Rattle.allocative_service.specs.AccountData.{IsSummed, bytes_at, new_account, sum_of, with_limit, with_peak_reset, with_soft_limit};
+    ghost use Rattle.allocative_service.specs.AccountData.{IsLargest, IsSummed, bytes_at, new_account, sum_of, with_limit, with_peak_reset, with_soft_limit};
     ghost use Rattle.allocative_service.specs.Measured.{Declares};
     ghost use Rattle.allocative_service.specs.Rejected.{IsLedgerFull, RejectsChange, RejectsCredit, RejectsIn, RejectsLimit, RejectsMeasured, RejectsNew, RejectsOpening};
 
@@ -212,6 +212,15 @@ impl Ledger {
     {
         let account = self.accounts.get(tenant)?;
         Some(account.peak())
+    }
+
+    /// The number and the bytes of the tenant's entry with the most bytes; of equals, of the one with the lowest number.
+    /// None if the tenant has no account or no entry.
+    pub fn largest_of(&self, tenant: &str) -> Option<(u64, usize)>
+        ensures { MatchOption (account_of tenant.now self.now) (result ≡ None)
+            (λ h. MatchOption result (h.entries ≡ []) (IsLargest h.entries)) }
+    {
+        self.accounts.get(tenant)?.largest()
     }
 
     /// Lowers the peak of a tenant to its bytes, and returns the former peak. If the tenant has no account, it returns

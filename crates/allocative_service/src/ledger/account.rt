@@ -1,6 +1,6 @@
 //! The bytes of one tenant's entries, and their limit.
-ghost use Rattle.std.specs.Prelude.{◌≡◌, ℕ, ◌+◌, ◌-◌, ◌^◌, ◌<◌, ◌≤◌, ◌↔◌, Some, None, IsSome, IsTrue, IfOk, IfErr, IfNone, OnOk, OnErr, unwrap_or};
-ghost use Rattle.allocative_service.specs.AccountData.{IsSummed, bytes_at, most_of, new_account, sum_of, with_limit, with_peak_reset, with_soft_limit, without, Puts};
+ghost use Rattle.std.specs.Prelude.{◌≡◌, ℕ, ◌+◌, ◌-◌, ◌^◌, ◌<◌, ◌≤◌, ◌↔◌, [], Some, None, MatchOption, IsSome, IsTrue, IfOk, IfErr, IfNone, OnOk, OnErr, unwrap_or};
+ghost use Rattle.allocative_service.specs.AccountData.{IsLargest, IsSummed, bytes_at, most_of, new_account, sum_of, with_limit, with_peak_reset, with_soft_limit, without, Puts};
 ghost use Rattle.allocative_service.specs.Rejected.{HasRoom, RejectsAdded, RejectsNew, RejectsChange, RejectsLimit, RejectsWithin};
 
 use crate::ledger::budget::Budget;
@@ -142,6 +142,21 @@ impl Account {
         ensures { result.now.entries ≡ self.now.entries }
     {
         &self.entries
+    }
+
+    /// The number and the bytes of the entry with the most bytes; of equals, of the one with the lowest number. None if
+    /// there is no entry.
+    pub fn largest(&self) -> Option<(u64, usize)>
+        ensures { MatchOption result (self.now.entries ≡ []) (IsLargest self.now.entries) }
+    {
+        let mut largest: Option<(u64, usize)> = None;
+        for (number, bytes) in &self.entries {
+            match largest {
+                Some((_, most)) if *bytes <= most => (),
+                _ => largest = Some((*number, *bytes)),
+            }
+        }
+        largest
     }
 
     /// Checks that the number has no entry. The error is `Taken` exactly if it has one.
