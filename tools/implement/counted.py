@@ -67,7 +67,7 @@ class Counting:
         if kind.form in ("tuple", "array") or name in COMPOSED or (name in HELD and self.scope.is_of_library(kind)):
             return self.of_parts(kind, path, [self.of(part, parameters) for part in kind.parts])
         if self.scope.holds(kind, self.layouts):
-            return None if kind.parts else Counted(self.layouts[name], None, 8)
+            return Counted(self.layouts[name], None, 8) if name in self.layouts else None
         return None if self.scope.reason(kind, ()) else Counted(kind.text, None, 8)
 
     def of_parts(self, kind: Type, path: str, parts: list[Counted | None]) -> Counted | None:

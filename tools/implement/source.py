@@ -246,13 +246,15 @@ class Source:
         what = ""
         if not definition.variants:
             what = "it has no variants, so there is no value to visit: leave it out"
-        elif cycle and definition.parameters:
-            what = f"a type with parameters that holds itself: {BY_HAND}"
+        elif cycle and len(definition.names("type")) < len(definition.parameters):
+            what = f"a type with a lifetime or a const parameter that holds itself: {BY_HAND}"
+        elif len(cycle) > 1 and definition.parameters:
+            what = f"a type with parameters that holds others which hold it: {BY_HAND}"
         elif len(cycle) > 1 and (not definition.cycle or len({each.cycle for each in cycle}) > 1):
             names = ", ".join(each.name for each in cycle)
             what = f"{names} hold each other: write `#[cycle(NAME)]` above each of them, with one name"
-        elif len(cycle) > 1 and definition.is_enum and len(definition.variants) == 1:
-            what = "the checker proves no enum of one variant among types that hold each other: make it a struct"
+        elif cycle and (len(cycle) > 1 or definition.parameters) and definition.is_enum and len(definition.variants) == 1:
+            what = "an enum of one variant that has parameters or holds others which hold it is not written: make it a struct"
         if what:
             raise Fault(definition.at, what)
 

@@ -4,7 +4,8 @@ from __future__ import annotations
 
 import re
 import textwrap
-from typing import TYPE_CHECKING, Any, Callable, Iterator
+from itertools import chain, count
+from typing import TYPE_CHECKING, Any, Callable, Iterator, Sequence
 
 from .counted import Counting
 from .tokens import Fault
@@ -23,6 +24,14 @@ LARGEST_REACH = 430
 # A value of a type has at most so many names of types in it, not behind pointers. The checker stops with 934.
 LARGEST_VALUE = 830
 EMPTY = type_of("()")
+# The lines that make the buffer of a `Vec`, whose items are shown one by one: its name, a reference to it, and its place.
+BUFFER = """let {0} = allocative::Buffer {{
+    items: allocative::Each({1}),
+    item_size: <Self as Described>::size(),
+    count: {2}.len(),
+    capacity: {2}.capacity(),
+}};
+"""
 Proof = tuple[str, str]
 LETTERS = [*"abcdefghijklmnopqrstuvw"]
 MARK = "-- Written by bin/implement."
@@ -41,8 +50,9 @@ CLAUSE_WORDS = {"codes", "true", "false", "elim", "where", "deriving", "record",
 LEMMAS = {
     "std.proofs.Common": "ap arith refl rules ◌≡◌ ◌∙◌",
     "allocative.proofs.ByHand": "visited_at",
+    "allocative.proofs.ContainerMeaning": "means_buffer",
     "allocative.proofs.Levels": "means_opened means_recursive",
-    "allocative.proofs.Meaning": "entered_loosely strict_same means_field means_same visited_as visited_if",
+    "allocative.proofs.Meaning": "entered_loosely strict_same means_both means_field means_same visited_as visited_if",
     "allocative.proofs.Parts": "strict",
     "allocative_tally.proofs.Counting": "first_counted second_counted",
     "allocative_tally.proofs.Fields": "case_counted fixed_counted holding next_as next_both next_case next_field next_fixed "
@@ -92,6 +102,11 @@ def tuple_of(parts: list[str]) -> str:
 
 def in_angles(parts: list[str]) -> str:
     return f"<{', '.join(parts)}>" if parts else ""
+
+
+def one_word(text: str) -> str:
+    """A text as one argument."""
+    return f"({text})" if " " in text else text
 
 
 def size_of(kind: str) -> str:
@@ -177,6 +192,8 @@ class Writer:
         if self.definition.is_enum:
             lists = [nested([type_of("u8"), greatest(lists)])]
         self.record, text = self.alias(self.record, lists[0])
+        # A type with parameters that holds itself counts by its layout with those.
+        self.counting.layouts |= {self.name: self.record} if self.cycle else {}
         for variant, fields in pairs:
             if variant.name in self.variant_records:
                 self.variant_records[variant.name], more = self.alias(self.variant_records[variant.name], fields)
@@ -247,14 +264,18 @@ class Writer:
 
     def own_level(self, definition: Definition) -> str:
         """The level of a type of the cycle."""
-        name = definition.name
-        entry = f'field (codes "{name}") {size_of(self.source.layouts[name])} ('
+        name, out = definition.name, self.out(definition)
+        entry = f'field (codes "{name}") {size_of(self.counting.layouts[name])} ('
         if not definition.is_enum:
-            return f"λ x. {entry}{self.inside(self.words(definition.shown, f'(out-{name} x)'))})"
-        records = self.source.variant_layouts[name]
+            return f"λ x. {entry}{self.inside(self.words(definition.shown, f'({out} x)'))})"
+        records = self.source.variant_layouts[name] | (self.variant_records if name == self.name else {})
         arms = "".join(self.word_arm(each, self.case(name, each.name), records) for each in definition.variants)
         arms = textwrap.indent(f"{arms}    ])", "    " * bool(self.cycle.keys() - {name}))
-        return f"opened out-{name} (λ x. {entry}elim x [\n{arms})"
+        return f"opened {one_word(out)} (λ x. {entry}elim x [\n{arms})"
+
+    def out(self, definition: Definition, given: str = "") -> str:
+        """What opens a value of a type of the cycle: its word, and the type's parameters or what is given for each."""
+        return " ".join([f"out-{definition.name}", *(given or name for name in definition.names("type"))])
 
     def case(self, name: str, variant: str) -> str:
         """A variant of what opens an enum of the cycle, with the enum's name if another enum has it too."""
@@ -328,7 +349,7 @@ class Writer:
         kind = self.scope.real(kind)
         if not self.holds_cycle(kind):
             return f"plain (⟦<{kind.text} as Allocative>⟧.may_show {value})"
-        if kind.name not in self.cycle or kind.parts:
+        if kind.name not in self.cycle or in_angles([each.text for each in kind.parts]) != self.applied:
             return self.container(member, kind, value)
         child = self.embedded(kind.name, value)
         return f"child {child}" if ONE_VALUE.fullmatch(child) else f"child ({child})"
@@ -341,6 +362,9 @@ class Writer:
             raise Fault(member.at, f"`{kind.text}` holds the type itself {what}")
         if word == "box_of":
             return f"box_of ({self.level(member, kind.parts[0], f'{value}.value')})"
+        if word == "vec_in" and self.is_open(kind) and not self.is_buffer(member):
+            what = f"in a `Vec` inside another type, or in an `Option`: make it a field `Vec<{self.name}{self.applied}>`"
+            raise Fault(member.at, f"`{kind.text}` holds the type itself, whose size depends on parameters, {what}")
         level, size = self.level(member, kind.parts[-1], "y"), self.size_in(kind.parts[-1])
         each = "child" if level == "child y" else f"(λ y. {level})"
         if len(kind.parts) == 2:
@@ -350,15 +374,30 @@ class Writer:
         own_size = f" {self.size_in(kind)}" if word == "option_in" else ""
         return f"{word}{own_size} {size} {each} {value}"
 
+    def is_open(self, kind: Type) -> bool:
+        """Whether the size of a container's items depends on parameters through the type itself."""
+        return "<" in self.record and self.record in self.size_in(kind.parts[-1])
+
+    def is_buffer(self, member: Member) -> bool:
+        """Whether a field is a `Vec` of the type itself, whose parameters hide that the items are shown one by one."""
+        kind = self.scope.real(member.type)
+        is_vec = member.is_whole and self.holds_cycle(kind) and kind.name == "Vec" and kind.parts[0].name in self.cycle
+        return is_vec and self.is_open(kind)
+
     # ---- visits
     def part(self, member: Member, key: str, name: str, value: str, indent: str) -> str:
-        """The line that makes the part of a field. A container with a tally is counted first."""
+        """The lines that make the part of a field. A container with a tally is counted first."""
         kind = self.scope.real(member.type)
         word, arguments = "Field", [f'"{key}"', value]
         if member.size is not None:
             word, arguments = "Inside", [f'"{key}"', str(member.size), "()"]
         elif member.foreign:
             word, arguments = "Inside", [f'"{key}"', str(member.foreign.size), self.foreign(member.foreign, value)]
+        elif self.is_buffer(member):
+            self.used |= {"Declared", "Described"}
+            lines = BUFFER.format(name, value, value.lstrip("&")).replace("\n", f"\n{indent}")
+            arguments = [f'"{key}"', "Some(24)", f'Declared("Vec", Some(24), {name})']
+            return lines + called(f"let {name} = ", "Declared", arguments, ";", indent)
         elif self.source.counts(kind) and not any(holds(kind, each) for each in self.types):
             word = "CountedField"
         self.used.add(word)
@@ -394,7 +433,10 @@ class Writer:
         inside = f"({self.inside(words)})" if words else self.nothing
         gap = " " if len(words) > 1 else f"\n{INDENT}"
         if self.cycle or self.is_borrowed:
-            self.keep(f"{self.name}Allocative/{'+' * bool(self.cycle)}visit", [("returns", self.proof(set()))])
+            self.uses = {self.declared_at: [f"out-{self.name}"]}
+            values = [f"({self.out(self.definition, '_')} c.args.self.now).{each.name}" for each in self.members]
+            proof = self.proof(set(), values=[*zip(self.members, values)])
+            self.keep(f"{self.name}Allocative/{'+' * bool(self.cycle)}visit", [("returns", proof)])
         return self.implementation(self.shown(gap + inside), self.enter(parts, names, INDENT))
 
     # ---- enums
@@ -473,7 +515,9 @@ class Writer:
         self.facts = [*map(self.fact, variants, cases)]
         for variant, fact in zip(variants, self.facts):
             arm = "" if self.lemma else f"-in-{variant.name}"
-            proofs.append((f"returns{arm}", self.proof(taken, arm, fact, variant.is_entry)))
+            kept = self.kept(variant, [f"c{arm.replace('-', '.', 1)}.{name}" for name in bound(variant.names, 44)])
+            values = [(member, value) for member, _, value in kept]
+            proofs.append((f"returns{arm}", self.proof(taken, arm, fact, variant.is_entry, values)))
         self.keep(f"{self.name}Allocative/{'+' * bool(self.cycle)}visit", proofs, self.lemma)
 
     def one_variant(self, variant: Variant, case: str) -> str:
@@ -488,19 +532,22 @@ class Writer:
 
     def fact(self, variant: Variant, case: str) -> str:
         """What says that a value is of a variant; in a type that holds itself, that what opens it is."""
-        value = f"(out-{self.name} c.args.self.now)" if self.cycle else "c.args.self.now"
+        out = self.out(self.definition, "_")
+        value = f"({out} c.args.self.now)" if self.cycle else "c.args.self.now"
         if self.lemma:
             return f"(variant-{self.name} {value})" + (f".{len(variant.members)}" if variant.members else "")
         arm = f"c.in-{variant.name}"
         level = " ".join([case, *(f"{arm}.{name}" for name in bound(variant.names, 44))])
         if not self.cycle:
             return f"{arm}.is"
-        return f"(let e : {value[1:-1]} ≡ {level} = ap out-{self.name} {arm}.is ∙ search the_lemmas in e)"
+        return f"(let e : {value[1:-1]} ≡ {level} = ap {one_word(out)} {arm}.is ∙ search the_lemmas in e)"
 
-    def proof(self, taken: set[str], arm: str = "", fact: str = "", is_entry: bool = False) -> str:
-        """The proof of an arm: what was entered means what may be shown."""
+    def proof(
+        self, taken: set[str], arm: str = "", fact: str = "", is_entry: bool = False, values: Sequence[tuple[Member, str]] = ()
+    ) -> str:
+        """The proof of an arm with some values in its fields: what was entered means what may be shown."""
+        means = joined([self.means(taken, arm, *each) for each in values], means_of)
         sizes = [ensured(taken, "size", arm) for is_called in (is_entry, self.is_sized) if is_called]
-        means = "means_same"
         for size in sizes if self.is_sized else [*sizes, "refl"]:
             means = f"(means_field refl {size} {means})"
         entered = ensured(taken, "enter", arm)
@@ -515,6 +562,14 @@ class Writer:
             return f"visited_if {entered} {only}\n    {means}"
         return f"visited_as {f'(entered_loosely {entered})' if self.flags else entered}\n    {means}"
 
+    def means(self, taken: set[str], arm: str, member: Member, value: str) -> str:
+        """That the part of a field means what the field shows."""
+        if not self.is_buffer(member):
+            return "means_same"
+        size, length, capacity = (ensured(taken, call, arm) for call in ("size", "len", "capacity"))
+        buffer = f"(means_buffer {size} ({length} ∙ {value}.ok.0) {capacity} means_same)"
+        return f"(means_field refl refl (means_field refl refl {buffer}))"
+
     def keep(self, folder: str, proofs: list[Proof], lemma: str = "") -> None:
         """Keeps the proofs of a visit. Those of types that hold each other stand together, each with its type's name."""
         if self.cycle and self.definition.cycle:
@@ -523,7 +578,8 @@ class Writer:
 
     def answer(self, folder: str, proofs: list[Proof], lemma: str = "") -> None:
         """Keeps what a folder of proofs has: each goal with its proof, and the imports of what they name."""
-        given = "t c" if self.cycle else "g c" if self.types or self.definition.names("const") else "c"
+        is_generic = self.types or self.definition.names("const")
+        given = f"{'g ' * bool(is_generic)}{'t ' * bool(self.cycle)}c"
         body = lemma + "".join(f"\npub {goal} : goal.{goal}\n{goal} {given} =\n    {proof}\n" for goal, proof in proofs)
         words = {*WORD.findall(body), *(f"◌{sign}◌" for sign in "≡∙" if sign in body)}
         modules = self.uses | {f"Rattle.{each}": names.split() for each, names in LEMMAS.items()}
@@ -547,9 +603,17 @@ def answers_of(crate: str, found: list[Writer]) -> dict[str, str]:
     return texts
 
 
+def means_of(parts: list[str]) -> str:
+    """That a tuple of parts means what they show, from that of each."""
+    if set(parts) <= {"means_same"}:
+        return "means_same"
+    return parts[0] if len(parts) == 1 else f"(means_both {parts[0]} {means_of(parts[1:])})"
+
+
 def ensured(taken: set[str], call: str, arm: str) -> str:
     """What a call in an arm ensures. The first of its name has that name, and a later one also its arm."""
-    name = next(name for name in (call, call + arm, f"{call}{arm}-2") if name not in taken)
+    names = chain((call, call + arm), (f"{call}{arm}-{number}" for number in count(2)))
+    name = next(name for name in names if name not in taken)
     taken.add(name)
     return f"c.{name}.ensures"
 

@@ -346,7 +346,7 @@ class CommandTest(unittest.TestCase):
         self.assertIn("A, B, C hold each other: write `#[cycle(NAME)]`", self.run_it(both + three)[2][0])
         self.assertEqual(self.run_it(f"{both}#[cycle(n)]\n{three}")[0], 4)
         alone = three.replace("    D,\n", "")
-        self.assertIn("C: the checker proves no enum of one variant among", self.run_it(f"{both}#[cycle(m)]\n{alone}")[2][0])
+        self.assertIn("C: an enum of one variant that has parameters or holds others", self.run_it(f"{both}#[cycle(m)]\n{alone}")[2][0])
         self.run_it(f"{both}#[cycle(m)]\n{three}", "--output", self.crate)
         output = self.get("src/a/shown.rt")
         self.assertEqual(output.count("vec_in ⟦<BLayout as Described>⟧.size (λ y. child (second (first y))) (out-B x).b"), 3)
@@ -354,8 +354,35 @@ class CommandTest(unittest.TestCase):
         answers = self.get("proofs/a/shown/+m/Answers.antt")
         goals = re.findall(r"^pub (\S+) :", answers, re.M)
         self.assertEqual(goals, [f"{name}Allocative::visit-returns{arm}" for name, arm in (("A", ""), ("B", ""), ("C", "-in-D"), ("C", "-in-E"))])
+        same = both.replace("A {", "A<T> {").replace("Vec<A>", "Vec<A<T>>")
+        self.assertIn("A: a type with parameters that holds others which hold it", self.run_it(f"{same}#[cycle(m)]\n{three}")[2][0])
         queue = "use std::collections::*;\n#[derive(Drop)]\nstruct A {\n    a: VecDeque<A>,\n}\n"
         self.assertIn("holds the type itself in a way", self.run_it(queue)[2][0])
+
+    def test_recursive_types_with_parameters(self) -> None:
+        tree = "#[derive(Drop)]\nstruct A<T> {\n    a: T,\n    b: Vec<A<T>>,\n}\n"
+        chain = "#[derive(Drop)]\nenum B<T> {\n    End,\n    Link(T, Box<B<T>>),\n    Many(Vec<B<T>>),\n}\n"
+        status, _, told = self.run_it(tree + chain, "--output", self.crate)
+        self.assertEqual((status, told), (0, []))
+        output, answers = self.get("src/a/shown.rt"), self.get("proofs/a/shown/BAllocative/+visit/Answers.antt")
+        self.assertIn("(vec_in ⟦<ALayout<T> as Described>⟧.size child (out-A T x).b)", output)
+        self.assertIn('opened (out-B T) (λ x. field (codes "B") ⟦<BLayout<T> as Described>⟧.size (elim x [', output)
+        self.assertIn('let b = Declared("b", Some(24), Declared("Vec", Some(24), b));', output)
+        self.assertIn("e : out-B _ c.args.self.now ≡ B-F.End = ap (out-B _) c.in-End.is", answers)
+        self.assertIn("(means_buffer c.size-in-Many.ensures (c.len.ensures ∙ c.in-Many.a.ok.0) c.capacity.ensures means_same)", answers)
+        keyed = tree.replace("a: T", "a: BTreeMap<T, Box<A<T>>>")
+        self.assertNotIn("Each", self.run_it(f"use std::collections::BTreeMap;\n{keyed.replace('A<T> {', 'A<T: Ord> {')}")[1])
+        for kind, what in (
+            ("Vec<A<u8>>", "`A<u8>` holds the type itself in a way that is not written"),
+            ("Option<Vec<A<T>>>", "make it a field `Vec<A<T>>`"),
+            ("Vec<Option<A<T>>>", "make it a field `Vec<A<T>>`"),
+        ):
+            self.assertIn(what, self.run_it(tree.replace("Vec<A<T>>", kind))[2][0])
+        for text, what in (
+            (tree.replace("A<T> {", "A<'a, T> {"), "A: a type with a lifetime or a const parameter that holds itself"),
+            (chain.replace("    End,\n", "").replace("    Many(Vec<B<T>>),\n", ""), "B: an enum of one variant that has parameters"),
+        ):
+            self.assertIn(what, self.run_it(text)[2][0])
 
     def test_a_type_held_by_value_counts_by_its_layout(self) -> None:
         """`()` counts for a type that holds the written one only behind a pointer."""
