@@ -170,17 +170,14 @@ impl Service {
         let Some(account) = self.ledger.accounts().get(tenant) else {
             return tell(self.alloc, Err(Rejection::NoAccount));
         };
-        let mut documents = Vec::new(self.alloc);
-        for (key, bytes) in account.entries() {
-            documents.push((*bytes, *key))?;
-        }
-        documents.sort()?;
         let mut text = String::new(self.alloc);
-        for (_bytes, key) in documents.iter().rev() {
+        for _ in 0..account.entries().len() {
             if self.ledger.excess_of(tenant) == Some(0) {
                 break;
             }
-            text.push_str(self.remove(tenant, *key)?.as_str())?;
+            if let Some((key, _bytes)) = self.ledger.largest_of(tenant) {
+                text.push_str(self.remove(tenant, key)?.as_str())?;
+            }
         }
         Ok(text)
     }

@@ -123,6 +123,23 @@ fn accounts_of_a_ledger(rt: HostRuntime) -> Result<(), Fail> {
     shows(rt.alloc(), &one_admitted(rt.alloc())?, text)
 }
 
+/// The largest entries of a ledger: of a tenant with two equal ones, and of no tenant.
+fn largest_entries(alloc: Global) -> Result<[Option<(u64, usize)>; 2], Rejection> {
+    let mut ledger = Ledger::new(alloc, Measure::Owned);
+    ledger.open("ada", Budget { limit: 24 })?;
+    let _five = ledger.record("ada", 3, 5)?;
+    let _thirteen = ledger.record("ada", 7, 8)?;
+    let _all = ledger.record("ada", 2, 8)?;
+    Ok([ledger.largest_of("ada"), ledger.largest_of("bob")])
+}
+
+#[test]
+fn the_largest_entry_is_found(rt: HostRuntime) -> Result<(), Fail> {
+    let found = largest_entries(rt.alloc())?;
+    assert!(rt; found == [Some((2, 8)), None]);
+    Ok(())
+}
+
 /// A history of one profile, of a number.
 fn one_profile(alloc: Global) -> Result<History, Refusal> {
     let mut history = History::new(alloc, 2);
