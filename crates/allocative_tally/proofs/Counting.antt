@@ -50,13 +50,7 @@ tallies_then {w} {v} {s = s} {t = t} {u = u} a b = record {
   within = both_within w v a.counted b.counted a.within b.within;
   merged = λ r room.
       let m = a.merged r (omega (arith, room, direct-following a.counted b.counted)) in
-      let l = b.merged (m.0.plain_merged, m.1) (omega (
-        arith,
-        room,
-        direct-following a.counted b.counted,
-        direct-following (forest_of s) a.counted,
-        m.0.same_direct,
-      )) in
+      let l = b.merged (m.0.plain_merged, m.1) (omega (arith, room, direct-following, m.0.same_direct)) in
       let more = plain_parts (forest_of t) b.counted l.0.plain in
       let all = merged_then (merged_both m.0 (merged_same b.counted more.1)) l.0 in
       (subst (λ (h : Forest). Merged h (forest_of u)) (followed_by_assoc (forest_of s) a.counted b.counted) all, l.1);
@@ -153,12 +147,7 @@ tallies_entry {w} {p} x k n {old} {new} {s} {t} more c keeps inside = record {
         × (Holds t × (true ≡ false → (new.bytes ≡ 0) × (forest_of t ≡ Empty))
         × Keeps x new.bytes (forest_of t))
     one_more true (plain, (holds, none, kept)) room =
-        let sizes : old.bytes + n < 2 ^ 64 = omega (
-          arith,
-          room,
-          direct_entry (is_unique x) k n c.counted,
-          direct_entry (is_unique x) k old.bytes (forest_of s),
-        ) in
+        let sizes : old.bytes + n < 2 ^ 64 = omega (arith, room, direct_entry) in
         let right : IsRight s = (plain_inside (is_unique x) k old.bytes (forest_of s) plain, holds) in
         let m = c.merged right (inside right kept sizes) in
         rw (more.bytes sizes) (
@@ -173,12 +162,7 @@ tallies_entry {w} {p} x k n {old} {new} {s} {t} more c keeps inside = record {
         )
     one_more false (plain, (holds, none, kept)) room =
         let nothing = none refl in
-        let sizes : old.bytes + n < 2 ^ 64 = omega (
-          arith,
-          room,
-          direct_entry (is_unique x) k n c.counted,
-          nothing.0,
-        ) in
+        let sizes : old.bytes + n < 2 ^ 64 = omega (arith, room, direct_entry, nothing.0) in
         let right : IsRight s = (subst IsPlain (sym nothing.1) tt, holds) in
         let m = c.merged right (inside right kept sizes) in
         let same : Merged c.counted (forest_of t) =

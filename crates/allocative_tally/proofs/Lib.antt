@@ -3,5 +3,4 @@ pub mod Sizes
 pub mod Counting
 pub mod Entering
 pub mod Fields
-pub mod Buffers
 pub mod Items

@@ -122,7 +122,7 @@ pub fn count_slice<T: Tallied>(items: &[T], tally: &mut T::Tally) -> Result<(), 
 
 /// Counts the places of a buffer, and returns whether there is one. It returns `Err` exactly if the size is missing, or
 /// there is a buffer and `Places::add` returns `Err`.
-#[tactic(auto, using(crate::proofs::Buffers::rooms))]
+#[tactic(auto, using(crate::proofs::Items::rooms))]
 #[inline(always)]
 pub fn count_room<T: Described>(
     count: usize,

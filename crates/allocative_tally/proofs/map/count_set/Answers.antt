@@ -1,9 +1,8 @@
 -- of count_set: the keys are counted with those of sets of their kind
 use Rattle.std.proofs.Common.{arith, codes, le_refl}
 use Rattle.allocative_tally.specs.Shapes.{entries}
-use Rattle.allocative_tally.proofs.Buffers.{most_direct}
 use Rattle.allocative_tally.proofs.Fields.{if_ok}
-use Rattle.allocative_tally.proofs.Items.{run_as, small_counted, large_counted, field_direct, each_direct}
+use Rattle.allocative_tally.proofs.Items.{most_direct, run_as, small_counted, large_counted, field_direct, each_direct}
 use Rattle.allocative_tally.proofs.Sizes.{holds_itself}
 use Rattle.allocative_tally.proofs.map.count_set.Goals as goal
 

@@ -1,6 +1,6 @@
 -- of count_slice: each item, or one entry
 use Rattle.std.proofs.Common.{rules}
-use Rattle.allocative_tally.proofs.Buffers.{slice_each, slice_one}
+use Rattle.allocative_tally.proofs.Items.{slice_each, slice_one}
 use Rattle.allocative_tally.proofs.Fields.{if_ok}
 use Rattle.allocative_tally.proofs.sequence.count_slice.Goals as goal
 

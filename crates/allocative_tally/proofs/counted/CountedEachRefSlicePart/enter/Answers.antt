@@ -6,4 +6,4 @@ use Rattle.allocative_tally.proofs.counted.CountedEachRefSlicePart.enter.Goals a
 pub returns-in-Ok : goal.returns-in-Ok
 returns-in-Ok g c =
     let counted = c.in-Ok.ensures in
-    entered_all c.none_counted-tally.ensures counted.each counted.fits (search rules) c.show.ensures
+    entered_all {b = c.show.new.visitor} c.none_counted-tally.ensures counted.each counted.fits (search rules) c.show.ensures

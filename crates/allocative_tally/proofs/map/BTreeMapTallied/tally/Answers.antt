@@ -1,9 +1,8 @@
 -- of the tally of `BTreeMap`: its entry, and inside it that of its pairs
 use Rattle.std.proofs.Common.{arith, rules}
 use Rattle.std.proofs.lemmas.Iterator.Consumers.{YieldsList-from_rest}
-use Rattle.allocative_tally.proofs.Buffers.{next_container}
 use Rattle.allocative_tally.proofs.Fields.{if_ok}
-use Rattle.allocative_tally.proofs.Items.{of_run}
+use Rattle.allocative_tally.proofs.Items.{next_container, of_run}
 use Rattle.allocative_tally.proofs.map.BTreeMapTallied.tally.Goals as goal
 
 pub returns : goal.returns

@@ -6,6 +6,6 @@ use Rattle.allocative_tally.proofs.map.CountedPairsRefBTreeMapPart.enter.Goals a
 
 pub returns-in-Ok : goal.returns-in-Ok
 returns-in-Ok g c = entered_pairs _ _ (g.K.Tallied.shape c.none_counted.result) (g.K.Tallied.shape c.count_pairs.new.tally.0)
-    (g.V.Tallied.shape c.none_counted-2.result) (g.V.Tallied.shape c.count_pairs.new.tally.1) (λ f x. x)
+    (g.V.Tallied.shape c.none_counted-2.result) (g.V.Tallied.shape c.count_pairs.new.tally.1) {b = c.enter.new.visitor} (λ f x. x)
     c.none_counted.ensures c.none_counted-2.ensures c.in-Ok.ensures.fits (search rules)
     (of_run (YieldsList-from_rest _ c.iter.ensures.rest) c.in-Ok.ensures.each) c.enter.ensures.entered

@@ -1,10 +1,9 @@
 -- of the tally of `HashMap`: its entry, and inside it that of its pairs
 use Rattle.std.proofs.Common.{arith, rules}
 use Rattle.std.proofs.lemmas.Iterator.Consumers.{YieldsList-from_rest}
-use Rattle.allocative_tally.proofs.Buffers.{next_container}
 use Rattle.allocative_tally.proofs.Counting.{tallies_as}
 use Rattle.allocative_tally.proofs.Fields.{if_ok}
-use Rattle.allocative_tally.proofs.Items.{of_run, inside_as, own_order}
+use Rattle.allocative_tally.proofs.Items.{next_container, of_run, inside_as, own_order}
 use Rattle.allocative_tally.proofs.map.HashMapTallied.tally.Goals as goal
 
 pub returns : goal.returns

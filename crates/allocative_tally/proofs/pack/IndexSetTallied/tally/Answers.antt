@@ -4,9 +4,8 @@ use Rattle.std.proofs.lemmas.Iterator.Consumers.{YieldsList-from_rest}
 use Rattle.indexmap.specs.IndexSet.{spare}
 use Rattle.allocative_tally.specs.Shapes.{entries}
 use Rattle.allocative_tally.proofs.Fields.{if_ok}
-use Rattle.allocative_tally.proofs.Items.{of_run, index_counted}
+use Rattle.allocative_tally.proofs.Items.{most_direct, of_run, index_counted}
 use Rattle.allocative_tally.proofs.Sizes.{holds_itself}
-use Rattle.allocative_tally.proofs.Buffers.{most_direct}
 use Rattle.allocative_tally.proofs.pack.IndexSetTallied.tally.Goals as goal
 
 pub returns : goal.returns

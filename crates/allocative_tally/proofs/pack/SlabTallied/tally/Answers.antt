@@ -6,9 +6,8 @@ use Rattle.std.proofs.lemmas.Iterator.{YieldsList-from_map_by}
 use Rattle.std.proofs.lemmas.Iterator.Consumers.{YieldsList-from_first}
 use Rattle.slab.specs.Slab.{values}
 use Rattle.allocative.proofs.Runs.{values_count, values_from}
-use Rattle.allocative_tally.proofs.Buffers.{next_inside, buffer_counted, buffer_missing, slice_each, slice_one}
 use Rattle.allocative_tally.proofs.Fields.{if_ok}
-use Rattle.allocative_tally.proofs.Items.{of_run}
+use Rattle.allocative_tally.proofs.Items.{next_inside, buffer_counted, buffer_missing, slice_each, slice_one, of_run}
 use Rattle.allocative_tally.proofs.pack.SlabTallied.tally.Goals as goal
 
 pub returns-then-not-is_there : goal.returns-then-not-is_there

@@ -1,8 +1,7 @@
 -- of a box's tally: the box, its pointer, and inside it the value
 use Rattle.std.proofs.Common.{arith}
-use Rattle.allocative_tally.proofs.Buffers.{next_container}
 use Rattle.allocative_tally.proofs.Fields.{if_ok}
-use Rattle.allocative_tally.proofs.Items.{box_counted}
+use Rattle.allocative_tally.proofs.Items.{next_container, box_counted}
 use Rattle.allocative_tally.proofs.sequence.BoxTallied.tally.Goals as goal
 
 pub returns : goal.returns

@@ -1,6 +1,6 @@
 -- of a text's tally: the text's entries
 use Rattle.std.proofs.Common.{arith}
-use Rattle.allocative_tally.proofs.Buffers.{text_counted}
+use Rattle.allocative_tally.proofs.Items.{text_counted}
 use Rattle.allocative_tally.proofs.sequence.StringTallied.tally.Goals as goal
 
 pub returns : goal.returns

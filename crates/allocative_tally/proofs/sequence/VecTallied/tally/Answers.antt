@@ -1,6 +1,6 @@
 -- of a vector's tally: its buffer, if there is one
 use Rattle.std.proofs.Common.{arith, rules}
-use Rattle.allocative_tally.proofs.Buffers.{next_container, buffer_counted, buffer_missing}
+use Rattle.allocative_tally.proofs.Items.{next_container, buffer_counted, buffer_missing}
 use Rattle.allocative_tally.proofs.Fields.{if_ok}
 use Rattle.allocative_tally.proofs.sequence.VecTallied.tally.Goals as goal
 

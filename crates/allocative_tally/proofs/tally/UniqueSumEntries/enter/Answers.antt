@@ -7,4 +7,4 @@ pub returns-then-not-self : goal.returns-then-not-self
 returns-then-not-self g c = enters_none Unique c.args.visitor.now c.if-not-self.true
 
 pub returns : goal.returns
-returns g c = enters_shape c.enter.ensures (means_there Unique c.if-not-self.false)
+returns g c = enters_shape {b = c.enter.new.visitor} c.enter.ensures (means_there Unique c.if-not-self.false)
