@@ -24,8 +24,8 @@ MANY = set("Vec VecDeque BTreeMap BTreeSet HashMap HashSet IndexMap IndexSet".sp
 HOMES = {"field": {"CountedField", "FieldMany", "OwnTally", "count_own"}}
 HOMES["tally"] = {"CountError", "Entries", "InlineSum", "Sum", "Tallied", "added", "declared"}
 SHAPES = {"Beside", "NoEntry", "entries"}
+NAMED_LENGTH = re.compile(r"; *[A-Za-z_]")
 HUMP = re.compile(r"(?<=[a-z0-9])(?=[A-Z])")
-STARTING = "#[tactic(auto, using(allocative_tally::proofs::Fields::starting))]\n"
 
 
 class Part(NamedTuple):
@@ -112,6 +112,10 @@ class Tally:
         # Those with a field of the tally: a field that is shown by its size alone has none, but a variant counts.
         self.kept = [each for each in self.flat if each.bytes is None or (self.definition.is_enum and each in inside)]
         self.parameters = [f"S{number + 1}" for number in range(len(self.kinds))]
+        # The sizes are numbers, unless a parameter or the length of an array has a name.
+        lengths = [NAMED_LENGTH.search(each.type.text) for each in self.definition.shown]
+        is_open = writer.types or writer.definition.names("const") or any(lengths)
+        self.room = "(search (rules, holding))" if is_open else "(holds_bytes (omega arith))"
         self.name = writer.source.free(writer.name, "Tally")
         self.text = self.struct() + self.tallied()
 
@@ -178,8 +182,10 @@ class Tally:
             body += f"{INDENT}Ok(())\n"
         writer.answer(f"{writer.name}Tallied/tally", self.counted(), writer.lemma)
         writer.answer(f"{writer.name}Tallied/show", [("returns", self.sums())])
+        depth = 2 * len(self.flat) + 2
+        writer.answer(f"{writer.name}Tallied/none_counted", [("returns", f"search (rules, starting) depth {depth}")])
         return (
-            f"{STARTING}{writer.head('Tallied', 'Tallied')}    type Tally = {kind};\n\n"
+            f"{writer.head('Tallied', 'Tallied')}    type Tally = {kind};\n\n"
             f"    ghost shape = {{ λ t n. {self.shape(self.root, 'n')[1:-1]} }};\n\n"
             f"    ghost bounded = {{ λ t n. le_refl _ }};\n\n"
             f"    fn none_counted() -> Self::Tally {{\n{self.none()}    }}\n\n"
@@ -261,7 +267,7 @@ class Tally:
     def counted(self) -> list[tuple[str, str]]:
         """The proofs of what is counted, each with the name of its goal."""
         if not self.definition.is_enum:
-            return [("returns", whole("next_whole", fields(self.root.inside, "")))]
+            return [("returns", self.whole("next_whole", fields(self.root.inside, "")))]
         found = []
         for (variant, part), fact in zip(self.arms, self.writer.facts):
             arm = f"-in-{variant.name}" if self.arms[1:] else ""
@@ -273,12 +279,16 @@ class Tally:
             elif part:
                 case = f"case_counted c.in_ok-declared{arm or '-2'}.ensures (omega arith)"
                 # The first step that is named `tally` is that which adds to the number of the variant.
-                proof = f"({case}\n    {fields(part.inside, arm, 2)}\n    (search (rules, holding)))"
+                proof = f"({case}\n    {fields(part.inside, arm, 2)}\n    {self.room})"
                 last = f"_ok-tally{arm}{ordinal(len([each for each in part.inside if each.kind]) + 1)}"
             proof = placed(paired([*self.root.inside], lambda one, later: [one, later], None), part, proof) if part else proof
             goal = f"returns-in{last}" if arm else "returns"
-            found.append((goal, f"next_as (λ f. rw {fact} (λ x. x))\n    ({whole('next_case', proof)})"))
+            found.append((goal, f"next_as (λ f. rw {fact} (λ x. x))\n    ({self.whole('next_case', proof)})"))
         return found
+
+    def whole(self, lemma: str, inside: str) -> str:
+        """The proof for the entry of a value, from that for what is inside it."""
+        return f"{lemma} c.in_ok-declared.ensures\n    {inside}\n    {self.room}"
 
 
 def quoted(key: str) -> str:
@@ -297,11 +307,6 @@ def fields(parts: tuple[Part, ...], arm: str, start: int = 1) -> str:
         steps.append(f"(next_field c.in_ok-tally{arm}{ordinal(start)}.ensures)" if part.kind else "next_fixed")
         start += bool(part.kind)
     return paired(steps, "(next_both\n    {}\n    {})".format, "next_nothing")
-
-
-def whole(lemma: str, inside: str) -> str:
-    """The proof for the entry of a value, from that for what is inside it."""
-    return f"{lemma} c.in_ok-declared.ensures\n    {inside}\n    (search (rules, holding))"
 
 
 def placed(tree: Any, part: Part, proof: str) -> str:

@@ -56,7 +56,8 @@ LEMMAS = {
     "allocative.proofs.Parts": "strict",
     "allocative_tally.proofs.Counting": "first_counted second_counted",
     "allocative_tally.proofs.Fields": "case_counted fixed_counted holding next_as next_both next_case next_field next_fixed "
-    "next_nothing next_whole nothing_counted own_counted",
+    "next_nothing next_whole nothing_counted own_counted starting",
+    "allocative_tally.proofs.Sizes": "holds_bytes",
 }
 DESCRIBED = {"align": "usize", "needs_drop": "bool", "size": "Option<usize>"}
 

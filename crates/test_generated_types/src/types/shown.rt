@@ -101,7 +101,6 @@ pub struct TableTally<S1, S2> {
     last: S2,
 }
 
-#[tactic(auto, using(allocative_tally::proofs::Fields::starting))]
 impl<K: Tallied, V: Tallied> Tallied for Table<K, V>
 where
     K: Eq + Hash,
@@ -259,7 +258,6 @@ pub struct EventTally {
     sale_prices: <Vec<u64> as Tallied>::Tally,
 }
 
-#[tactic(auto, using(allocative_tally::proofs::Fields::starting))]
 impl Tallied for Event {
     type Tally = EventTally;
 
@@ -385,7 +383,6 @@ pub struct CartTally {
     bought_items_names: <Vec<String> as Tallied>::Tally,
 }
 
-#[tactic(auto, using(allocative_tally::proofs::Fields::starting))]
 impl Tallied for Cart {
     type Tally = CartTally;
 
@@ -507,7 +504,6 @@ pub struct ParcelTally {
     named_name: <String as Tallied>::Tally,
 }
 
-#[tactic(auto, using(allocative_tally::proofs::Fields::starting))]
 impl Tallied for Parcel {
     type Tally = ParcelTally;
 

@@ -1,8 +1,9 @@
 -- Written by bin/implement.
 use Rattle.test_generated_types.specs.declared.types.Cart.{Cart}
 use Rattle.test_generated_types.specs.declared.types.Cart.TheVariants.{BoughtItems}
-use Rattle.std.proofs.Common.{arith, refl, rules, ◌≡◌}
-use Rattle.allocative_tally.proofs.Fields.{case_counted, holding, next_as, next_both, next_case, next_field}
+use Rattle.std.proofs.Common.{arith, refl, ◌≡◌}
+use Rattle.allocative_tally.proofs.Fields.{case_counted, next_as, next_both, next_case, next_field}
+use Rattle.allocative_tally.proofs.Sizes.{holds_bytes}
 use Rattle.test_generated_types.proofs.types.shown.CartTallied.tally.Goals as goal
 
 variant-Cart : (x : Cart) → (a : _) × (b : _) × (x ≡ BoughtItems a b)
@@ -16,5 +17,5 @@ returns c =
     (next_both
     (next_field c.in_ok-tally-2.ensures)
     (next_field c.in_ok-tally-3.ensures))
-    (search (rules, holding)))
-    (search (rules, holding)))
+    (holds_bytes (omega arith)))
+    (holds_bytes (omega arith)))
