@@ -23,6 +23,8 @@ INDENT = " " * 8
 LARGEST_REACH = 430
 # A value of a type has at most so many names of types in it, not behind pointers. The checker stops with 934.
 LARGEST_VALUE = 830
+# A layout has at most so many lists of types that differ. The checker proves one with 50, and covers none with 70.
+LARGEST_LAYOUT = 60
 EMPTY = type_of("()")
 # The lines that make the buffer of a `Vec`, whose items are shown one by one: its name, a reference to it, and its place.
 BUFFER = """let {0} = allocative::Buffer {{
@@ -192,6 +194,9 @@ class Writer:
         pairs = list(zip(self.definition.variants, lists))
         if self.definition.is_enum:
             lists = [nested([type_of("u8"), greatest(lists)])]
+        if len({part.text for part in lists[0].all() if part.form == "list"}) > LARGEST_LAYOUT:
+            what = "it has too many fields for the checker: put some of them, as those of a variant, into a struct of your own"
+            raise Fault(self.definition.at, what)
         self.record, text = self.alias(self.record, lists[0])
         # A type with parameters that holds itself counts by its layout with those.
         self.counting.layouts |= {self.name: self.record} if self.cycle else {}

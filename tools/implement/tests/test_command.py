@@ -413,6 +413,14 @@ class CommandTest(unittest.TestCase):
         self.assertIn("B6: it has too many fields in one value", self.run_it(types)[2][0])
         self.assertEqual(self.run_it(types.replace("(B5, B5, B5)", "(Box<B5>)"))[0], 0)
 
+    def test_large_layouts(self) -> None:
+        kinds = "u8 u16 u32 u64 i8 i16 i32 i64 f32 f64 bool char String usize isize".split()
+        for count, status in ((10, 0), (11, 4)):
+            variants = ", ".join(f"V{each}({', '.join(kinds[each : each + 5])})" for each in range(count))
+            result = self.run_it(f"#[derive(Drop)]\nenum A {{ {variants} }}\n")
+            self.assertEqual(result[0], status)
+        self.assertIn("A: it has too many fields for the checker: put some of them, as those of a variant, into a struct", result[2][0])
+
     def test_paths_of_the_module_itself(self) -> None:
         text = POINT + "#[derive(Drop)]\nstruct A {\n    a: Vec<self::Point>,\n    // allocative: size 8\n    b: super::B,\n}\n"
         self.assertIn("type ALayout = Record<(Vec<Point>, ([u8; 8], ([String; 0], ())))>;", self.run_it(text)[1])
