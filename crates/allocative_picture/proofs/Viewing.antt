@@ -13,7 +13,9 @@ use Rattle.allocative_graph.specs.Rows.{Figures, figures, row_figures}
 use Rattle.allocative_graph.specs.declared.flamegraph.Row.{Row}
 use Rattle.allocative_graph.proofs.Text.{texts}
 use Rattle.allocative_graph.proofs.Children.{total_of-cons}
-use Rattle.allocative_graph.proofs.Graphs.{total-default, total-added_up, size_at-added_up, total-all}
+use Rattle.std.proofs.lemmas.List.Sorted.{IsPermutation-map}
+use Rattle.std.specs.List.Sorted.{IsPermutation}
+use Rattle.allocative_graph.proofs.Graphs.{added_up-permuted, total-default, total-added_up, size_at-added_up, total-all}
 use Rattle.allocative_graph.proofs.Graphs.{size_at-default, size_at-sum_of, total-sum_of, total-under, get-under}
 use Rattle.allocative_graph.proofs.Children.{total-node}
 use Rattle.allocative_graph.proofs.Nodes.{total-path}
@@ -176,12 +178,13 @@ row_more rs i r within at =
     ∙ map-append row_figures (take i rs) (r ∷ []) in
     sym (ap added_figures more ∙ fold-append (λ (h : Graph) (x : Figures). sum_of h (bytes_at_last_key x.path x.self_size)) default (map row_figures (take i rs)) (row_figures r ∷ []))
 
--- After the last row all bytes are added up.
-pub rows-added : (g : Graph) (rs items : List Row) (i : ℕ) (h : Graph) →
-    h ≡ added_figures (map row_figures (take i items)) → length items ≤ i → items ≡ rs → map row_figures rs ≡ figures g →
-    h ≡ by_last_key g
-rows-added g rs items i h is all same are =
+-- After the last row all bytes are added up, in whichever order the rows are.
+pub rows-added : (g : Graph) (rs sorted items : List Row) (i : ℕ) (h : Graph) →
+    h ≡ added_figures (map row_figures (take i items)) → length items ≤ i → items ≡ sorted → IsPermutation rs sorted →
+    map row_figures rs ≡ figures g → h ≡ by_last_key g
+rows-added g rs sorted items i h is all same order are =
     is ∙ ap (λ (xs : List Row). added_figures (map row_figures xs)) (take_all i items all ∙ same)
+    ∙ added_up-permuted (λ (f : Figures). bytes_at_last_key f.path f.self_size) default (map row_figures rs) (map row_figures sorted) (IsPermutation-map row_figures rs sorted order)
     ∙ ap added_figures are ∙ added-figures g
 
 -- After the last row the lines of all are written.

@@ -5,7 +5,7 @@ ghost use Rattle.allocative_graph.specs.Path.{Key, texts};
 ghost use Rattle.allocative_graph.specs.Graph.{size_at, sum_of, total, under};
 ghost use Rattle.allocative_picture.specs.Views.{by_last_key, bytes_alone, bytes_at_last_key, bytes_ending_in, joined, GuidesChild, IsOutline};
 
-use allocative_graph::flamegraph::{Child, FlameGraph};
+use allocative_graph::flamegraph::{Child, FlameGraph, Row};
 use allocative_graph::key::Key;
 use std::alloc::{AllocError, Global};
 
@@ -109,6 +109,11 @@ fn bytes_at_last_key(
     Ok(view)
 }
 
+/// The last key of a row's path, or an empty one of the root's.
+fn last_key(row: &Row) -> &'static str {
+    row.path.last().copied().unwrap_or("")
+}
+
 /// The bytes of a graph by last key: all paths that end in a key add up under that key alone. The root keeps its own
 /// bytes. The only error is that memory runs out.
 #[tactic(auto, using(crate::proofs::Viewing::row_more))]
@@ -117,9 +122,11 @@ pub fn by_last_key(alloc: Global, graph: &FlameGraph) -> Result<FlameGraph, Allo
     ensures total { IfOk result (λ view. total view ≡ total graph.now) }
     ensures sizes { IfOk result (λ view. (k : Key) → size_at view (k ∷ []) ≡ bytes_ending_in k graph.now) }
 {
-    let Ok(rows) = graph.rows() else {
+    let Ok(mut rows) = graph.rows() else {
         return Err(AllocError);
     };
+    // Each key is then added behind those that are there. The result of a sum does not depend on it.
+    rows.sort_unstable_by(|a: &Row, b: &Row| last_key(a).cmp(last_key(b)));
     let mut view = FlameGraph::default(alloc);
     for row in &rows {
         let added = bytes_at_last_key(alloc, row.path.as_slice(), row.self_size)?;
