@@ -415,7 +415,7 @@ class CommandTest(unittest.TestCase):
 
     def test_large_layouts(self) -> None:
         kinds = "u8 u16 u32 u64 i8 i16 i32 i64 f32 f64 bool char String usize isize".split()
-        for count, status in ((10, 0), (11, 4)):
+        for count, status in ((11, 0), (12, 4)):
             variants = ", ".join(f"V{each}({', '.join(kinds[each : each + 5])})" for each in range(count))
             result = self.run_it(f"#[derive(Drop)]\nenum A {{ {variants} }}\n")
             self.assertEqual(result[0], status)
