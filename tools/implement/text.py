@@ -148,6 +148,8 @@ class Writer:
         self.facts: list[str] = []
         members = [member for each in cycle or [definition] for member in each.shown]
         self.flags = sorted(set().union(*map(self.flags_of, members)))
+        # Whether the flag is stated: of a type that holds itself if it depends on parameters alone.
+        self.is_flagged = not cycle or set(self.flags) <= {f"{each}.is_strict" for each in self.types}
         if self.scope.names_in(type_of(self.name)) > LARGEST_VALUE:
             raise Fault(definition.at, "it has too many fields in one value for the checker: put large ones into a `Box`")
         if [*self.cycle][:1] == [self.name]:
@@ -332,9 +334,9 @@ class Writer:
     def is_strict(self) -> str:
         """The line of the flag, or nothing if it is not known."""
         flags = self.flags
-        if flags and self.cycle:
+        if not self.is_flagged:
             return ""
-        if flags and not self.definition.is_enum:
+        if flags and not (self.definition.is_enum or self.cycle):
             kinds = [member.type.text if member.is_whole else "" for member in self.members]
             flags = [f"⟦<{kind} as Allocative>⟧.is_strict" if kind else "true" for kind in kinds]
         text = joined([*flags], lambda parts: f"({' && ('.join(parts)}{')' * len(parts)}")[1:-1] if flags else "true"
@@ -565,7 +567,7 @@ class Writer:
             means = f"(means_opened _ _ refl {fact}\n    {means})" if fact else f"(means_recursive {means})"
         if fact and (self.lemma or not self.cycle):
             means = f"(rw {fact}\n    {means})"
-        if self.flags and not self.cycle:
+        if self.flags and self.is_flagged:
             return f"visited_if {entered} {only}\n    {means}"
         return f"visited_as {f'(entered_loosely {entered})' if self.flags else entered}\n    {means}"
 

@@ -365,6 +365,7 @@ class CommandTest(unittest.TestCase):
         status, _, told = self.run_it(tree + chain, "--output", self.crate)
         self.assertEqual((status, told), (0, []))
         output, answers = self.get("src/a/shown.rt"), self.get("proofs/a/shown/BAllocative/+visit/Answers.antt")
+        self.assertEqual(output.count("    ghost is_strict = { T.is_strict };\n"), 2)
         self.assertIn("(vec_in ⟦<ALayout<T> as Described>⟧.size child (out-A T x).b)", output)
         self.assertIn('opened (out-B T) (λ x. field (codes "B") ⟦<BLayout<T> as Described>⟧.size (elim x [', output)
         self.assertIn('let b = Declared("b", Some(24), Declared("Vec", Some(24), b));', output)
