@@ -3,7 +3,7 @@ ghost use Rattle.std.specs.Prelude.{◌≡◌, ◌+◌, ◌-◌, ◌↔◌, All,
 ghost use Rattle.allocative.specs.Graph.{ExceedWord};
 ghost use Rattle.allocative_service.specs.Changes.{change_data, data_of, kind_of, growth, rank, shrinkage, changes_of, GrewAsMuch, GrewMost, HasEach, IsByGrowth, IsWord};
 
-use crate::history::walk::changes_of;
+use crate::history::walk::push_changes;
 use allocative::{FlameGraph, Refusal};
 use std::alloc::{AllocError, Global};
 
@@ -74,7 +74,8 @@ impl Change {
 }
 
 /// The changes from one profile to another: exactly the paths whose bytes differ, each with its bytes in both, in the
-/// order of paths.
+/// order of paths. A change holds its whole path, so the changes of a chain take the square of its depth; `change_picture`
+/// of the crate `allocative_picture` needs no list.
 ///
 /// It returns `TooLarge` exactly if the two totals together exceed `usize::MAX`. The totals of two finished profiles
 /// never do. The only other error is that memory runs out.
@@ -92,9 +93,11 @@ pub fn compare(
     if later.total_size() > usize::MAX - earlier.total_size() {
         return Err(Refusal::TooLarge);
     }
-    let mut both = earlier.clone()?;
-    both.add(later.clone()?)?;
-    Ok(changes_of(alloc, &both, earlier, later)?)
+    let missing = FlameGraph::default(alloc);
+    let mut path: Vec<&'static str> = Vec::new(alloc);
+    let mut changes = Vec::new(alloc);
+    push_changes(earlier, later, &missing, &mut path, &mut changes)?;
+    Ok(changes)
 }
 
 /// The changes of the paths that grew most, up to a count, the greatest growth first. A path that had no bytes before

@@ -1,19 +1,23 @@
--- of push_changes: its recursion ends and the invariant of its loop
-use Rattle.std.proofs.Common.{◌≡◌, ◌++◌, map, take, option_copied}
+-- of push_changes: its recursion ends, the invariant of its loop, and its loop ends
+use Rattle.std.proofs.Common.{◌≡◌, ◌+◌, ◌≤◌, ◌++◌, List, length, map}
 use Rattle.std.specs.FinMap.{len}
 use Rattle.allocative.specs.Rows.{rows_of}
-use Rattle.allocative_service.proofs.Common.{change_data}
-use Rattle.allocative_service.specs.Walk.{size_in, changes_behind}
+use Rattle.allocative_service.proofs.Common.{change_data, Changed}
+use Rattle.allocative_service.proofs.Walk.{Walks}
 use Rattle.allocative_service.proofs.history.walk.+push_changes.Given as goal
 
 abbrev pub decreases-push_changes : goal.decreases-push_changes
-decreases-push_changes l = len l.both.now
+decreases-push_changes l = len l.earlier.now + len l.later.now
 
--- The changes of the children before this one are there.
-abbrev pub invariant-loop-child : goal.invariant-loop-child
-invariant-loop-child l = record {
+-- The changes of the children that were taken are there.
+abbrev pub invariant-loop-key : goal.invariant-loop-key
+invariant-loop-key l = record {
+  made : List Changed;
+  walk : Walks (map (λ k. k.now) l.initial.path.items) l.initial.mine l.initial.theirs made l.mine l.theirs;
+  changes : map change_data l.changes.items ≡ map change_data l.initial.changes.items ++ made;
   path : l.path.items ≡ l.initial.path.items;
-  changes : map change_data l.changes.items ≡ map change_data l.initial.changes.items
-      ++ changes_behind (size_in (option_copied l.earlier)) (size_in (option_copied l.later))
-      (map (λ k. k.now) l.initial.path.items) (rows_of (take l.child-index l.children));
+  fewer : length (rows_of l.mine) + length (rows_of l.theirs) ≤ length (rows_of l.initial.mine) + length (rows_of l.initial.theirs);
 }
+
+abbrev pub decreases-loop-key : goal.decreases-loop-key
+decreases-loop-key l = length l.mine + length l.theirs
