@@ -1,5 +1,5 @@
 -- The changes of a node are its own and then those of its children, which are taken in the order of their keys.
-use Rattle.std.proofs.Common.{◌≡◌, ℕ, ◌+◌, ◌≤◌, ◌==◌, cond, true, Option, Some, IfSome, arith, refl, List, [], ◌∷◌}
+use Rattle.std.proofs.Common.{◌≡◌, ℕ, ◌+◌, ◌≤◌, ◌==◌, cond, true, Some, IfSome, arith, refl, List, [], ◌∷◌}
 use Rattle.std.proofs.Common.{◌++◌, length, length-append, sym, ap, subst, subst₂, ◌∙◌, append_assoc, append-nil, flat_map}
 use Rattle.std.specs.declared.cmp.Ordering.{Ordering}
 use Rattle.allocative_graph.specs.declared.flamegraph.Child.{Child}

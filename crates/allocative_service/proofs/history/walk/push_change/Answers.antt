@@ -3,7 +3,6 @@ use Rattle.std.proofs.Common.{◌≡◌, ◌==◌, false, refl, arith}
 use Rattle.std.proofs.lemmas.Bool.Decides.{nat_tests}
 use Rattle.std.proofs.lemmas.List.{map_push}
 use Rattle.std.proofs.lemmas.List.Elements.{same_from_all_zip}
-use Rattle.allocative_service.proofs.Common.{change_data}
 use Rattle.allocative_service.proofs.history.walk.push_change.Goals as goal
 
 pub returns : goal.returns
