@@ -1,4 +1,5 @@
 //! Measures workloads on the proved crates and on the same design in plain Rust, and prints a table of both.
+mod instructions;
 mod marks;
 mod names;
 mod ours;
@@ -9,6 +10,7 @@ mod stack;
 mod theirs;
 mod values;
 
+use instructions::Counted;
 use names::Names;
 use std::env;
 use std::fs;
@@ -224,13 +226,27 @@ fn print_machine() {
     );
 }
 
+/// The steps of the proved crates whose instructions are counted.
+fn counted() -> impl Iterator<Item = Counted> {
+    let workloads = [graphs(), collectors(), values()].into_iter().flatten();
+    let steps = workloads.map(|workload| Counted {
+        name: workload.name,
+        steps: workload.steps,
+        calls: 1,
+    });
+    steps.chain(services::counted())
+}
+
 /// With the word `stack` what calls take of the stack, with `resident` what containers take of memory, and with
-/// `instructions` how many instructions calls of ledgers and stores take; with another word only the workloads whose names
-/// have it. A container and a count make that one container.
+/// `instructions` how many instructions steps take, where another word may follow; with another word only the workloads
+/// whose names have it. A container and a count make that one container.
 fn main() {
     let words: Vec<String> = env::args().skip(1).collect();
     if let [_, container, count] = &words[..] {
         return resident::print_row(container.parse().unwrap(), count.parse().unwrap());
+    }
+    if words.first().is_some_and(|word| word == "instructions") {
+        return instructions::print_table(counted(), words.get(1).map(String::as_str));
     }
     let only = words.into_iter().next();
     print_machine();
@@ -238,7 +254,6 @@ fn main() {
     match only.as_deref() {
         Some("stack") => return stack::print_table(&names),
         Some("resident") => return resident::print_table(),
-        Some("instructions") => return services::print_instructions(),
         _ => {}
     }
     // A chain of 10,000 calls is deeper than the first thread's stack may be.

@@ -1,8 +1,7 @@
 //! What calls of services and pictures take, which have no counterpart in plain Rust.
+use crate::instructions::Counted;
 use crate::names::Names;
 use crate::{Side, measure, ours};
-use std::process::{Command, Stdio, id};
-use std::{env, fs};
 
 /// Steps of the proved crates, each of so many calls.
 struct Service {
@@ -72,13 +71,22 @@ fn services() -> Vec<Service> {
     }
     let compare = |names: &Names| ours::compare(names, 46);
     let name = "two cubes of 46, 99,498 paths".into();
-    all.push(service(name, COMPARED, 1, compare));
+    all.push(service(name, &COMPARED[..2], 1, compare));
     for depth in [2_500, 5_000, 10_000] {
         let chains = move |names: &Names| ours::chains(names, depth);
         let name = format!("two chains of {depth} levels");
         all.push(service(name, COMPARED, 1, chains));
     }
     all
+}
+
+/// The steps whose instructions are counted.
+pub fn counted() -> impl Iterator<Item = Counted> {
+    services().into_iter().map(|service| Counted {
+        name: service.name,
+        steps: service.steps,
+        calls: service.calls as u64,
+    })
 }
 
 pub fn print_table(names: &Names, only: Option<&str>) {
@@ -93,38 +101,5 @@ pub fn print_table(names: &Names, only: Option<&str>) {
             let each = time.as_secs_f64() * 1e6 / service.calls as f64;
             println!("| {} | {step} | {each:.3} |", service.name);
         }
-    }
-}
-
-/// How many instructions each call on an entry takes, by callgrind, which counts anew at each mark.
-pub fn print_instructions() {
-    println!("\n| value | call | instructions |\n|---|---|---:|");
-    let folder = env::temp_dir().join(format!("allocative-bench-{}", id()));
-    for service in services() {
-        if !service.name.contains("entries") {
-            continue;
-        }
-        fs::create_dir(&folder).unwrap();
-        let mut process = Command::new("valgrind");
-        process.args(["--tool=callgrind", "--dump-before=bench_mark"]);
-        process.arg(format!("--callgrind-out-file={}/out", folder.display()));
-        process.arg(env::current_exe().unwrap()).arg(&service.name);
-        let ended = process
-            .stdout(Stdio::null())
-            .stderr(Stdio::null())
-            .status()
-            .unwrap();
-        assert!(ended.success(), "{} is counted", service.name);
-        // The first count is of what comes before the first step.
-        for (step, at) in service.steps.iter().zip(2..) {
-            let text = fs::read_to_string(folder.join(format!("out.{at}"))).unwrap();
-            let total = text
-                .lines()
-                .find_map(|line| line.strip_prefix("totals: "))
-                .unwrap();
-            let each = total.trim().parse::<u64>().unwrap() / service.calls as u64;
-            println!("| {} | {step} | {each} |", service.name);
-        }
-        fs::remove_dir_all(&folder).unwrap();
     }
 }
