@@ -19,8 +19,10 @@ WIDTH = 100
 GROUP = 5
 INDENT = " " * 8
 # If a type holds itself, at most so many names of types stand in its fields and in those of the types that it reaches.
-# The checker proves the drop of such a type with 373 names, and stops with 451.
+# The checker proves the drop of such a type with 373 names, and stops with 451; with parameters it proves one with 222, and
+# stops with 263.
 LARGEST_REACH = 430
+LARGEST_GENERIC_REACH = 230
 # A value of a type has at most so many names of types in it, not behind pointers. The checker stops with 934.
 LARGEST_VALUE = 830
 # A layout has at most so many lists of types that differ. The checker proves one with 50. Its borrow checker covers one
@@ -477,7 +479,8 @@ class Writer:
         """Refuses a type that holds itself and reaches too much for the checker."""
         types, reached = self.scope.module.types, self.source.reached(self.name)
         members = [member for name in reached for member in types[name].members]
-        if sum(len(NAME.findall(member.type.text)) for member in members) > LARGEST_REACH:
+        most = LARGEST_GENERIC_REACH if self.types else LARGEST_REACH
+        if sum(len(NAME.findall(member.type.text)) for member in members) > most:
             why = f"the {len(reached)} types that it reaches have too many fields for the checker: let it hold fewer types"
             raise Fault(self.definition.at, f"it holds itself, and {why}")
 

@@ -335,10 +335,10 @@ class CommandTest(unittest.TestCase):
     def test_recursive_types_and_cycles(self) -> None:
         two = "#[derive(Drop)]\nstruct A {\n    b: Vec<B>,\n}\n#[derive(Drop)]\nstruct B {\n    a: Vec<A>,\n}\n"
         self.assertIn("#[cycle(NAME)]", self.run_it(two)[2][0])
-        for count, status in ((42, 0), (43, 4)):
+        for count, own, status in ((22, "A<T>", 0), (23, "A<T>", 4), (42, "A", 0), (43, "A", 4)):
             held = "".join(f"#[derive(Drop)]\nstruct B{each}({', '.join(['u8'] * 9)});\n" for each in range(count))
             names = ", ".join(f"B{each}" for each in range(count))
-            types = f"{held}#[derive(Drop)]\nstruct A(Vec<A>, {names});\n"
+            types = f"{held}#[derive(Drop)]\nstruct {own}(Vec<{own}>, {names});\n"
             self.assertEqual(self.run_it(types)[0], status)
         self.assertIn("A: it holds itself, and the 44 types that it reaches have too many fields", self.run_it(types)[2][0])
         three = "#[derive(Drop)]\nenum C {\n    D,\n    E(Vec<A>),\n}\n"
