@@ -13,7 +13,7 @@ use Rattle.allocative_collectors.specs.Places.{MeetsAs}
 use Rattle.allocative_graph.specs.Collector.{enter, leave, outer_of}
 use Rattle.allocative_graph.specs.Sums.{bytes_entered}
 use Rattle.allocative_graph.specs.Visits.{HasRoom, Refuses}
-use Rattle.allocative.specs.Making.{followed_by_plan, had_failed, Keeps, MakesPlanOrGives}
+use Rattle.allocative.specs.Making.{followed_by_plan, had_failed, KeepsFailure, MakesPlanOrGives}
 use Rattle.allocative.specs.Strict as refuses
 use Rattle.allocative.proofs.Strict.{only_if_full_nothing, only_if_full_field, only_if_full_not_field}
 use Rattle.allocative.proofs.Visits.{adds_nothing, adds_field, not_entered, not_entered_cause, refuses_entry}
@@ -132,7 +132,7 @@ failed_makes (entry_refused stays_failed) = (refl, refl)
 failed_makes (inside_refused g m) = elim g [ ]
 
 -- Making entries keeps the cause of a failed collector.
-pub makes_keeps : {p : Plan} {a b : Visitor} {r : Result Unit Refusal} → MakesPlan p a b r → Keeps a b r
+pub makes_keeps : {p : Plan} {a b : Visitor} {r : Result Unit Refusal} → MakesPlan p a b r → KeepsFailure a b r
 makes_keeps {p = p} {b = b} {r = r} m = record {
   keeps =
       λ e h. failed_makes (subst (λ s. Makes p s r b.collector.now) h m);
@@ -140,7 +140,7 @@ makes_keeps {p = p} {b = b} {r = r} m = record {
 
 -- A collector that went on had not failed.
 pub kept_after : {a b : Visitor} {t : State} {u : Unit} {r : Result Unit Refusal} →
-    Makes Done a.collector.now (Ok u) t → Keeps a b r
+    Makes Done a.collector.now (Ok u) t → KeepsFailure a b r
 kept_after {t = t} {u = u} m = record {
   keeps =
       λ e h. let i = (failed_makes (subst (λ s. Makes Done s (Ok u) t) h m)).0 in cc;

@@ -75,7 +75,7 @@ pub data MakesFirst (k : Key) (size : Option ℕ) (old new : Visitor) : Result U
 
 -- A visitor whose collector had failed returns its first cause, and the collector stays as it is. Nothing is said of
 -- one that has not failed.
-pub record Keeps (old new : Visitor) (r : Result Unit Refusal) : Type 0 where
+pub record KeepsFailure (old new : Visitor) (r : Result Unit Refusal) : Type 0 where
   pub keeps : (e : Refusal) → HasFailed old.collector.now e → (r ≡ Err e) × HasFailed new.collector.now e
 
 -- What a call at a visitor over an iterator does to its collector: it makes the entries of a plan, or the iterator,

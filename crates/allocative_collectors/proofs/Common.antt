@@ -15,7 +15,7 @@ pub use Rattle.allocative_collectors.specs.Warned.{size_at_place, is_std_data, i
 pub use Rattle.allocative_collectors.specs.Warned.{MakesGraph, MakesPart, is_short, rows_behind}
 pub use Rattle.allocative_collectors.specs.Listed.{IsEntered, Listed, Sum, put, map_of, path_at, root_sum, row, sum_at}
 pub use Rattle.allocative_collectors.specs.Nodes.{IsTree, shape, sums_of, HasKey, IsArena, IsChild, IsKeyGap, KeysRise}
-pub use Rattle.allocative_collectors.specs.Nodes.{Shape, StandsIn, at, bytes_at, children_at, key_at, key_in, keys_at}
+pub use Rattle.allocative_collectors.specs.Nodes.{NodeShape, StandsIn, at, bytes_at, children_at, key_at, key_in, keys_at}
 pub use Rattle.allocative_collectors.specs.Nodes.{keys_of, leaf, no_shape, parent_at, sums, before, chunk_at, flat}
 pub use Rattle.allocative_collectors.specs.Nodes.{numbers, numbers_in}
 pub use Rattle.allocative_collectors.specs.Places.{IsPlaced, live}

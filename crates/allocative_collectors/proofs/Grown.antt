@@ -2,7 +2,7 @@
 use Rattle.std.proofs.Common.{◌≡◌, ◌≢◌, ℕ, ◌+◌, ◌-◌, ◌<◌, ◌≤◌, List, [], ◌∷◌, ◌++◌, length, get_or, set, take, drop}
 use Rattle.std.proofs.Common.{refl, sym, ap, subst, ◌∙◌, arith, inl, inr, get_or-set_same, get_or-set_other, length-set}
 use Rattle.std.proofs.Common.{Bool}
-use Rattle.allocative_collectors.proofs.Common.{key_at, Less, ordering_reverse, Key, key_cmp, Shape, leaf, no_shape, at}
+use Rattle.allocative_collectors.proofs.Common.{key_at, Less, ordering_reverse, Key, key_cmp, NodeShape, leaf, no_shape, at}
 use Rattle.allocative_collectors.proofs.Common.{children_at, keys_of, keys_at, key_in, parent_at, KeysRise, StandsIn}
 use Rattle.allocative_collectors.proofs.Common.{IsChild, IsArena, IsKeyGap, put, path_at, sums, bytes_at, length-map}
 use Rattle.allocative_collectors.proofs.Common.{get_or_append_left, get_or_push, length_push, cases_order, cases_eq}
@@ -16,7 +16,7 @@ use Rattle.allocative_collectors.specs.Listed.{total}
 use Rattle.allocative_collectors.proofs.Labels.{raise_shape, grow_raise, total-grow}
 
 -- the nodes with a new one under p, whose key is k
-abbrev pub grown : List Shape → ℕ → Key → List Shape
+abbrev pub grown : List NodeShape → ℕ → Key → List NodeShape
 grown ns p k = ns ++ leaf p k ∷ []
 
 -- the lists of children if the number n is put at place g of that of p, and one more list is empty
@@ -43,9 +43,9 @@ rise_insert ks k g gap rise i j lt h =
           ])
     ]
 
-module _ (ns : List Shape) {cs : List (List ℕ)} (ok : IsArena ns cs) (p : ℕ) (hp : p < length ns) (k : Key) (g : ℕ)
+module _ (ns : List NodeShape) {cs : List (List ℕ)} (ok : IsArena ns cs) (p : ℕ) (hp : p < length ns) (k : Key) (g : ℕ)
     (gap : IsKeyGap (keys_at ns cs p) k g) where
-  abbrev new : List Shape
+  abbrev new : List NodeShape
   new = grown ns p k
 
   abbrev lists : List (List ℕ)
@@ -62,7 +62,7 @@ module _ (ns : List Shape) {cs : List (List ℕ)} (ok : IsArena ns cs) (p : ℕ)
   before i h = get_or_append_left ns _ no_shape i h
 
   parent_before : (i : ℕ) → i < length ns → parent_at new i ≡ parent_at ns i
-  parent_before i h = ap (λ (n : Shape). n.parent) (before i h)
+  parent_before i h = ap (λ (n : NodeShape). n.parent) (before i h)
 
   children_other : (q : ℕ) → q ≢ p → children_at lists q ≡ children_at cs q
   children_other q ne = pushed (set cs p _) q ∙ get_or-set_other cs p q _ [] ne
@@ -73,11 +73,11 @@ module _ (ns : List Shape) {cs : List (List ℕ)} (ok : IsArena ns cs) (p : ℕ)
   -- the keys of the children before
   keys_stood : (q : ℕ) → keys_of new (children_at cs q) ≡ keys_at ns cs q
   keys_stood q = map_same (key_at new) (key_at ns) (children_at cs q)
-      (λ j h. ap (λ (n : Shape). n.key) (before (get_or (children_at cs q) j 0) (ok.children q j 0 h).in_range))
+      (λ j h. ap (λ (n : NodeShape). n.key) (before (get_or (children_at cs q) j 0) (ok.children q j 0 h).in_range))
 
   keys_parent : keys_of new (insert (children_at cs p) g (length ns)) ≡ insert (keys_at ns cs p) g k
   keys_parent = keys_of-insert new (children_at cs p) g (length ns)
-      ∙ (λ i. insert (keys_stood p i) g (ap (λ (n : Shape). n.key) at_leaf i))
+      ∙ (λ i. insert (keys_stood p i) g (ap (λ (n : NodeShape). n.key) at_leaf i))
 
   -- what holds of the new children of p and of the others as they were
   by_parent : (P : ℕ → List ℕ → Type 0) → P p (insert (children_at cs p) g (length ns)) →
@@ -110,15 +110,15 @@ module _ (ns : List Shape) {cs : List (List ℕ)} (ok : IsArena ns cs) (p : ℕ)
         | inr ne ↦ stands_insert (children_at cs p) g (length ns) i gap_within (stood p i ne c)
       ])
       (λ q other c. stood q i (λ e. other (sym c.parent
-      ∙ (ap (parent_at new) e ∙ ap (λ (n : Shape). n.parent) at_leaf))) c) q
+      ∙ (ap (parent_at new) e ∙ ap (λ (n : NodeShape). n.parent) at_leaf))) c) q
 
   pub arena_grown : IsArena (grown ns p k) (with_child cs p g (length ns))
   arena_grown = record {
     rooted = omega (arith, length_grown);
-    root_empty = ap (λ (n : Shape). n.bytes) (before 0 ok.rooted) ∙ ok.root_empty;
+    root_empty = ap (λ (n : NodeShape). n.bytes) (before 0 ok.rooted) ∙ ok.root_empty;
     root_parent = parent_before 0 ok.rooted ∙ ok.root_parent;
     parents = λ i pos h. elim (cases_eq i (length ns)) [
-      | inl e ↦ rw e (rw (ap (λ (n : Shape). n.parent) at_leaf) hp)
+      | inl e ↦ rw e (rw (ap (λ (n : NodeShape). n.parent) at_leaf) hp)
       | inr ne ↦ let old : i < length ns = omega (arith, length_grown) in
           rw (parent_before i old) (ok.parents i pos old)
     ];
@@ -127,7 +127,7 @@ module _ (ns : List Shape) {cs : List (List ℕ)} (ok : IsArena ns cs) (p : ℕ)
     children = by_parent (λ q. All (IsChild new q))
         (let xs = children_at cs p in
         let old = All-weaker (IsChild ns p) (IsChild new p) (child_before p) xs (ok.children p) in
-        let one : IsChild new p (length ns) = record { not_root = ok.rooted; in_range = omega (arith, length_grown); parent = ap (λ (n : Shape). n.parent) at_leaf } in
+        let one : IsChild new p (length ns) = record { not_root = ok.rooted; in_range = omega (arith, length_grown); parent = ap (λ (n : NodeShape). n.parent) at_leaf } in
         All-append (IsChild new p) (take g xs) (length ns ∷ drop g xs) (All-take (IsChild new p) g xs old)
         (All-cons (IsChild new p) (length ns) (drop g xs) one (All-drop (IsChild new p) g xs old)))
         (λ q ne. All-weaker (IsChild ns q) (IsChild new q) (child_before q) (children_at cs q) (ok.children q));
@@ -138,23 +138,23 @@ module _ (ns : List Shape) {cs : List (List ℕ)} (ok : IsArena ns cs) (p : ℕ)
 
 -- ---- one more entry at a node
 -- the arena after an entry of n bytes at node i
-abbrev pub raised : List Shape → ℕ → ℕ → Bool → List Shape
+abbrev pub raised : List NodeShape → ℕ → ℕ → Bool → List NodeShape
 raised ns i n u = set ns i (raise_shape n u (at ns i))
 
 -- The bytes of a node are at most the total of the sums.
-pub bytes_le_total : (ns : List Shape) (i : ℕ) → i < length ns → bytes_at ns i ≤ total (sums ns)
-bytes_le_total ns i h = rw (total-grow [] ns) (get_or-le-sum_by (λ (n : Shape). n.bytes) ns i no_shape h)
+pub bytes_le_total : (ns : List NodeShape) (i : ℕ) → i < length ns → bytes_at ns i ≤ total (sums ns)
+bytes_le_total ns i h = rw (total-grow [] ns) (get_or-le-sum_by (λ (n : NodeShape). n.bytes) ns i no_shape h)
 
-module _ (ns : List Shape) {cs : List (List ℕ)} (ok : IsArena ns cs) (i : ℕ) (pos : 0 < i) (hi : i < length ns) (n : ℕ)
+module _ (ns : List NodeShape) {cs : List (List ℕ)} (ok : IsArena ns cs) (i : ℕ) (pos : 0 < i) (hi : i < length ns) (n : ℕ)
     (u : Bool) where
-  abbrev marked : List Shape
+  abbrev marked : List NodeShape
   marked = raised ns i n u
 
   length_raised : length marked ≡ length ns
   length_raised = length-set ns i (raise_shape n u (at ns i))
 
   -- what depends neither on the bytes nor on the mark is unchanged
-  as_before : {X : Type 0} (f : Shape → X) → ((m : Shape) → f (raise_shape n u m) ≡ f m) → (j : ℕ) →
+  as_before : {X : Type 0} (f : NodeShape → X) → ((m : NodeShape) → f (raise_shape n u m) ≡ f m) → (j : ℕ) →
       f (at marked j) ≡ f (at ns j)
   as_before f same j = touched f ns i _ (same (at ns i)) j
 
@@ -168,7 +168,7 @@ module _ (ns : List Shape) {cs : List (List ℕ)} (ok : IsArena ns cs) (i : ℕ)
   pub arena_raised : IsArena (raised ns i n u) cs
   arena_raised = record {
     rooted = omega (arith, length_raised, ok.rooted);
-    root_empty = ap (λ (m : Shape). m.bytes) (get_or-set_other ns i 0 _ no_shape (λ e. omega arith)) ∙ ok.root_empty;
+    root_empty = ap (λ (m : NodeShape). m.bytes) (get_or-set_other ns i 0 _ no_shape (λ e. omega arith)) ∙ ok.root_empty;
     root_parent = parent_kept 0 ∙ ok.root_parent;
     parents = λ j pj hj. rw (parent_kept j) (ok.parents j pj (omega (arith, length_raised)));
     lists = omega (arith, length_raised, ok.lists);

@@ -2,7 +2,7 @@
 use Rattle.std.proofs.Common.{◌≡◌, true, false, refl, sym, subst, ℕ, zero, suc, set, inl, inr, ◌+◌, ◌-◌, ◌<◌, ◌≤◌}
 use Rattle.std.proofs.Common.{List, [], ◌∷◌, ◌++◌, length, map, get_or, drop, take, ◌∙◌, arith}
 use Rattle.allocative_collectors.proofs.Common.{Less, Equal, Key, Path}
-use Rattle.allocative_collectors.proofs.Common.{key_cmp, is_same_path, Shape, at, children_at, key_at, keys_of}
+use Rattle.allocative_collectors.proofs.Common.{key_cmp, is_same_path, NodeShape, at, children_at, key_at, keys_of}
 use Rattle.allocative_collectors.proofs.Common.{StandsIn, tied_itself, false_from_ne_true, cases_lt, map-append}
 pub use Rattle.std.specs.Cmp.Lexicographic.{nat_list_cmp_total as key_total}
 pub use Rattle.std.proofs.lemmas.Map.Lookups.{exact_bytes as key_same}
@@ -33,7 +33,7 @@ map_same f g [] same = refl
 map_same f g (x ∷ xs) same = λ i. same 0 (omega arith) i ∷ map_same f g xs (λ j h. same (suc j) (omega arith)) i
 
 -- If the number of a node is put at place g, the node's key is put at place g of the keys.
-pub keys_of-insert : (ns : List Shape) (xs : List ℕ) (g i : ℕ) →
+pub keys_of-insert : (ns : List NodeShape) (xs : List ℕ) (g i : ℕ) →
     keys_of ns (insert xs g i) ≡ insert (keys_of ns xs) g (key_at ns i)
 keys_of-insert ns xs g i = map-append (key_at ns) (take g xs) (i ∷ drop g xs)
     ∙ (λ j. sym (take-map (key_at ns) g xs) j ++ key_at ns i ∷ sym (drop-map (key_at ns) g xs) j)
@@ -56,7 +56,7 @@ stands_insert xs g n i within was =
     ]
 
 -- a write keeps what it does not change
-pub touched : {X : Type 0} (f : Shape → X) (ns : List Shape) (i : ℕ) (m : Shape) → f m ≡ f (at ns i) → (j : ℕ) →
+pub touched : {X : Type 0} (f : NodeShape → X) (ns : List NodeShape) (i : ℕ) (m : NodeShape) → f m ≡ f (at ns i) → (j : ℕ) →
     f (at (set ns i m) j) ≡ f (at ns j)
 touched f [] i m e j = refl
 touched f (n ∷ ns) zero m e zero = e

@@ -8,7 +8,7 @@ use Rattle.allocative_collectors.proofs.Common.{Ordering, Less, is_eq, is_lt, or
 use Rattle.allocative_collectors.proofs.Common.{path_cmp, key_in, KeysRise, is_same_path, is_one_below, Sums, Graph}
 use Rattle.allocative_collectors.proofs.Common.{graph, sum_of, under, default, add_self, get, entries, shape, sums_of}
 use Rattle.allocative_collectors.proofs.Common.{IsTree, Listed, row, sum_at, path_at, map_of, below, bytes_entered}
-use Rattle.allocative_collectors.proofs.Common.{sums, children_at, keys_at, IsArena, Shape, size_at_place}
+use Rattle.allocative_collectors.proofs.Common.{sums, children_at, keys_at, IsArena, NodeShape, size_at_place}
 use Rattle.allocative_collectors.proofs.Common.{ordering_reverse, tied_itself, cases_eq, cond-true, cond-false}
 use Rattle.allocative_collectors.proofs.Common.{false_from_ne_true, MakesPart, MakesGraph, rows_behind, is_short}
 use Rattle.allocative_collectors.proofs.Common.{tied_then, flat_map-append, sum_by-cons, ComesLast, numbers, Children}
@@ -339,7 +339,7 @@ comes_last {s} {p} ks rise j hj part l q there = elim (cases_Bool (among ks j l)
 ]
 
 -- ---- at the nodes
-module _ (ns : List Shape) {cs : List (List ℕ)} (ok : IsArena ns cs) (i : ℕ) (hi : i < length ns) where
+module _ (ns : List NodeShape) {cs : List (List ℕ)} (ok : IsArena ns cs) (i : ℕ) (hi : i < length ns) where
   -- after the last child, nothing is left
   passed_all : {X : Type 0} (f : Path → Option X) →
       ((q : Path) → ((a : ℕ) → a < length (sums ns) → path_at (sums ns) a ≢ q) → f q ≡ None) → (r : Path)

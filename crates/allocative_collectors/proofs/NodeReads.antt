@@ -2,7 +2,7 @@
 use Rattle.std.proofs.Common.{◌≡◌, ◌≢◌, ℕ, zero, suc, ◌<◌, false, List, [], ◌∷◌, ◌++◌, length, sym, ap, subst, ◌∙◌}
 use Rattle.std.proofs.Common.{arith, inl, inr, refl, append_assoc, map, Bool, not, ◌&&◌, get_or, sum_by, cond, ltb}
 use Rattle.std.proofs.Common.{lt-ltb, ◌+◌, ◌≤◌, ◌||◌, set, subst₂, length-set, get_or-set_same, get_or-set_other}
-use Rattle.allocative_collectors.proofs.Common.{Equal, Key, Path, key_cmp, path_at, IsEntered, Listed, root_sum, Shape}
+use Rattle.allocative_collectors.proofs.Common.{Equal, Key, Path, key_cmp, path_at, IsEntered, Listed, root_sum, NodeShape}
 use Rattle.allocative_collectors.proofs.Common.{leaf, sums, keys_at, key_in, key_at, parent_at, IsChild, IsArena}
 use Rattle.allocative_collectors.proofs.Common.{IsKeyGap, path_cmp, is_same_path, Sum, sum_at, map_of, no_shape, at}
 use Rattle.allocative_collectors.proofs.Common.{bytes_at, is_one_below, is_root, below, children_at, shape, sums_of}
@@ -39,7 +39,7 @@ last_of : (k : Key) (q : Path) → (q' : Path) × (l : Key) × (k ∷ q ≡ q' +
 last_of k [] = ([], k, refl)
 last_of k (x ∷ q) = let more = last_of x q in (k ∷ more.0, more.1, ap (λ (y : Path). k ∷ y) more.2)
 
-module _ (ns : List Shape) {cs : List (List ℕ)} (ok : IsArena ns cs) (p : ℕ) (hp : p < length ns) (k : Key) where
+module _ (ns : List NodeShape) {cs : List (List ℕ)} (ok : IsArena ns cs) (p : ℕ) (hp : p < length ns) (k : Key) where
   -- an entry of 0 bytes at a child with the key
   pub was_entered : (i : ℕ) → IsChild ns p i → key_at ns i ≡ k → IsEntered (sums ns) (sums ns) p k 0 false i
   was_entered i c key =
@@ -129,7 +129,7 @@ step_push (j ∷ p) (l ∷ q) k = (λ i. (eq_by_cmp_equiv key_total).symm j l i 
     ∙ tied_then (key_cmp l j) (path_cmp q p)
 
 -- The sums of an arena are a listing: the root comes first and has no bytes, and all paths differ.
-pub listing : (ns : List Shape) {cs : List (List ℕ)} → IsArena ns cs → IsListing (sums ns)
+pub listing : (ns : List NodeShape) {cs : List (List ℕ)} → IsArena ns cs → IsListing (sums ns)
 listing ns ok = record {
   rooted = omega (arith, length_sums ns, ok.rooted);
   root_path = root_at ns;
@@ -177,7 +177,7 @@ sum_at_numbers f d none ys (x ∷ xs) within apart others =
     missing x xs i ne absent zero h e = ne (sym e)
     missing x xs i ne absent (suc a) h e = absent a (omega arith) e
 
-module _ (ns : List Shape) {cs : List (List ℕ)} (ok : IsArena ns cs) (i : ℕ) (hi : i < length ns) where
+module _ (ns : List NodeShape) {cs : List (List ℕ)} (ok : IsArena ns cs) (i : ℕ) (hi : i < length ns) where
   -- the bytes of a sum that is one key below node i
   abbrev part : Sum → ℕ
   part e = cond (is_one_below (path_at (sums ns) i) e.path) e.bytes 0
@@ -225,7 +225,7 @@ is_root-push [] k = refl
 is_root-push (l ∷ p) k = refl
 
 -- the root alone has the empty path
-pub has_key : (ns : List Shape) {cs : List (List ℕ)} → IsArena ns cs → (i : ℕ) → i < length ns →
+pub has_key : (ns : List NodeShape) {cs : List (List ℕ)} → IsArena ns cs → (i : ℕ) → i < length ns →
     not (is_root (path_at (sums ns) i)) ≡ ltb 0 i
 has_key ns ok zero h = ap (λ (p : Path). not (is_root p)) (root_at ns)
 has_key ns ok (suc j) h = ap (λ (p : Path). not (is_root p)) (step ns ok (suc j) (omega arith) h)
@@ -262,7 +262,7 @@ module _ (items : List Node) where
 
 module _ (items : List Node) {lists : List Children} where
   -- a tree whose nodes and lists are those of an arena
-  pub tree_of : {ns : List Shape} {cs : List (List ℕ)} → map shape items ≡ ns → map numbers lists ≡ cs → IsArena ns cs →
+  pub tree_of : {ns : List NodeShape} {cs : List (List ℕ)} → map shape items ≡ ns → map numbers lists ≡ cs → IsArena ns cs →
       IsTree items lists
   tree_of nodes children ok = record {
     arena = subst₂ IsArena (sym nodes) (sym children) ok;
@@ -283,7 +283,7 @@ module _ (items : List Node) {lists : List Children} where
     pub same_tree : (i : ℕ) (n m : Node) → i < length items → n ≡ get_or items i n → shape m ≡ shape n →
         IsTree (set items i m) lists
     same_tree i n m h read same = record {
-      arena = subst (λ (ns : List Shape). IsArena ns (map numbers lists)) (sym (same_shapes items i n m h read same)) ok.arena;
+      arena = subst (λ (ns : List NodeShape). IsArena ns (map numbers lists)) (sym (same_shapes items i n m h read same)) ok.arena;
       size = length_nodes (set items i m);
       lists = omega (arith, ok.lists, length-set items i m);
     }
@@ -312,7 +312,7 @@ module _ (items : List Node) {lists : List Children} where
         subst (λ (l : List ℕ). let i = get_or l j 0 in
         (IsChild ns p i) × (i < length items) × (key_in (keys_at ns cs p) j ≡ key_at ns i)
         × ((d : Node) → (let m = get_or items i d in key_at ns i ≡ m.key))) is
-        (child, within, get_or-map (key_at ns) (children_at cs p) j 0 [] inside, λ d. ap (λ (s : Shape). s.key) (get_or-map shape items (get_or (children_at cs p) j 0) d no_shape within))
+        (child, within, get_or-map (key_at ns) (children_at cs p) j 0 [] inside, λ d. ap (λ (s : NodeShape). s.key) (get_or-map shape items (get_or (children_at cs p) j 0) d no_shape within))
 
 -- the numbers of a list that was read
 pub children_read : (lists : List Children) (p : ℕ) (c : Children) → p < length lists → c ≡ get_or lists p c →
@@ -329,7 +329,7 @@ module _ (items : List Node) {v : Listed} (view : sums_of items ≡ v) (i : ℕ)
   is = shape_read items i n (in_nodes items i view h) read
 
   pub bytes_fit : n.bytes ≤ total v
-  bytes_fit = let same = ap (λ (s : Shape). s.bytes) is in
+  bytes_fit = let same = ap (λ (s : NodeShape). s.bytes) is in
       omega (arith, bytes_le_total (map shape items) i (in_shapes items i view h), ap total view)
 
   -- the write, seen as shapes
@@ -342,7 +342,7 @@ module _ (items : List Node) {v : Listed} (view : sums_of items ≡ v) (i : ℕ)
 -- a new node, seen as shapes
 pub grown_nodes : (items : List Node) (p : ℕ) (k : Key) (fresh : Node) → shape fresh ≡ leaf p k →
     map shape (items ++ fresh ∷ []) ≡ grown (map shape items) p k
-grown_nodes items p k fresh is = map_push shape items fresh ∙ ap (λ (s : Shape). map shape items ++ s ∷ []) is
+grown_nodes items p k fresh is = map_push shape items fresh ∙ ap (λ (s : NodeShape). map shape items ++ s ∷ []) is
 
 -- the two writes of its number, seen as numbers
 pub grown_lists : (lists : List Children) (p : ℕ) (c d fresh : Children) → p < length lists → c ≡ get_or lists p c →
@@ -362,8 +362,8 @@ figures_read items ok v view i h n read =
     let is = shape_read items i n (in_nodes items i view h) read in
     subst (λ (s : Listed). (let e = sum_at s i in
     (e.bytes ≡ n.bytes) × (e.is_unique ≡ n.is_unique) × (not (is_root e.path) ≡ ltb 0 i))) view (
-      (figures-grow [] ns i).0 ∙ ap (λ (s : Shape). s.bytes) is,
-      (figures-grow [] ns i).1 ∙ ap (λ (s : Shape). s.is_unique) is,
+      (figures-grow [] ns i).0 ∙ ap (λ (s : NodeShape). s.bytes) is,
+      (figures-grow [] ns i).1 ∙ ap (λ (s : NodeShape). s.is_unique) is,
       has_key ns ok.arena i (in_shapes items i view h),
     )
 

@@ -12,22 +12,22 @@ use Rattle.allocative_collectors.specs.declared.children.Place.{Place}
 use Rattle.allocative_collectors.specs.declared.tree.Node.{Node}
 
 -- A node: its key, the number of its parent, the bytes entered at it, and whether it was ever entered as unique.
-pub record Shape : Type 0 where
+pub record NodeShape : Type 0 where
   pub key : Key
   pub parent : ℕ
   pub bytes : ℕ
   pub is_unique : Bool
 
 -- A node with no bytes.
-abbrev pub leaf : ℕ → Key → Shape
+abbrev pub leaf : ℕ → Key → NodeShape
 leaf p k = record { key = k; parent = p; bytes = 0; is_unique = false }
 
 -- The node that stands for a missing one.
-abbrev pub no_shape : Shape
+abbrev pub no_shape : NodeShape
 no_shape = leaf 0 []
 
 -- The node with the number i.
-abbrev pub at : List Shape → ℕ → Shape
+abbrev pub at : List NodeShape → ℕ → NodeShape
 at ns i = slice_index_or ns i no_shape
 
 -- ---- the sums
@@ -38,25 +38,25 @@ path_from [] i k = []
 path_from (p ∷ ps) i k = slice_index_or (p ∷ ps) i [] ++ k ∷ []
 
 -- The sum of a node, if ps are the paths of the nodes before it.
-abbrev pub sum_from : List Path → Shape → Sum
+abbrev pub sum_from : List Path → NodeShape → Sum
 sum_from ps n = record { path = path_from ps n.parent n.key; bytes = n.bytes; is_unique = n.is_unique }
 
 -- The sums of the nodes ns, if ps are the paths of the nodes before them.
-abbrev pub grow : List Path → List Shape → Listed
+abbrev pub grow : List Path → List NodeShape → Listed
 grow ps [] = []
 grow ps (n ∷ ns) = let e = sum_from ps n in e ∷ grow (ps ++ e.path ∷ []) ns
 
 -- The sums that the nodes stand for.
-abbrev pub sums : List Shape → Listed
+abbrev pub sums : List NodeShape → Listed
 sums ns = grow [] ns
 
 -- ---- what a node has
 -- The key of node i.
-abbrev pub key_at : List Shape → ℕ → Key
+abbrev pub key_at : List NodeShape → ℕ → Key
 key_at ns i = let n = at ns i in n.key
 
 -- The number of the parent of node i.
-abbrev pub parent_at : List Shape → ℕ → ℕ
+abbrev pub parent_at : List NodeShape → ℕ → ℕ
 parent_at ns i = let n = at ns i in n.parent
 
 -- The numbers of the children of node i, if cs has those of each node.
@@ -64,15 +64,15 @@ abbrev pub children_at : List (List ℕ) → ℕ → List ℕ
 children_at cs i = slice_index_or cs i []
 
 -- The bytes entered at node i.
-abbrev pub bytes_at : List Shape → ℕ → ℕ
+abbrev pub bytes_at : List NodeShape → ℕ → ℕ
 bytes_at ns i = let n = at ns i in n.bytes
 
 -- The keys of the nodes that have the numbers xs.
-abbrev pub keys_of : List Shape → List ℕ → List Key
+abbrev pub keys_of : List NodeShape → List ℕ → List Key
 keys_of ns xs = map (key_at ns) xs
 
 -- The keys of the children of node p.
-abbrev pub keys_at : List Shape → List (List ℕ) → ℕ → List Key
+abbrev pub keys_at : List NodeShape → List (List ℕ) → ℕ → List Key
 keys_at ns cs p = keys_of ns (children_at cs p)
 
 -- ---- the arena
@@ -91,18 +91,18 @@ pub record StandsIn (xs : List ℕ) (i : ℕ) : Type 0 where
   pub is : slice_index xs place ≡ i
 
 -- The number i is in the list, and is that of a node with the key k.
-abbrev pub HasKey : List Shape → List ℕ → Key → ℕ → Type 0
+abbrev pub HasKey : List NodeShape → List ℕ → Key → ℕ → Type 0
 HasKey ns xs k i = StandsIn xs i × (key_at ns i ≡ k)
 
 -- Node i is not the root, and its parent is p.
-pub record IsChild (ns : List Shape) (p i : ℕ) : Type 0 where
+pub record IsChild (ns : List NodeShape) (p i : ℕ) : Type 0 where
   pub not_root : 0 < i
   pub in_range : i < length ns
   pub parent : parent_at ns i ≡ p
 
 -- The root comes first and has no bytes and no parent, which is the number 2^64 - 1. Each other node comes after its
 -- parent and is one of its children. The numbers of each node's children are in cs, in the order of their keys.
-pub record IsArena (ns : List Shape) (cs : List (List ℕ)) : Type 0 where
+pub record IsArena (ns : List NodeShape) (cs : List (List ℕ)) : Type 0 where
   pub rooted : 0 < length ns
   pub root_empty : bytes_at ns 0 ≡ 0
   pub root_parent : parent_at ns 0 ≡ 2 ^ 64 - 1
@@ -172,7 +172,7 @@ flat_place c p = p.index
 
 -- ---- the nodes of a tree
 -- A node without its guesses.
-abbrev pub shape : Node → Shape
+abbrev pub shape : Node → NodeShape
 shape n = record {
   key = n.key;
   parent = n.parent;

@@ -20,14 +20,14 @@ abbrev pub two_of : History → ℕ → ℕ → Option (Graph × Graph)
 two_of h i j = option_zip (slice_get (profiles_of h) i) (slice_get (profiles_of h) j)
 
 -- The profile is kept as the latest, with as many of the earlier ones as there is room for.
-abbrev pub Keeps : Graph → History → History → Type 0
-Keeps g old new = profiles_of new ≡ take (most_of old) (g ∷ profiles_of old)
+abbrev pub KeepsProfile : Graph → History → History → Type 0
+KeepsProfile g old new = profiles_of new ≡ take (most_of old) (g ∷ profiles_of old)
 
 -- The graph of a profile of what p allows is kept.
 pub record TakesProfile (p : Showing) (old new : History) : Type 0 where
   pub profile : Profile
   pub is_profile : IsProfileOf p profile
-  pub kept : Keeps profile.graph old new
+  pub kept : KeepsProfile profile.graph old new
 
 -- n of the changes between two profiles grew most, or all that grew if there are fewer. There are none if a profile
 -- is missing.

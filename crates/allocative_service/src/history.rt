@@ -4,7 +4,7 @@ ghost use Rattle.std.specs.Map.Iter.{deref_pair};
 ghost use Rattle.allocative.specs.Strict.{MayRefuseProfile};
 ghost use Rattle.allocative.specs.Graph.{ExceedWord};
 ghost use Rattle.allocative_service.specs.Changes.{data_of, changes_of};
-ghost use Rattle.allocative_service.specs.History.{profiles_of, most_of, two_of, Keeps, TakesProfile, GrewMostBetween};
+ghost use Rattle.allocative_service.specs.History.{profiles_of, most_of, two_of, KeepsProfile, TakesProfile, GrewMostBetween};
 
 pub mod changes;
 mod shown;
@@ -48,7 +48,7 @@ impl History {
     /// Adds a profile as the latest. If there would be too many, the earliest is dropped. The only error is that memory
     /// runs out, and then the history is unchanged.
     pub fn keep(&mut self, profile: FlameGraph) -> Result<(), AllocError>
-        ensures kept { OnOk result (Keeps profile self.old self.new) }
+        ensures kept { OnOk result (KeepsProfile profile self.old self.new) }
         ensures unchanged { OnErr result (profiles_of self.new ≡ profiles_of self.old) }
         ensures most { most_of self.new ≡ most_of self.old }
     {

@@ -7,7 +7,7 @@ use Rattle.allocative.proofs.Common.{Inside, Field, sized, each_shows}
 use Rattle.allocative_graph.specs.Owned.{direct}
 use Rattle.allocative_graph.proofs.Owned.{direct-following}
 use Rattle.allocative.proofs.Strict.{followed_by-empty, followed_by_assoc, each_append, each_one}
-use Rattle.allocative_tally.specs.Shapes.{IsPlain, Merged, Width, Unique, Wide, Narrow, is_unique, Keeps, Shape}
+use Rattle.allocative_tally.specs.Shapes.{IsPlain, Merged, Width, Unique, Wide, Narrow, is_unique, HasWidth, Shape}
 use Rattle.allocative_tally.specs.Shapes.{NoEntry, Beside, EntryAt, forest_of, Holds, IsRight, entry_counted, top_bytes}
 use Rattle.allocative_tally.specs.Tallies.{Tallies, IsWithin, AddsEntry, both_bounds}
 use Rattle.allocative_tally.specs.declared.tally.Sum.{Sum}
@@ -98,20 +98,20 @@ second_counted {u = u} c =
     record { counted = c.counted; allowed = c.allowed; within = c.within; merged = all.merged }
 
 -- Entries of one kind keep what they own when they are merged.
-keeps_owned : (x : Width) (m n : ℕ) (f h : Forest) → Keeps x m f → Keeps x n h → KeepsOwned (is_unique x) m n f h
+keeps_owned : (x : Width) (m n : ℕ) (f h : Forest) → HasWidth x m f → HasWidth x n h → KeepsOwned (is_unique x) m n f h
 keeps_owned Unique m n f h a b e = absurd (false≢true (sym e))
 keeps_owned Wide m n f h a b e = omega (arith, a, b)
 keeps_owned Narrow m n f h a b e = omega (arith, a, b)
 
 -- The kind depends on the bytes directly inside alone.
-keeps_same : (x : Width) (n : ℕ) (f g : Forest) → direct f ≡ direct g → Keeps x n f → Keeps x n g
+keeps_same : (x : Width) (n : ℕ) (f g : Forest) → direct f ≡ direct g → HasWidth x n f → HasWidth x n g
 keeps_same Unique n f g e a = tt
 keeps_same Wide n f g e a = omega (arith, a, e)
 keeps_same Narrow n f g e a = omega (arith, a, e)
 
 -- The merged entry is of the same kind.
-keeps_both : (x : Width) (m n : ℕ) (f h g : Forest) → Keeps x m f → Keeps x n h → direct f + direct h ≡ direct g →
-    Keeps x (m + n) g
+keeps_both : (x : Width) (m n : ℕ) (f h g : Forest) → HasWidth x m f → HasWidth x n h → direct f + direct h ≡ direct g →
+    HasWidth x (m + n) g
 keeps_both Unique m n f h g a b e = tt
 keeps_both Wide m n f h g a b e = omega (arith, a, b, e)
 keeps_both Narrow m n f h g a b e = omega (arith, a, b, e)
@@ -126,8 +126,8 @@ entries_merged u k m n f h g room keeps t =
 
 -- One more entry was counted, with what is inside it.
 pub tallies_entry : {w : Option ℕ} {p : Showing} (x : Width) (k : Key) (n : ℕ) {old new : Sum} {s t : Shape} →
-    AddsEntry n old new → (c : Tallies w p s t) → Keeps x n c.counted →
-    (IsRight s → Keeps x old.bytes (forest_of s) → old.bytes + n < 2 ^ 64 →
+    AddsEntry n old new → (c : Tallies w p s t) → HasWidth x n c.counted →
+    (IsRight s → HasWidth x old.bytes (forest_of s) → old.bytes + n < 2 ^ 64 →
     direct (forest_of s) + direct c.counted < 2 ^ 64) →
     Tallies (Some n) (InsideAs (is_unique x) k n p) (EntryAt x k old s) (EntryAt x k new t)
 tallies_entry {w} {p} x k n {old} {new} {s} {t} more c keeps inside = record {
@@ -138,14 +138,14 @@ tallies_entry {w} {p} x k n {old} {new} {s} {t} more c keeps inside = record {
 }
   where
     one_more : (b : Bool) → IsPlain (entry_counted b (is_unique x) k old.bytes (forest_of s)) ×
-        (Holds s × (b ≡ false → (old.bytes ≡ 0) × (forest_of s ≡ Empty)) × Keeps x old.bytes (forest_of s)) →
+        (Holds s × (b ≡ false → (old.bytes ≡ 0) × (forest_of s ≡ Empty)) × HasWidth x old.bytes (forest_of s)) →
         direct (entry_counted b (is_unique x) k old.bytes (forest_of s))
         + direct (entry_of (is_unique x) k n c.counted) < 2 ^ 64 →
         Merged (followed_by (entry_counted b (is_unique x) k old.bytes (forest_of s)) (entry_of
         (is_unique x) k n c.counted))
         (entry_of (is_unique x) k new.bytes (forest_of t))
         × (Holds t × (true ≡ false → (new.bytes ≡ 0) × (forest_of t ≡ Empty))
-        × Keeps x new.bytes (forest_of t))
+        × HasWidth x new.bytes (forest_of t))
     one_more true (plain, (holds, none, kept)) room =
         let sizes : old.bytes + n < 2 ^ 64 = omega (arith, room, direct_entry) in
         let right : IsRight s = (plain_inside (is_unique x) k old.bytes (forest_of s) plain, holds) in

@@ -42,10 +42,10 @@ is_unique Wide = false
 is_unique Narrow = false
 
 -- An entry of n bytes with f inside it is of this kind.
-abbrev pub Keeps : Width → ℕ → Forest → Type 0
-Keeps Unique n f = ⊤
-Keeps Wide n f = direct f ≤ n
-Keeps Narrow n f = n ≤ direct f
+abbrev pub HasWidth : Width → ℕ → Forest → Type 0
+HasWidth Unique n f = ⊤
+HasWidth Wide n f = direct f ≤ n
+HasWidth Narrow n f = n ≤ direct f
 
 -- What a tally shows, by its numbers: no entry; two shapes, one after another; the entry of a sum, with a shape inside
 -- it.
@@ -70,7 +70,7 @@ abbrev pub Holds : Shape → Type 0
 Holds NoEntry = ⊤
 Holds (Beside s t) = Holds s × Holds t
 Holds (EntryAt width k sum s) = Holds s × (sum.is_there ≡ false → (sum.bytes ≡ 0) × (forest_of s ≡ Empty))
-    × Keeps width sum.bytes (forest_of s)
+    × HasWidth width sum.bytes (forest_of s)
 
 -- The shape has no shared entry, and what is to hold holds.
 abbrev pub IsRight : Shape → Type 0

@@ -6,7 +6,7 @@ ghost use Rattle.std.specs.Iterator.{IsFinite};
 ghost use Rattle.std.specs.Map.Iter.{deref, deref_pair};
 ghost use Rattle.allocative_graph.specs.Forest.{Forest};
 ghost use Rattle.allocative_graph.specs.Shows.{each_shows, slice_shows};
-ghost use Rattle.allocative.specs.Making.{MakesPlanOrGives, Keeps, MakesPlanRun, Done, EntersRun, EntersData};
+ghost use Rattle.allocative.specs.Making.{MakesPlanOrGives, KeepsFailure, MakesPlanRun, Done, EntersRun, EntersData};
 ghost use Rattle.allocative.specs.Visited.{Entered};
 ghost use Rattle.allocative.specs.Bodies.{are_shown_each};
 ghost use Rattle.allocative.specs.Runs.{RefusesAlong, RefusesCounted, CountsRun, field_of, pair_shows};
@@ -120,7 +120,7 @@ impl Visitor<'_> {
             (each_shows (E.may_show how)) self.old self.new result }
         ensures only_if_full { RefusesAlong E.is_strict I.next_gives items E.seen
             (each_shows (E.may_show how)) self.old self.new result }
-        ensures kept { Keeps self.old self.new result }
+        ensures kept { KeepsFailure self.old self.new result }
         ensures plan { MakesPlanOrGives I.next_gives items Done self.old self.new result }
     {
         self.collector.check_failed()?;
@@ -147,7 +147,7 @@ impl Visitor<'_> {
             (slice_shows T.name T.size T.needs_drop T.may_show) self.old self.new result }
         ensures only_if_full { RefusesCounted T.is_strict T.size I.next_gives items deref
             (slice_shows T.name T.size T.needs_drop T.may_show) self.old self.new result }
-        ensures kept { Keeps self.old self.new result }
+        ensures kept { KeepsFailure self.old self.new result }
         ensures plan { MakesPlanRun I.next_gives items T.name T.size
             (are_shown_each T.needs_drop T.size) self.old self.new result }
     {

@@ -4,7 +4,7 @@
 ghost use Rattle.std.specs.Prelude.{true, codes, ◌≡◌, ◌≤◌, ◌-◌, length, Some};
 ghost use Rattle.allocative_described.specs.Sizes.{size_product};
 ghost use Rattle.allocative_graph.specs.Shows.{Field, Nothing, Both, each_shows, slice_shows};
-ghost use Rattle.allocative.specs.Making.{MakesPlan, MakesFirst, Keeps, Done, one, VisitsNone, slice_plan, room_plan, vec_plan};
+ghost use Rattle.allocative.specs.Making.{MakesPlan, MakesFirst, KeepsFailure, Done, one, VisitsNone, slice_plan, room_plan, vec_plan};
 ghost use Rattle.allocative.specs.Visited.{Entered};
 ghost use Rattle.allocative.specs.Bodies.{are_shown_each, bytes_shown, vec_body, data_shows, slice_of};
 
@@ -65,7 +65,7 @@ impl Visitor<'_> {
     pub(crate) fn visit_each<T: Allocative>(&mut self, items: &[T]) -> Result<(), Refusal>
         ensures entered { Entered T.is_strict (each_shows T.may_show items.now)
             self.old self.new result }
-        ensures kept { Keeps self.old self.new result }
+        ensures kept { KeepsFailure self.old self.new result }
         ensures plan { length items.now ≡ 0 → MakesPlan Done self.old self.new result }
     {
         self.visit_run(Itself, items.iter())
@@ -79,7 +79,7 @@ impl Visitor<'_> {
     pub fn visit_slice<T: Allocative + Described>(&mut self, items: &[T]) -> Result<(), Refusal>
         ensures entered { Entered T.is_strict
             (slice_shows T.name T.size T.needs_drop T.may_show items.now) self.old self.new result }
-        ensures kept { Keeps self.old self.new result }
+        ensures kept { KeepsFailure self.old self.new result }
         ensures plan { VisitsNone T.needs_drop T.size items.now
             → MakesPlan (slice_plan T.name T.size T.needs_drop items.now) self.old self.new result }
     {

@@ -1,7 +1,7 @@
 -- A node with this parent and this key is the child, and no other node is.
 use Rattle.std.proofs.Common.{◌≡◌, ◌≢◌, ◌-◌, ◌^◌, ◌<◌, ◌↔◌, false, List, length, map, get_or, true≢false, arith, sym}
 use Rattle.std.proofs.Common.{ap, subst, ◌∙◌, eqb-true}
-use Rattle.allocative_collectors.proofs.Common.{shape, Shape, Listed, IsEntered, parent_at, length-map}
+use Rattle.allocative_collectors.proofs.Common.{shape, NodeShape, Listed, IsEntered, parent_at, length-map}
 use Rattle.std.proofs.lemmas.Slice.Eq.{bytes_eq-Decides}
 use Rattle.allocative_collectors.specs.declared.tree.Node.{Node}
 use Rattle.allocative_collectors.proofs.NodeReads.{length_nodes, in_nodes, in_shapes, shape_read, was_entered, child_of}
@@ -21,8 +21,8 @@ guess c =
     let inside : i < length items = subst (λ (l : List Node). i < length l) c.deref.ensures.value node.0 in
     let deep : i < length (map shape items) = omega (arith, length-map items shape) in
     let is = shape_read items i n inside (node.1 n ∙ ap (λ (l : List Node). get_or l i n) c.deref.ensures.value) in
-    let parent = ap (λ (s : Shape). s.parent) is in
-    let key = ap (λ (s : Shape). s.key) is in
+    let parent = ap (λ (s : NodeShape). s.parent) is in
+    let key = ap (λ (s : NodeShape). s.key) is in
     subst (λ (s : Listed). IsEntered s s c.args.at c.args.key.now 0 false i ↔
     ((0 < i) × (n.parent ≡ c.args.at) × (n.key ≡ c.args.key.now))) c.self.view_is (
       (λ entered. let child = child_of (map shape items) c.self.invariant.arena c.args.at here c.args.key.now i deep
@@ -41,7 +41,7 @@ not_root c parent root =
     subst (λ (l : List Node). c.args.number < length l) c.deref.ensures.value node.0 in
     let is = shape_read items c.args.number n inside
     (node.1 n ∙ ap (λ (l : List Node). get_or l c.args.number n) c.deref.ensures.value) in
-    let far : n.parent ≡ 2 ^ 64 - 1 = sym (ap (λ (s : Shape). s.parent) is)
+    let far : n.parent ≡ 2 ^ 64 - 1 = sym (ap (λ (s : NodeShape). s.parent) is)
     ∙ (ap (parent_at (map shape items)) root ∙ c.self.invariant.arena.root_parent) in
     omega (arith, in_nodes items c.args.at c.self.view_is c.requires, c.self.inside.nodes.ok.0, far)
 
