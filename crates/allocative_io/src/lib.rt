@@ -113,18 +113,18 @@ fn write_printable<W: Write>(output: &mut W, text: &str) -> io::Result<()>
         (W.contents output.old) (W.contents output.new) (printable text.now) }
 {
     let mut rest = text.as_bytes();
-    loop {
+    while let Some((byte, after)) = rest.split_first() {
+        if byte.is_ascii_control() {
+            let (high, low) = (last_digit(*byte / 16), last_digit(*byte));
+            write_bytes(output, &[b'\\', b'x', high, low])?;
+            rest = after;
+            continue;
+        }
         let (plain, others) = rest.split_at(plain_len(rest));
         write_bytes(output, plain)?;
-        let Some((byte, after)) = others.split_first() else {
-            return Ok(());
-        };
-        write_bytes(
-            output,
-            &[b'\\', b'x', last_digit(*byte / 16), last_digit(*byte)],
-        )?;
-        rest = after;
+        rest = others;
     }
+    Ok(())
 }
 
 /// Writes a line: the texts one after another, with each control character of ASCII in them as `\x` and two digits, and a
