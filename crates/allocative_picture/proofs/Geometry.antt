@@ -1,10 +1,11 @@
 -- How boxes are placed relative to one another, which frames have a box, and how often a path occurs.
 use Rattle.std.proofs.Common.{◌≡◌, ℕ, zero, suc, ◌+◌, ◌*◌, ◌<◌, ◌≤◌, ◌&&◌, cond, List, [], ◌∷◌, ◌++◌, sum_by, refl}
-use Rattle.std.proofs.Common.{ap, ◌∙◌, arith, Bool, true, false, Some, sym, subst, T, filter, flat_map, count_by}
+use Rattle.std.proofs.Common.{ap, ◌∙◌, arith, true, Some, sym, subst, T, filter, flat_map, count_by}
 use Rattle.allocative_picture.proofs.Common.{Ordering, Less, Equal, Greater, is_eq, is_lt, ordering_then}
 use Rattle.allocative_picture.proofs.Common.{ordering_reverse, entries, Path, key_cmp, path_cmp, total, before_in}
 use Rattle.allocative_picture.proofs.Common.{entries_sorted, is_sorted, below_all, is_same_path, Graph, FrameData}
 use Rattle.allocative_picture.proofs.Common.{is_drawn}
+use Rattle.allocative_graph.proofs.Graphs.{total_at-sum_of}
 use Rattle.std.proofs.Math.Nat.{mul-div_cancel_left, div-zero}
 use Rattle.std.proofs.lemmas.List.Sums.{sum_by-cons, sum_by-le-sum_by}
 use Rattle.std.specs.Cmp.Lexicographic.{nat_list_cmp_total}
@@ -138,18 +139,14 @@ is_within M g p some =
     let le = sum_by-le-sum_by (reaches p) (λ e. e.1) (entries g) (λ e. once e.1 e.0 p) in
     omega (arith, mul-div_cancel_left 1000000 some, edges-le (total g) (before_in (entries g) p + whole_in (entries g) p) (total g) (omega (arith, le, reached p (entries g))))
 
--- A frame has its element if it is drawn.
-one : (b : Bool) (x rest unit : List ℕ) (all : ℕ) (r : FrameData) (rs : List FrameData) → x ≡ element unit all r →
-    rest ≡ flat_map (element unit all) rs → cond b x [] ++ rest ≡ flat_map (element unit all) (cond b (r ∷ rs) rs)
-one true x rest unit all r rs e f = λ i. e i ++ f i
-one false x rest unit all r rs e f = f
+-- The law of a change is that of the totals of a sum.
+pub ruleset changing = (total_at-sum_of)
 
 -- The boxes of some frames are the elements of those that are wide enough.
 pub boxes_are : (least : ℕ) (unit : List ℕ) (all : ℕ) (rs : List FrameData) →
     boxes least unit all rs ≡ flat_map (element unit all) (filter (is_drawn least all) rs)
 boxes_are least unit all [] = refl
-boxes_are least unit all (r ∷ rs) = one (is_drawn least all r) (element unit all r) (boxes least unit all rs) unit all r
-    (filter (is_drawn least all) rs) refl (boxes_are least unit all rs)
+boxes_are least unit all (r ∷ rs) = grind (arith, boxes_are least unit all rs)
 
 -- How often a path occurs in a list of entries.
 abbrev times : Path → List (Path × ℕ) → ℕ

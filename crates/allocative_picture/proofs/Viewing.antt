@@ -1,43 +1,38 @@
 -- Views keep the total, and what is at a last key.
 use Rattle.std.proofs.Common.{◌≡◌, ℕ, zero, suc, ◌+◌, ◌<◌, ◌≤◌, ◌^◌, All, inl, inr, cond, List, [], ◌∷◌, ◌++◌, take, length, get_or}
-use Rattle.std.proofs.Common.{fold, flat_map, map, take_all, sum_by, Bor, codes, refl, sym, ap, subst, ◌-◌, ◌∙◌, arith}
-use Rattle.allocative_picture.proofs.Common.{entries, Child, Path, Graph, total, total_of}
-use Rattle.std.proofs.lemmas.List.{map-append, take-map, take_more}
+use Rattle.std.proofs.Common.{flat_map, map, take_all, sum_by, codes, refl, sym, ap, ◌-◌, ◌∙◌, arith}
+use Rattle.allocative_picture.proofs.Common.{entries, Child, Path, Graph, total, total_of, is_same_path, key_cmp, is_eq}
+use Rattle.allocative_picture.proofs.Common.{ordering_then, Ordering, Less, Equal, Greater}
+use Rattle.allocative_graph.specs.Representation.Children.{graph_of_path}
+use Rattle.std.proofs.lemmas.List.{map_push, take-map, take_more}
 use Rattle.std.proofs.lemmas.List.Folds.{fold-map}
-use Rattle.std.proofs.lemmas.List.Sums.{fold-append, get_or-le-sum_by}
+use Rattle.std.proofs.lemmas.List.Sums.{fold-append, get_or-le-sum_by, sum_by_more_le}
+use Rattle.std.proofs.lemmas.List.Sorted.{sum_by-IsPermutation}
 use Rattle.allocative_graph.specs.Path.{Key}
 use Rattle.allocative_graph.specs.Graph.{default, size_at, sum_of, under}
 use Rattle.allocative_graph.specs.Rows.{sum_of_all}
 use Rattle.allocative_graph.specs.Graph.{ends_in}
 use Rattle.allocative_graph.specs.Rows.{Figures, figures, row_figures}
 use Rattle.allocative_graph.specs.declared.flamegraph.Row.{Row}
-use Rattle.allocative_graph.proofs.Text.{texts}
 use Rattle.allocative_graph.proofs.Children.{total_of-cons}
 use Rattle.std.proofs.lemmas.List.Sorted.{IsPermutation-map}
 use Rattle.std.specs.List.Sorted.{IsPermutation}
-use Rattle.allocative_graph.proofs.Graphs.{added_up-permuted, total-default, total-added_up, size_at-added_up, total-all}
-use Rattle.allocative_graph.proofs.Graphs.{size_at-default, size_at-sum_of, total-sum_of, total-under, get-under}
+use Rattle.allocative_graph.proofs.Graphs.{added_up, added_up-permuted, total-default, total-added_up, size_at-added_up, total-all}
+use Rattle.allocative_graph.proofs.Graphs.{size_at-default, total-sum_of, total-under}
 use Rattle.allocative_graph.proofs.Children.{total-node}
 use Rattle.allocative_graph.proofs.Nodes.{total-path}
 use Rattle.allocative_graph.proofs.StackSums.{size_at-path}
-use Rattle.allocative_picture.specs.Views.{bytes_alone, bytes_at_last_key, by_last_key, bytes_ending_in, joined}
+use Rattle.allocative_picture.specs.Views.{bytes_alone, last_of, by_last_key, bytes_ending_in, joined}
 use Rattle.allocative_picture.specs.Table.{IsWord, table_line}
 use Rattle.allocative_picture.specs.Views.{GuidesChild, HasChildren, InStep, IsOutline}
 
 -- ---- totals
--- The graph of the bytes of a path at its last key has these bytes.
-total-at_last : (p : Path) (n : ℕ) → total (bytes_at_last_key p n) ≡ n
-total-at_last [] n = total-path [] n
-total-at_last (k ∷ []) n =
-    omega (arith, total-sum_of default (under k (bytes_alone n)), total-default, total-under k (bytes_alone n), total-path [] n)
-total-at_last (k ∷ l ∷ p) n = total-at_last (l ∷ p) n
-
 -- The bytes by last key are all bytes.
 pub total-by_last_key : (g : Graph) → total (by_last_key g) ≡ total g
 total-by_last_key g =
-    let each : sum_by (λ (e : Path × ℕ). total (bytes_at_last_key e.0 e.1)) (entries g) ≡ total g =
-    λ i. sum_by (λ (e : Path × ℕ). total-at_last e.0 e.1 i) (entries g) in
-    omega (arith, total-added_up (λ (e : Path × ℕ). bytes_at_last_key e.0 e.1) default (entries g), total-default, each)
+    let each : sum_by (λ (e : Path × ℕ). total (graph_of_path (last_of e.0) e.1)) (entries g) ≡ total g =
+    λ i. sum_by (λ (e : Path × ℕ). total-path (last_of e.0) e.1 i) (entries g) in
+    omega (arith, total-added_up (λ (e : Path × ℕ). graph_of_path (last_of e.0) e.1) default (entries g), total-default, each)
 
 -- The graphs of some children have the totals of the children.
 total-joined : (cs : List Child) → total (joined cs) ≡ total_of cs
@@ -49,7 +44,7 @@ total-step : (R : Child → Graph → Type 0) → ((c : Child) (o : Graph) → R
 total-step R same [] [] h = refl
 total-step R same [] (d ∷ ds) h = absurd h
 total-step R same (c ∷ cs) [] h = absurd h
-total-step R same (c ∷ cs) (d ∷ ds) (key, of, rest) =
+total-step R same (c ∷ cs) (d ∷ ds) ((key, of), rest) =
     omega (arith, total_of-cons c cs, total_of-cons d ds, same c d.graph of, total-step R same cs ds rest)
 
 -- The total of a graph is that of its root and of its children.
@@ -97,42 +92,16 @@ unfolding IsOutline
 outline-each d l n u g h us cs ds some less a b few step is =
     let e : d ≡ suc l = omega arith in rw e (us, cs, a, b, inr (few, ds, step, is))
 
--- The last key of a path has its bytes.
-pub at_last : (ks : List (Bor (List ℕ))) (n i : ℕ) (d : Bor (List ℕ)) → 0 < length ks → i ≡ length ks - 1 →
-    sum_of default (under (get_or ks i d).now (bytes_alone n)) ≡ bytes_at_last_key (texts ks) n
-at_last [] n i d some at = absurd (omega arith)
-at_last (k ∷ []) n i d some at =
-    subst (λ (j : ℕ). sum_of default (under (get_or (k ∷ []) j d).now (bytes_alone n)) ≡ bytes_at_last_key (texts (k ∷ [])) n)
-    (sym at) refl
-at_last (k ∷ l ∷ ks) n i d some at = let e : i ≡ suc (length ks) = omega (arith, at) in
-    subst (λ (j : ℕ). sum_of default (under (get_or (k ∷ l ∷ ks) j d).now (bytes_alone n)) ≡ bytes_at_last_key (texts (l ∷ ks)) n)
-    (sym e) (at_last (l ∷ ks) n (length ks) d (omega arith) (omega arith))
+-- The own bytes of the rows of a graph are all its bytes.
+rows-bytes : (g : Graph) (rs : List Row) → map row_figures rs ≡ figures g → sum_by (λ r. r.self_size) rs ≡ total g
+rows-bytes g rs are = sym (fold-map (λ n (f : Figures). n + f.self_size) row_figures 0 rs)
+    ∙ ap (sum_by (λ (f : Figures). f.self_size)) are
+    ∙ fold-map (λ n (f : Figures). n + f.self_size) _ 0 (entries g)
 
 -- The own bytes of each row fit a word, since those of the graph do.
 pub rows-fit : (g : Graph) (rs : List Row) → map row_figures rs ≡ figures g → total g < 2 ^ 64 → All IsWord rs
 rows-fit g rs are fits = λ k d within.
-    let bytes : sum_by (λ (r : Row). r.self_size) rs ≡ total g =
-    sym (fold-map (λ n (f : Figures). n + f.self_size) row_figures 0 rs)
-    ∙ ap (sum_by (λ (f : Figures). f.self_size)) are
-    ∙ fold-map (λ n (f : Figures). n + f.self_size) _ 0 (entries g) in
-    omega (arith, bytes, fits, get_or-le-sum_by (λ (r : Row). r.self_size) rs k d within)
-
--- One child more is in step.
-step-push : (R : Child → Graph → Type 0) (cs ds : List Child) (c d : Child) → InStep R cs ds → d.key ≡ c.key →
-    R c d.graph → InStep R (cs ++ c ∷ []) (ds ++ d ∷ [])
-step-push R [] [] c d h key of = (key, of, tt)
-step-push R [] (x ∷ ds) c d h key of = absurd h
-step-push R (b ∷ cs) [] c d h key of = absurd h
-step-push R (b ∷ cs) (x ∷ ds) c d (k, o, rest) key of = (k, o, step-push R cs ds c d rest key of)
-
--- The children up to a place, and the child there, are in step with one child more.
-pub step-more : (R : Child → Graph → Type 0) (cs ds : List Child) (i : ℕ) (c d : Child) → i < length cs →
-    c ≡ get_or cs i c → InStep R (take i cs) ds → d.key ≡ c.key → R c d.graph →
-    InStep R (take (i + 1) cs) (ds ++ d ∷ [])
-step-more R cs ds i c d within at h key of =
-    subst (λ (xs : List Child). InStep R xs (ds ++ d ∷ []))
-    (ap (λ (x : Child). take i cs ++ x ∷ []) at ∙ sym (take_more cs i c within))
-    (step-push R (take i cs) ds c d h key of)
+    omega (arith, rows-bytes g rs are, get_or-le-sum_by (λ (r : Row). r.self_size) rs k d within)
 
 -- One child more is added.
 pub all-push : (g : Graph) (ds : List Child) (d : Child) →
@@ -140,52 +109,58 @@ pub all-push : (g : Graph) (ds : List Child) (d : Child) →
 all-push g ds d = sym (fold-append (λ (h : Graph) (c : Child). sum_of h (under c.key c.graph)) g ds (d ∷ []))
 
 -- ---- at a last key
--- The graph of some bytes has nothing below its root.
-alone-below : (n : ℕ) (k : Key) (p : Path) → size_at (bytes_alone n) (k ∷ p) ≡ 0
-alone-below n k p = size_at-path [] n (k ∷ p)
+-- Of paths of one key, the first comes alone if the keys are the same.
+one_key : (o : Ordering) → is_eq (ordering_then o Equal) ≡ is_eq o
+one_key Less = refl
+one_key Equal = refl
+one_key Greater = refl
 
--- The bytes of a path are at a key if it is the last one.
-size_at-last : (k : Key) (p : Path) (n : ℕ) → size_at (bytes_at_last_key p n) (k ∷ []) ≡ cond (ends_in k p) n 0
-size_at-last k [] n = alone-below n k []
-size_at-last k (l ∷ []) n =
-    let under_it = get-under l (bytes_alone n) k [] in
-    let own = size_at-path [] n [] in
-    grind (arith, size_at-sum_of default (under l (bytes_alone n)) (k ∷ []), size_at-default (k ∷ []), under_it, own)
-size_at-last k (l ∷ m ∷ p) n = size_at-last k (m ∷ p) n
+-- The last key of a path is alone the path of a key if the path ends in it.
+same-last : (k : Key) (p : Path) → is_same_path (k ∷ []) (last_of p) ≡ ends_in k p
+same-last k [] = refl
+same-last k (l ∷ []) = one_key (key_cmp k l)
+same-last k (l ∷ m ∷ p) = let e : length (l ∷ m ∷ p) - 1 ≡ suc (length (m ∷ p) - 1) = omega arith in
+    rw e (same-last k (m ∷ p))
 
 -- By last key, a key has the bytes of all paths that end in it.
 pub size_at-by_last_key : (g : Graph) (k : Key) → size_at (by_last_key g) (k ∷ []) ≡ bytes_ending_in k g
 size_at-by_last_key g k =
-    let each : sum_by (λ (e : Path × ℕ). size_at (bytes_at_last_key e.0 e.1) (k ∷ [])) (entries g) ≡ bytes_ending_in k g =
-    λ i. sum_by (λ (e : Path × ℕ). size_at-last k e.0 e.1 i) (entries g) in
-    omega (arith, size_at-added_up (λ (e : Path × ℕ). bytes_at_last_key e.0 e.1) default (entries g) (k ∷ []), size_at-default (k ∷ []), each)
+    let each : sum_by (λ (e : Path × ℕ). size_at (graph_of_path (last_of e.0) e.1) (k ∷ [])) (entries g) ≡ bytes_ending_in k g =
+    λ i. sum_by (λ (e : Path × ℕ). (size_at-path (last_of e.0) e.1 (k ∷ []) ∙ ap (λ b. cond b e.1 0) (same-last k e.0)) i) (entries g) in
+    omega (arith, size_at-added_up (λ (e : Path × ℕ). graph_of_path (last_of e.0) e.1) default (entries g) (k ∷ []), size_at-default (k ∷ []), each)
 
--- The bytes of some figures by last key, added up.
-abbrev pub added_figures : List Figures → Graph
-added_figures fs = fold (λ h f. sum_of h (bytes_at_last_key f.path f.self_size)) default fs
+-- The own bytes of a path with its figures, at its last key alone.
+abbrev pub last_bytes : Figures → Graph
+last_bytes f = graph_of_path (last_of f.path) f.self_size
 
--- The figures of a graph give its bytes by last key.
-pub added-figures : (g : Graph) → added_figures (figures g) ≡ by_last_key g
-added-figures g = fold-map (λ (h : Graph) (f : Figures). sum_of h (bytes_at_last_key f.path f.self_size)) _ default (entries g)
+-- The bytes of some rows by last key, added up.
+abbrev pub added_rows : List Row → Graph
+added_rows rs = added_up last_bytes default (map row_figures rs)
 
 -- One row more is added.
 pub row_more : (rs : List Row) (i : ℕ) (r : Row) → i < length rs → r ≡ get_or rs i r →
-    sum_of (added_figures (map row_figures (take i rs))) (bytes_at_last_key (texts r.path.items) r.self_size)
-    ≡ added_figures (map row_figures (take (i + 1) rs))
+    sum_of (added_rows (take i rs)) (last_bytes (row_figures r)) ≡ added_rows (take (i + 1) rs)
 row_more rs i r within at =
-    let more : map row_figures (take (i + 1) rs) ≡ map row_figures (take i rs) ++ row_figures r ∷ [] =
-    ap (map row_figures) (take_more rs i r within ∙ ap (λ (x : Row). take i rs ++ x ∷ []) (sym at))
-    ∙ map-append row_figures (take i rs) (r ∷ []) in
-    sym (ap added_figures more ∙ fold-append (λ (h : Graph) (x : Figures). sum_of h (bytes_at_last_key x.path x.self_size)) default (map row_figures (take i rs)) (row_figures r ∷ []))
+    rw (take_more rs i r within, ← at, map_push) (sym (fold-append (λ (h : Graph) f. sum_of h (last_bytes f)) default (map row_figures (take i rs)) (row_figures r ∷ [])))
+
+-- The bytes of the rows so far and of the next one fit a word, in whichever order the rows are.
+pub row_fits : (g : Graph) (rs sorted : List Row) (i : ℕ) (r : Row) → map row_figures rs ≡ figures g →
+    IsPermutation rs sorted → i < length sorted → r ≡ get_or sorted i r → total g < 2 ^ 64 →
+    total (added_rows (take i sorted)) + r.self_size < 2 ^ 64
+row_fits g rs sorted i r are order within at fits =
+    let own : Row → ℕ = λ x. x.self_size in
+    let bytes : sum_by (λ f. total (last_bytes f)) (map row_figures (take i sorted)) ≡ sum_by own (take i sorted) =
+    fold-map (λ n (f : Figures). n + total (last_bytes f)) row_figures 0 (take i sorted)
+    ∙ (λ j. sum_by (λ (x : Row). total-path (last_of (row_figures x).path) x.self_size j) (take i sorted)) in
+    omega (arith, bytes, total-added_up last_bytes default (map row_figures (take i sorted)), total-default, sum_by_more_le own sorted i r within, ap own at, sum_by-IsPermutation own rs sorted order, rows-bytes g rs are)
 
 -- After the last row all bytes are added up, in whichever order the rows are.
-pub rows-added : (g : Graph) (rs sorted items : List Row) (i : ℕ) (h : Graph) →
-    h ≡ added_figures (map row_figures (take i items)) → length items ≤ i → items ≡ sorted → IsPermutation rs sorted →
-    map row_figures rs ≡ figures g → h ≡ by_last_key g
+pub rows-added : (g : Graph) (rs sorted items : List Row) (i : ℕ) (h : Graph) → h ≡ added_rows (take i items) →
+    length items ≤ i → items ≡ sorted → IsPermutation rs sorted → map row_figures rs ≡ figures g → h ≡ by_last_key g
 rows-added g rs sorted items i h is all same order are =
-    is ∙ ap (λ (xs : List Row). added_figures (map row_figures xs)) (take_all i items all ∙ same)
-    ∙ added_up-permuted (λ (f : Figures). bytes_at_last_key f.path f.self_size) default (map row_figures rs) (map row_figures sorted) (IsPermutation-map row_figures rs sorted order)
-    ∙ ap added_figures are ∙ added-figures g
+    is ∙ ap added_rows (take_all i items all ∙ same)
+    ∙ added_up-permuted last_bytes default (map row_figures rs) (map row_figures sorted) (IsPermutation-map row_figures rs sorted order)
+    ∙ ap (added_up last_bytes default) are ∙ fold-map (λ (h : Graph) (f : Figures). sum_of h (last_bytes f)) _ default (entries g)
 
 -- After the last row the lines of all are written.
 pub table-is : (all t n i : ℕ) (sorted items : List Row) (made : List ℕ) →

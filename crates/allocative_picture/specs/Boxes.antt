@@ -11,33 +11,23 @@ use Rattle.allocative_picture.specs.declared.frame.Mark.{Mark}
 use Rattle.allocative_picture.specs.declared.frame.Mark.TheVariants.{Plain, Warned, Changed}
 
 -- ---- figures as texts
--- The greatest binary unit, in bytes, that n bytes reach.
-abbrev pub unit_bytes : ℕ → ℕ
-unit_bytes n =
-    cond (nat_lt n 0x400) 1
-    (cond (nat_lt n 0x100000) 0x400
-    (cond (nat_lt n 0x40000000) 0x100000
-    (cond (nat_lt n 0x10000000000) 0x40000000
-    (cond (nat_lt n 0x4000000000000) 0x10000000000
-    (cond (nat_lt n 0x1000000000000000) 0x4000000000000 0x1000000000000000)))))
-
--- The name of the greatest binary unit that n bytes reach.
-abbrev pub unit_name : ℕ → List ℕ
-unit_name n =
-    cond (nat_lt n 0x400) (codes "B")
-    (cond (nat_lt n 0x100000) (codes "KiB")
-    (cond (nat_lt n 0x40000000) (codes "MiB")
-    (cond (nat_lt n 0x10000000000) (codes "GiB")
-    (cond (nat_lt n 0x4000000000000) (codes "TiB")
-    (cond (nat_lt n 0x1000000000000000) (codes "PiB") (codes "EiB"))))))
+-- The greatest binary unit that n bytes reach, in bytes, and its name.
+abbrev pub unit_of : ℕ → ℕ × List ℕ
+unit_of n =
+    cond (nat_lt n 0x400) (1, codes "B")
+    (cond (nat_lt n 0x100000) (0x400, codes "KiB")
+    (cond (nat_lt n 0x40000000) (0x100000, codes "MiB")
+    (cond (nat_lt n 0x10000000000) (0x40000000, codes "GiB")
+    (cond (nat_lt n 0x4000000000000) (0x10000000000, codes "TiB")
+    (cond (nat_lt n 0x1000000000000000) (0x4000000000000, codes "PiB") (0x1000000000000000, codes "EiB"))))))
 
 -- Bytes in their greatest binary unit, for example `1.5 KiB`: a whole number below 1 KiB, and otherwise with one
 -- decimal, rounded down.
 unfoldable pub size_text : ℕ → List ℕ
 size_text n =
     cond (nat_lt n 0x400) (decimal n)
-    (decimal (n / unit_bytes n) ++ codes "." ++ decimal (n % unit_bytes n * 10 / unit_bytes n))
-    ++ codes " " ++ unit_name n
+    (decimal (n / (unit_of n).0) ++ codes "." ++ decimal (n % (unit_of n).0 * 10 / (unit_of n).0))
+    ++ codes " " ++ (unit_of n).1
 
 -- Whether a unit is that of bytes.
 abbrev pub is_bytes : List ℕ → Bool
@@ -50,8 +40,7 @@ amount_text unit n = cond (is_bytes unit) (size_text n) (decimal n ++ codes " " 
 
 -- An amount in full: bytes also in their greatest binary unit, for example `1.5 KiB (1536 bytes)`.
 unfoldable pub full_text : List ℕ → ℕ → List ℕ
-full_text unit n =
-    cond (is_bytes unit) (size_text n ++ codes " (" ++ decimal n ++ codes " bytes)") (decimal n ++ codes " " ++ unit)
+full_text unit n = amount_text unit n ++ cond (is_bytes unit) (codes " (" ++ decimal n ++ codes " bytes)") []
 
 -- Millionths of all as a number of percent with two decimals, rounded down, for example `12.34`.
 unfoldable pub percent_text : ℕ → List ℕ

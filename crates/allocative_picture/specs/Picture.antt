@@ -42,11 +42,9 @@ opening height title =
     concat (codes "<svg xmlns=\"http://www.w3.org/2000/svg\" width=\"100%\" height=\"" ∷ decimal height
     ∷ codes "\" font-size=\"12\">\n" ∷ STYLE.now ∷ codes "<title>" ∷ title ∷ codes "</title>\n" ∷ [])
 
--- The number of paths without a box, with the arguments of `bin/allocative-picture` that help if there are any.
-unfoldable pub narrow_text : ℕ → List ℕ
-narrow_text n =
-    cond (n == 0) (codes "0 too narrow even for zoom")
-    (decimal n ++ codes " too narrow even for zoom: see --depth, --fold and --narrowest")
+-- The arguments of `bin/allocative-picture` that help against n paths without a box, if there are any.
+abbrev pub narrow_hint : ℕ → List ℕ
+narrow_hint n = cond (n == 0) [] (codes ": see --depth, --fold and --narrowest")
 
 -- The title above a picture, the totals, the number of paths with a box, the number of the others, which are too
 -- narrow for one, and the labels that the script makes clickable.
@@ -54,7 +52,8 @@ unfoldable pub heading : List ℕ → List ℕ → Subject → ℕ → ℕ → L
 heading title unit s drawn paths =
     concat (codes "<text class=\"title\" x=\"8\" y=\"22\">" ∷ title
     ∷ codes "</text>\n<text class=\"sum say\" x=\"8\" y=\"42\">" ∷ subject_text unit s ∷ codes "; " ∷ decimal drawn
-    ∷ codes " paths drawn, " ∷ narrow_text (paths - drawn) ∷ codes "</text>\n" ∷ TOOLS.now ∷ [])
+    ∷ codes " paths drawn, " ∷ decimal (paths - drawn) ∷ codes " too narrow even for zoom" ∷ narrow_hint (paths - drawn)
+    ∷ codes "</text>\n" ∷ TOOLS.now ∷ [])
 
 -- The line of a path's warning at a height.
 unfoldable pub warning_line : ℕ → Warned → List ℕ

@@ -1,11 +1,12 @@
 -- Views of a graph: its bytes by last key, and its outline.
-use Rattle.std.specs.Prelude.{◌≡◌, ℕ, zero, suc, ◌<◌, ◌≤◌, ◌⊎◌, ⊤, cond, List, [], ◌∷◌, fold, length, sum_by, codes}
+use Rattle.std.specs.Prelude.{◌≡◌, ℕ, zero, suc, ◌<◌, ◌≤◌, ◌⊎◌, ◌-◌, cond, List, [], ◌∷◌, drop, fold, length, sum_by, codes}
+use Rattle.std.specs.List.{AllZip}
 use Rattle.std.specs.FinMap.{entries}
 use Rattle.allocative_graph.specs.Path.{Key, Path}
 use Rattle.allocative_graph.specs.Graph.{Graph, default, add_self, sum_of, under, total, size_at, IsBehind, HasNothing}
-use Rattle.allocative_graph.specs.Rows.{sum_of_all}
 use Rattle.allocative_graph.specs.Graph.{ends_in}
-use Rattle.allocative_graph.specs.Rows.{node, AreChildren}
+use Rattle.allocative_graph.specs.Rows.{node, sum_of_all, AreChildren}
+use Rattle.allocative_graph.specs.Representation.Children.{graph_of_path}
 use Rattle.allocative_graph.specs.declared.flamegraph.Child.{Child}
 
 -- The graph whose root alone has n bytes.
@@ -13,15 +14,13 @@ abbrev pub bytes_alone : ℕ → Graph
 bytes_alone n = add_self n default
 
 -- ---- by last key
--- The bytes of a path, at its last key alone.
-abbrev pub bytes_at_last_key : Path → ℕ → Graph
-bytes_at_last_key [] n = bytes_alone n
-bytes_at_last_key (k ∷ []) n = sum_of default (under k (bytes_alone n))
-bytes_at_last_key (k ∷ l ∷ p) n = bytes_at_last_key (l ∷ p) n
+-- The last key of a path alone, and no key of the root's.
+abbrev pub last_of : Path → Path
+last_of p = drop (length p - 1) p
 
 -- The bytes of all paths by last key: those of all paths that end in a key add up under it.
 abbrev pub by_last_key : Graph → Graph
-by_last_key g = fold (λ h e. sum_of h (bytes_at_last_key e.0 e.1)) default (entries g)
+by_last_key g = fold (λ h e. sum_of h (graph_of_path (last_of e.0) e.1)) default (entries g)
 
 -- The bytes of all paths of g that end in k.
 abbrev pub bytes_ending_in : Key → Graph → ℕ
@@ -44,10 +43,7 @@ GuidesChild g c x = IsBehind g (c.key ∷ []) x ⊎ (HasNothing g (c.key ∷ [])
 
 -- The second list has the keys of the first one in their order, and R holds of each two children with one key.
 abbrev pub InStep : (Child → Graph → Type 0) → List Child → List Child → Type 0
-InStep R [] [] = ⊤
-InStep R [] (d ∷ ds) = ⊥
-InStep R (c ∷ cs) [] = ⊥
-InStep R (c ∷ cs) (d ∷ ds) = (d.key ≡ c.key) × R c d.graph × InStep R cs ds
+InStep R cs ds = AllZip (λ c d. (d.key ≡ c.key) × R c d.graph) cs ds
 
 -- h is the outline of g with at most so many keys a path, if u guides it. The own bytes of the root stay. If u has more
 -- than n children, those of g are one child `{}`, the outline of their sum; otherwise each is outlined.

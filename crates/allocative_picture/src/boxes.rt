@@ -11,14 +11,10 @@ use allocative_graph::key::Key;
 use std::alloc::{AllocError, Global};
 use std::fmt;
 
-/// The bytes of a path in an earlier profile and in a later one, and their unit. They are printed as their difference
-/// with a sign, for example `+1.5 KiB`, or as `unchanged`.
+/// The bytes of a path in an earlier profile and those in a later one, and their unit. They are printed as their
+/// difference with a sign, for example `+1.5 KiB`, or as `unchanged`.
 #[derive(Clone, Copy)]
-pub(crate) struct Difference<'a> {
-    pub before: usize,
-    pub after: usize,
-    pub unit: &'a str,
-}
+pub(crate) struct Difference<'a>(pub usize, pub usize, pub &'a str);
 
 /// A change, printed as the amounts before and after.
 #[derive(Clone, Copy)]
@@ -40,14 +36,10 @@ fn shade(full: u128, change: usize, all: u128) -> u128
 
 #[tactic(auto, unfolding(crate::specs::Boxes::change_text))]
 impl fmt::Display for Difference<'_> {
-    ghost output = { λ c. Some (change_text c.unit.now c.before c.after) };
+    ghost output = { λ c. Some (change_text c.2.now c.0 c.1) };
 
     fn fmt<W: fmt::Write>(&self, f: &mut fmt::Formatter<W>) -> fmt::Result {
-        let Difference {
-            before,
-            after,
-            unit,
-        } = *self;
+        let Difference(before, after, unit) = *self;
         if before == after {
             write!(f, "unchanged")
         } else if before < after {
@@ -60,14 +52,10 @@ impl fmt::Display for Difference<'_> {
 
 #[tactic(auto, unfolding(crate::specs::Boxes::both_text))]
 impl fmt::Display for Comparison<'_> {
-    ghost output = { λ c. Some (both_text c.0.unit.now c.0.before c.0.after) };
+    ghost output = { λ c. Some (both_text c.0.2.now c.0.0 c.0.1) };
 
     fn fmt<W: fmt::Write>(&self, f: &mut fmt::Formatter<W>) -> fmt::Result {
-        let Difference {
-            before,
-            after,
-            unit,
-        } = self.0;
+        let Difference(before, after, unit) = self.0;
         let (earlier, later) = (Amount(before, unit), Amount(after, unit));
         write!(f, "{earlier} before, {later} after")?;
         if unit == "bytes" {
@@ -199,30 +187,22 @@ pub(crate) fn is_drawn(least: u32, all: u128, frame: &Frame<'_>) -> bool
     width != 0 && width >= least as u128
 }
 
-/// A frame and the share of its bytes, printed as the frame's bytes in their unit, and their share of all.
+/// A frame, the share of its bytes and their unit, printed as the frame's bytes and their share of all.
 #[derive(Clone, Copy)]
-struct Declared<'a> {
-    share: Percent,
-    unit: &'a str,
-    frame: Frame<'a>,
-}
+struct Declared<'a>(Frame<'a>, Percent, &'a str);
 
 #[tactic(auto, unfolding(crate::specs::Boxes::declared_text))]
 impl fmt::Display for Declared<'_> {
-    ghost output = { λ d. Some (declared_text d.unit.now d.share.0 (frame_data d.frame)) };
+    ghost output = { λ d. Some (declared_text d.2.now d.1.0 (frame_data d.0)) };
 
     fn fmt<W: fmt::Write>(&self, f: &mut fmt::Formatter<W>) -> fmt::Result {
-        let Frame { own, whole, .. } = self.frame;
-        let (share, unit) = (self.share, self.unit);
-        let whole_bytes = Full(whole, unit);
-        if own == whole {
-            return write!(f, "{whole_bytes}, {share}% of all");
+        let Declared(frame, share, unit) = *self;
+        let whole = Full(frame.whole, unit);
+        if frame.own == frame.whole {
+            return write!(f, "{whole}, {share}% of all");
         }
-        write!(
-            f,
-            "{whole_bytes}, {share}% of all\n{} of its own",
-            Full(own, unit)
-        )
+        let own = Full(frame.own, unit);
+        write!(f, "{whole}, {share}% of all\n{own} of its own")
     }
 }
 
@@ -232,23 +212,19 @@ struct Title<'a>(Declared<'a>);
 
 #[tactic(auto, unfolding(crate::specs::Boxes::title_text))]
 impl fmt::Display for Title<'_> {
-    ghost output = { λ t. Some (title_text t.0.unit.now t.0.share.0 t.0.frame.mark (frame_data t.0.frame)) };
+    ghost output = { λ t. Some (title_text t.0.2.now t.0.1.0 t.0.0.mark (frame_data t.0.0)) };
 
     fn fmt<W: fmt::Write>(&self, f: &mut fmt::Formatter<W>) -> fmt::Result {
         let declared = self.0;
-        match declared.frame.mark {
+        let Declared(frame, _, unit) = declared;
+        match frame.mark {
             Mark::Plain => write!(f, "{declared}"),
             Mark::Warned => write!(
                 f,
                 "{declared}\ndeclared smaller than its parts: see the warnings"
             ),
             Mark::Changed { was } => {
-                let after = declared.frame.whole.saturating_sub(was);
-                let change = Difference {
-                    before: was,
-                    after,
-                    unit: declared.unit,
-                };
+                let change = Difference(was, frame.whole.saturating_sub(was), unit);
                 write!(f, "{}\n{change}", Comparison(change))
             }
         }
@@ -268,13 +244,7 @@ impl fmt::Display for Figure<'_> {
         match self.0.mark {
             Mark::Plain | Mark::Warned => write!(f, "{}", Amount(whole, unit)),
             Mark::Changed { was } => {
-                let after = whole.saturating_sub(was);
-                let change = Difference {
-                    before: was,
-                    after,
-                    unit,
-                };
-                write!(f, "{change}")
+                write!(f, "{}", Difference(was, whole.saturating_sub(was), unit))
             }
         }
     }
@@ -311,11 +281,7 @@ pub(crate) fn push_element(
     push_viewport(all, frame, text)?;
     let key = escaped(alloc, frame.key)?;
     let share = Percent(edge(all, frame.whole as u128));
-    let title = Title(Declared {
-        share,
-        unit,
-        frame: *frame,
-    });
+    let title = Title(Declared(*frame, share, unit));
     let (paint, figure) = (Paint(*frame), Figure(*frame, unit));
     write!(
         text,

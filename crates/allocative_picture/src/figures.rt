@@ -1,19 +1,15 @@
 //! Figures as texts.
 ghost use Rattle.std.specs.Prelude.{◌≡◌, ◌*◌, ◌<◌, Some};
-ghost use Rattle.allocative_picture.specs.Boxes.{unit_bytes, unit_name, size_text, amount_text, full_text, percent_text, place_text};
+ghost use Rattle.allocative_picture.specs.Boxes.{unit_of, amount_text, full_text, percent_text, place_text};
 
 use std::fmt;
 
-/// A number of bytes, printed in its greatest binary unit and rounded down to tenths, for example `1.5 KiB`.
-#[derive(Clone, Copy)]
-struct Size(usize);
-
-/// An amount and its unit, printed as `1536 samples`. Bytes are printed as a `Size`.
+/// An amount and its unit, printed as `1536 samples`. Bytes are printed in their greatest binary unit, rounded
+/// down to tenths, for example `1.5 KiB`.
 #[derive(Clone, Copy)]
 pub(crate) struct Amount<'a>(pub usize, pub &'a str);
 
-/// An amount and its unit, printed as `1536 samples`. Bytes are printed in their greatest binary unit and in full, for
-/// example as `1.5 KiB (1536 bytes)`.
+/// An amount and its unit, printed as an `Amount`. Bytes are also printed in full, for example as `1.5 KiB (1536 bytes)`.
 #[derive(Clone, Copy)]
 pub(crate) struct Full<'a>(pub usize, pub &'a str);
 
@@ -26,9 +22,9 @@ pub(crate) struct Percent(pub u128);
 pub(crate) struct Place(pub u128);
 
 /// The greatest binary unit that some bytes reach, in bytes, and its name.
-fn unit(bytes: usize) -> (usize, &'static str)
-    ensures bytes { result.0 ≡ unit_bytes bytes }
-    ensures name { result.1.now ≡ unit_name bytes }
+fn unit_of(bytes: usize) -> (usize, &'static str)
+    ensures bytes { result.0 ≡ (unit_of bytes).0 }
+    ensures name { result.1.now ≡ (unit_of bytes).1 }
 {
     match bytes {
         0..=0x3ff => (1, "B"),
@@ -41,32 +37,22 @@ fn unit(bytes: usize) -> (usize, &'static str)
     }
 }
 
-#[tactic(auto, unfolding(crate::specs::Boxes::size_text))]
-impl fmt::Display for Size {
-    ghost output = { λ s. Some (size_text s.0) };
-
-    fn fmt<W: fmt::Write>(&self, f: &mut fmt::Formatter<W>) -> fmt::Result {
-        let bytes = self.0;
-        let (unit, name) = unit(bytes);
-        if bytes < 0x400 {
-            return write!(f, "{bytes} {name}");
-        }
-        let whole = bytes / unit;
-        let tenths = bytes % unit * 10 / unit;
-        write!(f, "{whole}.{tenths} {name}")
-    }
-}
-
-#[tactic(auto, unfolding(crate::specs::Boxes::amount_text))]
+#[tactic(auto, unfolding(crate::specs::Boxes::amount_text, crate::specs::Boxes::size_text))]
 impl fmt::Display for Amount<'_> {
     ghost output = { λ a. Some (amount_text a.1.now a.0) };
 
     fn fmt<W: fmt::Write>(&self, f: &mut fmt::Formatter<W>) -> fmt::Result {
         let Amount(amount, unit) = *self;
-        if unit == "bytes" {
-            return write!(f, "{}", Size(amount));
+        if unit != "bytes" {
+            return write!(f, "{amount} {unit}");
         }
-        write!(f, "{amount} {unit}")
+        let (bytes, name) = unit_of(amount);
+        if amount < 0x400 {
+            return write!(f, "{amount} {name}");
+        }
+        let whole = amount / bytes;
+        let tenths = amount % bytes * 10 / bytes;
+        write!(f, "{whole}.{tenths} {name}")
     }
 }
 
@@ -76,10 +62,11 @@ impl fmt::Display for Full<'_> {
 
     fn fmt<W: fmt::Write>(&self, f: &mut fmt::Formatter<W>) -> fmt::Result {
         let Full(amount, unit) = *self;
+        write!(f, "{}", Amount(amount, unit))?;
         if unit == "bytes" {
-            return write!(f, "{} ({amount} bytes)", Size(amount));
+            write!(f, " ({amount} bytes)")?;
         }
-        write!(f, "{amount} {unit}")
+        Ok(())
     }
 }
 

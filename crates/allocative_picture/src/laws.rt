@@ -42,6 +42,7 @@ pub fn escape_law()
 {}
 
 /// The bytes of a path and all below it in the sum of two graphs are those in the two graphs together.
+#[tactic(auto, using(crate::proofs::Geometry::changing))]
 pub fn change_law()
     ensures { ChangeLaw }
 {}

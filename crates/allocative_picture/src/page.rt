@@ -4,7 +4,7 @@ ghost use Rattle.allocative_graph.specs.Format.{AppendsText};
 ghost use Rattle.allocative_collectors.specs.Warned.{warning_of};
 ghost use Rattle.allocative_picture.specs.Frames.{frame_data};
 ghost use Rattle.allocative_picture.specs.Boxes.{element};
-ghost use Rattle.allocative_picture.specs.Picture.{all_of, legend_of, legend_height_of, subject_text, levels, opening, narrow_text, heading, warning_line, warning_lines};
+ghost use Rattle.allocative_picture.specs.Picture.{all_of, legend_of, legend_height_of, subject_text, levels, opening, narrow_hint, heading, warning_line, warning_lines};
 
 use crate::boxes::{Comparison, Difference, push_element};
 use crate::escape::escaped;
@@ -81,11 +81,7 @@ impl fmt::Display for Totals<'_> {
             }
             Subject::Profile { bytes } => write!(f, "{} in all", Full(bytes, unit)),
             Subject::Change { before, after } => {
-                let change = Difference {
-                    before,
-                    after,
-                    unit,
-                };
+                let change = Difference(before, after, unit);
                 write!(f, "{}, {change}", Comparison(change))
             }
         }
@@ -127,23 +123,13 @@ pub(crate) fn push_opening(height: u128, title: &str, text: &mut String) -> Resu
     Ok(())
 }
 
-/// The number of paths without a box, printed with the arguments of `bin/allocative-picture` that help, if there are any.
-#[derive(Clone, Copy)]
-struct Narrow(usize);
-
-#[tactic(auto, unfolding(crate::specs::Picture::narrow_text))]
-impl fmt::Display for Narrow {
-    ghost output = { λ n. Some (narrow_text n.0) };
-
-    fn fmt<W: fmt::Write>(&self, f: &mut fmt::Formatter<W>) -> fmt::Result {
-        let narrow = self.0;
-        if narrow == 0 {
-            return write!(f, "0 too narrow even for zoom");
-        }
-        write!(
-            f,
-            "{narrow} too narrow even for zoom: see --depth, --fold and --narrowest"
-        )
+/// What helps against paths without a box, if there are so many.
+fn narrow_hint(narrow: usize) -> &'static str
+    ensures { result.now ≡ narrow_hint narrow }
+{
+    match narrow {
+        0 => "",
+        _ => ": see --depth, --fold and --narrowest",
     }
 }
 
@@ -161,11 +147,12 @@ pub(crate) fn push_heading(
 {
     let totals = Totals(subject, unit);
     let narrow = paths.saturating_sub(drawn);
-    let left_out = Narrow(narrow);
+    let hint = narrow_hint(narrow);
     write!(
         text,
         "<text class=\"title\" x=\"8\" y=\"22\">{title}</text>\n\
-        <text class=\"sum say\" x=\"8\" y=\"42\">{totals}; {drawn} paths drawn, {left_out}</text>\n{TOOLS}"
+        <text class=\"sum say\" x=\"8\" y=\"42\">{totals}; {drawn} paths drawn, \
+        {narrow} too narrow even for zoom{hint}</text>\n{TOOLS}"
     )?;
     Ok(())
 }

@@ -3,9 +3,10 @@
 ghost use Rattle.std.specs.Prelude.{◌≡◌, [], ◌∷◌, IfOk, OnOk};
 ghost use Rattle.allocative_graph.specs.Path.{Key, texts};
 ghost use Rattle.allocative_graph.specs.Graph.{size_at, sum_of, total, under};
-ghost use Rattle.allocative_picture.specs.Views.{by_last_key, bytes_alone, bytes_at_last_key, bytes_ending_in, joined, GuidesChild, IsOutline};
+ghost use Rattle.allocative_graph.specs.Rows.{row_figures};
+ghost use Rattle.allocative_picture.specs.Views.{by_last_key, bytes_alone, bytes_ending_in, joined, last_of, GuidesChild, IsOutline};
 
-use allocative_graph::flamegraph::{Child, FlameGraph, Row};
+use allocative_graph::flamegraph::{Child, FlameGraph, Row, add_at};
 use allocative_graph::key::Key;
 use std::alloc::{AllocError, Global};
 
@@ -92,26 +93,12 @@ pub fn outline(
     Ok(view)
 }
 
-/// The bytes of a path, at its last key alone.
-fn bytes_at_last_key(
-    alloc: Global,
-    path: &[&'static str],
-    bytes: usize,
-) -> Result<FlameGraph, AllocError>
-    ensures { IfOk result (λ graph. graph ≡ bytes_at_last_key (texts path.now) bytes) }
+/// The last key of a row's path alone, or no key of the root's.
+fn last_of(row: &Row) -> &[&'static str]
+    ensures { texts result.now ≡ last_of (row_figures row.now).path }
 {
-    let graph = bytes_alone(alloc, bytes)?;
-    let Some(key) = path.last() else {
-        return Ok(graph);
-    };
-    let mut view = FlameGraph::default(alloc);
-    put(&mut view, Key::new(*key), graph)?;
-    Ok(view)
-}
-
-/// The last key of a row's path, or an empty one of the root's.
-fn last_key(row: &Row) -> &'static str {
-    row.path.last().copied().unwrap_or("")
+    let path = row.path.as_slice();
+    &path[path.len().saturating_sub(1)..]
 }
 
 /// The bytes of a graph by last key: all paths that end in a key add up under that key alone. The root keeps its own
@@ -125,14 +112,13 @@ pub fn by_last_key(alloc: Global, graph: &FlameGraph) -> Result<FlameGraph, Allo
     let Ok(mut rows) = graph.rows() else {
         return Err(AllocError);
     };
+    // The contract of `total_size` says that all bytes fit a `usize`, so no sum below overflows.
+    let _all = graph.total_size();
     // Each key is then added behind those that are there. The result of a sum does not depend on it.
-    rows.sort_unstable_by(|a: &Row, b: &Row| last_key(a).cmp(last_key(b)));
+    rows.sort_unstable_by(|a: &Row, b: &Row| last_of(a).cmp(last_of(b)));
     let mut view = FlameGraph::default(alloc);
     for row in &rows {
-        let added = bytes_at_last_key(alloc, row.path.as_slice(), row.self_size)?;
-        if view.add(added).is_err() {
-            return Err(AllocError);
-        }
+        add_at(&mut view, last_of(row), row.self_size)?;
     }
     Ok(view)
 }

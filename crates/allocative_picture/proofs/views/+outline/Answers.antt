@@ -1,11 +1,12 @@
 -- of outline: its returns, and the step of its loop
-use Rattle.std.proofs.Common.{List, [], ◌∷◌, ◌++◌, ap, subst, subst₂, ◌∙◌, take_all, arith}
+use Rattle.std.proofs.Common.{◌≡◌, List, [], ◌∷◌, ◌++◌, ap, subst, subst₂, ◌∙◌, take_all, arith}
+use Rattle.std.proofs.lemmas.List.Elements.{all_zip_more}
 use Rattle.std.proofs.lemmas.Result.{IfOk-weaker}
 use Rattle.allocative_picture.proofs.Common.{Child, Graph, total}
 use Rattle.allocative_graph.specs.Graph.{size_at, sum_of, under}
 use Rattle.allocative_graph.proofs.Nodes.{total-path}
 use Rattle.allocative_picture.specs.Views.{bytes_alone, GuidesChild, InStep, IsOutline}
-use Rattle.allocative_picture.proofs.Viewing.{all-push, outline-each, outline-joined, outline-root, step-more}
+use Rattle.allocative_picture.proofs.Viewing.{all-push, outline-each, outline-joined, outline-root}
 use Rattle.allocative_picture.proofs.Viewing.{total-outline}
 use Rattle.allocative_picture.proofs.views.+outline.Goals as goal
 
@@ -50,9 +51,9 @@ loop-child-preserved t c =
     let R : Child → Graph → Type 0 = λ b o. (x : Graph) × GuidesChild c.args.guide.now b x
     × IsOutline c.in-Some.rest c.args.most x b.graph o in (
       ds ++ d ∷ [],
-      step-more R c.children-children.result.now ds c.loop-child.child-index c.child-item.result d (omega arith)
-          c.child-item.is c.loop-child.invariant.1 c.copy.ensures
-          (c.guide_of-child_guide.result.now, c.guide_of-child_guide.ensures, c.in_ok-below-2.ensures.outline),
+      all_zip_more (λ b o. (o.key ≡ b.key) × R b o.graph) _ ds c.loop-child.child-index _ d (omega arith)
+          c.child-item.is c.loop-child.invariant.1
+          (c.copy.ensures, (c.guide_of-child_guide.result.now, c.guide_of-child_guide.ensures, c.in_ok-below-2.ensures.outline)),
       c.in_ok-put-2.ensures ∙ ap (λ (h : Graph). sum_of h (under c.copy.result below)) c.loop-child.invariant.2
           ∙ all-push (bytes_alone (size_at c.args.graph.now [])) ds d,
     )

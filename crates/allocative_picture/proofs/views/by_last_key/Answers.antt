@@ -1,9 +1,18 @@
 -- of by_last_key: the result
-use Rattle.std.proofs.Common.{[], ◌∷◌, ap, ◌∙◌, arith}
+use Rattle.std.proofs.Common.{[], ◌∷◌, IsPermutation, ap, ◌∙◌, arith}
 use Rattle.allocative_picture.proofs.Common.{Graph, total}
 use Rattle.allocative_graph.specs.Graph.{size_at}
-use Rattle.allocative_picture.proofs.Viewing.{rows-added, size_at-by_last_key, total-by_last_key}
+use Rattle.allocative_picture.proofs.Viewing.{row_fits, rows-added, size_at-by_last_key, total-by_last_key}
 use Rattle.allocative_picture.proofs.views.by_last_key.Goals as goal
+
+-- The next row fits, since all rows do.
+pub add_at-requires : goal.add_at-requires
+add_at-requires c =
+    let items = c.deref-row-items.result.now in
+    let order : IsPermutation c.in-Ok.rows.items items = rw c.deref-row-items.ensures.value c.sort_unstable_by.ensures.permutation in
+    record {
+      fits = omega (arith, ap total c.loop-row.invariant, row_fits c.args.graph.now c.in-Ok.rows.items items c.loop-row.row-index c.row-item.result c.in-Ok.ensures.rows order c.loop-row-test.true c.row-item.is (omega (arith, c.total_size-all.ensures.total)));
+    }
 
 pub returns-clause-view : goal.returns-clause-view
 returns-clause-view c =
