@@ -50,12 +50,7 @@ fn answer_of(
 }
 
 /// The modes of one collection.
-const ONE: [RunMode; 4] = [
-    RunMode::ByHand,
-    RunMode::Visited,
-    RunMode::Values,
-    RunMode::Registered,
-];
+const ONE: [RunMode; 2] = [RunMode::ByHand, RunMode::Registered];
 
 /// The modes of two collections.
 const TWO: [RunMode; 2] = [RunMode::Added, RunMode::InTwo];

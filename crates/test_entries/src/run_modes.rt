@@ -12,11 +12,7 @@ use std::alloc::Global;
 pub(crate) enum RunMode {
     /// Entered by hand, each at a root visitor of its own.
     ByHand,
-    /// Visited one by one.
-    Visited,
-    /// Visited as the values of a slice.
-    Values,
-    /// Boxed and registered.
+    /// Boxed, registered and visited.
     Registered,
     /// Entered by hand into two builders, whose graphs are added.
     Added,
@@ -60,19 +56,11 @@ fn enter_entry(
     }
 }
 
-/// Enters each root by hand at a root visitor of its own, or visits it.
-fn enter_roots(
-    builder: &mut FlameGraphBuilder,
-    roots: &[Forest],
-    is_by_hand: bool,
-) -> Result<(), Refusal> {
+/// Enters each root at a root visitor of its own.
+fn enter_roots(builder: &mut FlameGraphBuilder, roots: &[Forest]) -> Result<(), Refusal> {
     for root in roots {
-        if is_by_hand {
-            let mut visitor = builder.root_visitor()?;
-            enter(&mut visitor, root)?;
-        } else {
-            builder.visit_root(root)?;
-        }
+        let mut visitor = builder.root_visitor()?;
+        enter(&mut visitor, root)?;
     }
     Ok(())
 }
@@ -94,26 +82,11 @@ fn finish(
     Err(Refusal::Open)
 }
 
-/// What roots show that are entered by hand, or visited.
-fn output_of(
-    alloc: Global,
-    roots: &[Forest],
-    is_by_hand: bool,
-) -> Result<FlameGraphOutput, Refusal> {
+/// What roots show that are entered by hand.
+fn entered_by_hand(alloc: Global, roots: &[Forest]) -> Result<FlameGraphOutput, Refusal> {
     let mut builder = FlameGraphBuilder::new(alloc)?;
-    let entered = enter_roots(&mut builder, roots, is_by_hand);
+    let entered = enter_roots(&mut builder, roots);
     finish(builder, entered)
-}
-
-/// The text alone, by the call that returns nothing else.
-fn values(alloc: Global, roots: &[Forest]) -> Result<Shown, Refusal> {
-    let mut builder = FlameGraphBuilder::new(alloc)?;
-    builder.visit_values(roots)?;
-    Ok(Shown {
-        text: builder.finish_and_write_flame_graph()?,
-        total: None,
-        warnings: None,
-    })
 }
 
 fn registered(alloc: Global, roots: Vec<Forest>) -> Result<FlameGraphOutput, Refusal> {
@@ -125,8 +98,8 @@ fn registered(alloc: Global, roots: Vec<Forest>) -> Result<FlameGraphOutput, Ref
 }
 
 fn sum_of_two(alloc: Global, left: &[Forest], right: &[Forest]) -> Result<FlameGraph, Refusal> {
-    let mut sum = output_of(alloc, left, true)?.into_flamegraph();
-    sum.add(output_of(alloc, right, true)?.into_flamegraph())?;
+    let mut sum = entered_by_hand(alloc, left)?.into_flamegraph();
+    sum.add(entered_by_hand(alloc, right)?.into_flamegraph())?;
     Ok(sum)
 }
 
@@ -139,9 +112,7 @@ pub(crate) fn collect(
 ) -> Result<Shown, Refusal> {
     let middle = left.min(roots.len());
     match mode {
-        RunMode::ByHand => output_shown(output_of(alloc, &roots, true)?),
-        RunMode::Visited => output_shown(output_of(alloc, &roots, false)?),
-        RunMode::Values => values(alloc, &roots),
+        RunMode::ByHand => output_shown(entered_by_hand(alloc, &roots)?),
         RunMode::Registered => output_shown(registered(alloc, roots)?),
         RunMode::Added => graph_shown(sum_of_two(alloc, &roots[..middle], &roots[middle..])?),
         RunMode::InTwo => graph_shown(profile_in_two(alloc, &roots[..middle], &roots[middle..])?),

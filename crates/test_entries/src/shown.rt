@@ -1,11 +1,11 @@
 //! What the roots of a row show, and whether it is what the row wants.
 use allocative::{FlameGraph, FlameGraphOutput, Refusal};
 
-/// The text of a graph. Where it is of a whole graph, the graph's total, and of a whole output, the warnings.
+/// The text and the total of a graph, and of a whole output the warnings.
 #[derive(Debug, Drop)]
 pub(crate) struct Shown {
     pub(crate) text: String,
-    pub(crate) total: Option<usize>,
+    pub(crate) total: usize,
     pub(crate) warnings: Option<String>,
 }
 
@@ -13,7 +13,7 @@ pub(crate) struct Shown {
 pub(crate) fn graph_shown(graph: FlameGraph) -> Result<Shown, Refusal> {
     Ok(Shown {
         text: graph.write()?,
-        total: Some(graph.total_size()),
+        total: graph.total_size(),
         warnings: None,
     })
 }
@@ -46,7 +46,7 @@ fn sum_of(lines: &str) -> Option<usize> {
 impl Shown {
     /// Whether the text has these lines, the total is their sum, and the warnings are as wanted.
     pub(crate) fn is_wanted(&self, lines: &str, warnings: &str) -> bool {
-        let has_total = self.total.is_none() || self.total == sum_of(lines);
+        let has_total = Some(self.total) == sum_of(lines);
         let has_warnings = match &self.warnings {
             Some(text) => has_lines(text.as_str(), warnings),
             None => true,
