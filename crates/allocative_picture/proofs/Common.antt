@@ -1,16 +1,31 @@
--- The names that most proofs of this crate cite, passed on from one place. Declares nothing.
-pub use Rattle.std.specs.FinMap.{entries, entries_sorted, len}
-pub use Rattle.std.specs.FinMap.Entries.{below_all, is_sorted}
-pub use Rattle.std.specs.Ordering.{is_eq, is_lt, ordering_reverse, ordering_then}
-pub use Rattle.std.specs.declared.cmp.Ordering.{Ordering}
-pub use Rattle.std.specs.declared.cmp.Ordering.TheVariants.{Equal, Greater, Less}
-pub use Rattle.allocative_graph.specs.Graph.{Graph, total, total_at}
-pub use Rattle.allocative_graph.specs.Path.{Path, is_same_path, key_cmp, path_cmp}
-pub use Rattle.allocative_graph.specs.Rows.{Figures, figures_behind}
-pub use Rattle.allocative_graph.specs.Rows.{total_of}
+-- The names that proofs of this crate cite, passed on from one place. Declares nothing.
+pub use Rattle.allocative_collectors.specs.Warned.{warning_of}
+pub use Rattle.allocative_graph.proofs.Basics.{on_test, same_path, each-append, path_total}
+pub use Rattle.allocative_graph.proofs.Behind.{child_read, figured, node_read}
+pub use Rattle.allocative_graph.proofs.Children.{total_of-cons, total-node, rows-more, total_of-rows}
+pub use Rattle.allocative_graph.proofs.Nodes.{total-path, rows_of_node}
+pub use Rattle.allocative_graph.proofs.StackSums.{size_at-path}
+pub use Rattle.allocative_graph.proofs.Text.{texts, popped}
+pub use Rattle.allocative_graph.proofs.Common.{total, Graph, begins, default, size_at, sum_of, under, total_at}
+pub use Rattle.allocative_graph.proofs.Common.{IsBehind, HasNothing, Path, key_cmp, path_cmp, is_same_path, Key}
+pub use Rattle.allocative_graph.proofs.Common.{graph_of_path, InOrder, first, second, len-child, total_of, sum_of_all}
+pub use Rattle.allocative_graph.proofs.Common.{Figures, row_figures, figures_behind, node, rows_of, eq_by_cmp_equiv}
+pub use Rattle.allocative_graph.proofs.Common.{map_push, take_more, map-append, length-map, fold-map}
+pub use Rattle.allocative_graph.proofs.Common.{sum_by-IsPermutation, sum_by-cons, fold-append, sum_by-append}
+pub use Rattle.allocative_graph.proofs.Common.{sum_by_push, tied_itself, nat_list_cmp_total, entries, entries_sorted}
+pub use Rattle.allocative_graph.proofs.Common.{contains_key, get-entries, len, len-entries, is_sorted, below_all, find}
+pub use Rattle.allocative_graph.proofs.Common.{AllByRecursion, list_any, ordering_then, ordering_reverse}
+pub use Rattle.allocative_graph.specs.Graph.{ends_in, Warned}
+pub use Rattle.allocative_graph.specs.Rows.{figures}
 pub use Rattle.allocative_graph.specs.declared.flamegraph.Child.{Child}
-pub use Rattle.allocative_picture.specs.Boxes.{is_drawn}
-pub use Rattle.allocative_picture.specs.Escape.{escaped_char}
-pub use Rattle.allocative_picture.specs.Picture.{warning_lines}
-pub use Rattle.allocative_picture.specs.Frames.{FrameData, before_in, frame_from, frame_of, frames_from, frame_data}
-pub use Rattle.allocative_picture.specs.declared.frame.Mark.{Mark}
+pub use Rattle.allocative_graph.specs.declared.flamegraph.Row.{Row}
+pub use Rattle.allocative_picture.specs.Boxes.{is_drawn, edge, element}
+pub use Rattle.allocative_picture.specs.Frames.{before_in, FrameData, frame_of, frames_from, frame_from, mark_with}
+pub use Rattle.allocative_picture.specs.Frames.{mark_by, mark_in, warned_mark, frame_data, shown_key}
+pub use Rattle.allocative_picture.specs.Picture.{levels, warning_lines, warning_line, all_of}
+pub use Rattle.allocative_picture.specs.Table.{IsWord, table_line, HasNoLess, lightness}
+pub use Rattle.std.proofs.lemmas.List.{take-map, drop-map, take_rest, get_or-map}
+pub use Rattle.std.proofs.lemmas.List.Elements.{filter-append, all_zip_more}
+pub use Rattle.std.proofs.lemmas.List.Sorted.{IsPermutation-map, All-permutation, IsNonDecreasingBy-from_sort_by_key}
+pub use Rattle.std.proofs.lemmas.List.Sums.{sum_by-le-sum_by, get_or-le-sum_by, sum_by_more_le, sum_by_more}
+pub use Rattle.std.proofs.lemmas.List.Sums.{sum_by-take-le}

@@ -1,14 +1,13 @@
 -- The markup of a character has plain bytes only, and unescapes to that character.
 use Rattle.std.proofs.Common.{◌≡◌, ℕ, ◌≤◌, ◌&&◌, Bool, true, false, not, cond, List, [], ◌∷◌, ◌++◌, refl, arith, codes}
 use Rattle.std.proofs.Common.{nat_lt, ◌==◌, encode_utf8, flat_map}
-use Rattle.allocative_picture.proofs.Common.{escaped_char}
+use Rattle.allocative_picture.proofs.Common.{AllByRecursion, each-append}
+use Rattle.allocative_picture.specs.Escape.{escaped_char, is_unfit, IsPlain, Unescapes, end, ampersand, less, greater}
+use Rattle.allocative_picture.specs.Escape.{quote, apostrophe, itself, EscapeLaws}
 use Rattle.std.proofs.lemmas.Bool.{and_parts, eqb-true, eqb-false}
 use Rattle.std.proofs.lemmas.Bool.Decides.{nat_tests}
-use Rattle.std.specs.List.{AllByRecursion, list_all}
+use Rattle.std.specs.List.{list_all}
 use Rattle.std.specs.Str.{chars}
-use Rattle.allocative_graph.proofs.Basics.{each-append}
-use Rattle.allocative_picture.specs.Escape.{is_unfit, IsPlain, Unescapes, end, ampersand, less, greater, quote}
-use Rattle.allocative_picture.specs.Escape.{apostrophe, itself, EscapeLaws}
 
 -- What holds in both cases holds of a choice.
 by_cond : {X : Type 0} (P : X → Type 0) (b : Bool) (x y : X) → (b ≡ true → P x) → (b ≡ false → P y) → P (cond b x y)

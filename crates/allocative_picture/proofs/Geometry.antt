@@ -1,22 +1,15 @@
 -- How boxes are placed relative to one another, which frames have a box, and how often a path occurs.
-use Rattle.std.proofs.Common.{◌≡◌, ℕ, zero, suc, ◌+◌, ◌*◌, ◌<◌, ◌≤◌, ◌&&◌, cond, List, [], ◌∷◌, ◌++◌, sum_by, refl}
-use Rattle.std.proofs.Common.{ap, ◌∙◌, arith, true, Some, sym, subst, T, filter, flat_map, count_by}
-use Rattle.allocative_picture.proofs.Common.{Ordering, Less, Equal, Greater, is_eq, is_lt, ordering_then}
-use Rattle.allocative_picture.proofs.Common.{ordering_reverse, entries, Path, key_cmp, path_cmp, total, before_in}
-use Rattle.allocative_picture.proofs.Common.{entries_sorted, is_sorted, below_all, is_same_path, Graph, FrameData}
-use Rattle.allocative_picture.proofs.Common.{is_drawn}
+use Rattle.std.proofs.Common.{◌≡◌, ℕ, zero, suc, ◌+◌, ◌*◌, ◌<◌, ◌≤◌, ◌&&◌, cond, List, [], ◌∷◌, ◌++◌, sum_by, refl, ap}
+use Rattle.std.proofs.Common.{◌∙◌, arith, true, Some, sym, subst, T, filter, flat_map, count_by, Ordering, Less, Equal}
+use Rattle.std.proofs.Common.{Greater, is_eq, is_lt, is_some}
+use Rattle.allocative_picture.proofs.Common.{ordering_then, ordering_reverse, entries, Path, key_cmp, path_cmp, total}
+use Rattle.allocative_picture.proofs.Common.{before_in, entries_sorted, is_sorted, below_all, is_same_path, Graph}
+use Rattle.allocative_picture.proofs.Common.{FrameData, is_drawn, sum_by-cons, sum_by-le-sum_by, nat_list_cmp_total}
+use Rattle.allocative_picture.proofs.Common.{Key, begins, edge, element, contains_key, get-entries, find, on_test}
+use Rattle.allocative_picture.proofs.Common.{same_path}
 use Rattle.allocative_graph.proofs.Graphs.{total_at-sum_of}
 use Rattle.std.proofs.Math.Nat.{mul-div_cancel_left, div-zero}
-use Rattle.std.proofs.lemmas.List.Sums.{sum_by-cons, sum_by-le-sum_by}
-use Rattle.std.specs.Cmp.Lexicographic.{nat_list_cmp_total}
-use Rattle.allocative_graph.specs.Path.{Key}
-use Rattle.allocative_graph.specs.Graph.{begins}
-use Rattle.allocative_picture.specs.Boxes.{edge, element}
 use Rattle.allocative_picture.specs.Laws.{InsideLaw, ApartLaw, WithinLaw, boxes}
-use Rattle.std.specs.Option.{is_some}
-use Rattle.std.specs.FinMap.{contains_key, get-entries}
-use Rattle.std.specs.FinMap.Entries.{find}
-use Rattle.allocative_graph.proofs.Basics.{on_test, same_path}
 use Rattle.allocative_picture.proofs.Placing.{less_than, in_order}
 
 -- The bytes of a path and of all paths below it, among some entries.

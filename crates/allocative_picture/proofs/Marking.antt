@@ -1,19 +1,14 @@
 -- Marks by the bytes of another graph, and the graph of the paths that have a warning.
-use Rattle.std.proofs.Common.{◌≡◌, ℕ, ◌≤◌, Bor, IfSome, IfNone, option_copied, false, cond, [], ◌∷◌, Option, Some}
-use Rattle.std.proofs.Common.{None, is_some, refl, sym, unwrap_or, arith, ◌+◌, ◌==◌, Bool, true, not, List, ◌++◌, ap}
-use Rattle.std.proofs.Common.{◌∙◌, count_by}
-use Rattle.allocative_picture.proofs.Common.{entries, Path, Graph, total_at, is_same_path}
-use Rattle.std.proofs.lemmas.List.Sums.{sum_by-le-sum_by, sum_by-cons, sum_by_push}
-use Rattle.allocative_graph.specs.Path.{Key}
-use Rattle.allocative_graph.specs.Graph.{size_at, begins, IsBehind, HasNothing, Warned, sum_of}
+use Rattle.std.proofs.Common.{◌≡◌, ℕ, ◌≤◌, Bor, IfSome, IfNone, option_copied, false, cond, [], ◌∷◌, Option, Some, None}
+use Rattle.std.proofs.Common.{is_some, refl, sym, unwrap_or, arith, ◌+◌, ◌==◌, Bool, true, not, List, ◌++◌, ap, ◌∙◌}
+use Rattle.std.proofs.Common.{count_by}
+use Rattle.allocative_picture.proofs.Common.{entries, Path, Graph, total_at, is_same_path, sum_by-le-sum_by}
+use Rattle.allocative_picture.proofs.Common.{sum_by-cons, sum_by_push, Key, size_at, begins, IsBehind, HasNothing}
+use Rattle.allocative_picture.proofs.Common.{Warned, sum_of, mark_with, mark_by, mark_in, warned_mark, list_any}
+use Rattle.allocative_picture.proofs.Common.{graph_of_path, path_total, size_at-path, eq_by_cmp_equiv}
 use Rattle.allocative_picture.specs.declared.frames.Marks.{Marks}
-use Rattle.allocative_picture.specs.Frames.{mark_with, mark_by, mark_in, is_warned, warned_mark}
-use Rattle.std.specs.List.{list_any}
-use Rattle.allocative_graph.specs.Representation.Children.{graph_of_path}
-use Rattle.allocative_graph.proofs.Basics.{path_total}
+use Rattle.allocative_picture.specs.Frames.{is_warned}
 use Rattle.allocative_graph.proofs.Graphs.{size_at-sum_of}
-use Rattle.allocative_graph.proofs.StackSums.{size_at-path}
-use Rattle.std.proofs.lemmas.Cmp.{eq_by_cmp_equiv}
 use Rattle.allocative_picture.specs.declared.frame.Mark.TheVariants.{Plain}
 use Rattle.allocative_picture.specs.declared.frame.Mark.TheVariants as mark
 

@@ -1,24 +1,16 @@
 -- The frames of a graph: the bytes before each, that of its root and then those of its children.
 use Rattle.std.proofs.Common.{◌≡◌, ℕ, ◌+◌, cond, List, [], ◌∷◌, ◌++◌, map, sum_by, length, refl, sym, ap, subst, ◌∙◌}
-use Rattle.std.proofs.Common.{append_assoc, T, arith, ◌<◌, Bor, get_or, take, length-append}
-use Rattle.allocative_picture.proofs.Common.{is_lt, ordering_reverse, Less, Greater, entries, entries_sorted}
-use Rattle.allocative_picture.proofs.Common.{is_sorted, below_all, Path, path_cmp, Graph, total_at, Figures, Mark}
-use Rattle.allocative_picture.proofs.Common.{before_in, frame_of, frames_from, len, Child, total, figures_behind}
-use Rattle.allocative_picture.proofs.Common.{total_of, FrameData, frame_from}
-use Rattle.std.proofs.lemmas.List.Sums.{sum_by-cons, sum_by-append, sum_by_more}
-use Rattle.std.specs.Cmp.{tied_itself}
-use Rattle.allocative_graph.specs.Rows.{figures, node, rows_of}
-use Rattle.allocative_graph.specs.Representation.NodeRows.{first, second, len-child}
-use Rattle.allocative_graph.proofs.Basics.{path_total}
+use Rattle.std.proofs.Common.{append_assoc, T, arith, ◌<◌, Bor, get_or, take, length-append, is_lt, Less, Greater}
+use Rattle.allocative_picture.proofs.Common.{ordering_reverse, entries, entries_sorted, is_sorted, below_all, Path}
+use Rattle.allocative_picture.proofs.Common.{path_cmp, Graph, total_at, Figures, before_in, frame_of, frames_from, len}
+use Rattle.allocative_picture.proofs.Common.{Child, total, figures_behind, total_of, FrameData, frame_from, sum_by-cons}
+use Rattle.allocative_picture.proofs.Common.{sum_by-append, sum_by_more, tied_itself, figures, node, rows_of, first}
+use Rattle.allocative_picture.proofs.Common.{second, len-child, path_total, map-append, length-map, fold-map}
+use Rattle.allocative_picture.proofs.Common.{len-entries, InOrder, rows-more, total_of-rows, texts, child_read, figured}
+use Rattle.allocative_picture.proofs.Common.{node_read}
+use Rattle.allocative_picture.specs.declared.frame.Mark.{Mark}
 use Rattle.allocative_graph.proofs.Sums.{is_lt-Less}
 use Rattle.allocative_picture.specs.Frames.{frames_of}
-use Rattle.std.proofs.lemmas.List.{map-append, length-map}
-use Rattle.std.proofs.lemmas.List.Folds.{fold-map}
-use Rattle.std.specs.FinMap.{len-entries}
-use Rattle.allocative_graph.specs.Representation.Children.{InOrder}
-use Rattle.allocative_graph.proofs.Children.{rows-more, total_of-rows}
-use Rattle.allocative_graph.proofs.Text.{texts}
-use Rattle.allocative_graph.proofs.Behind.{child_read, figured, node_read}
 use Rattle.allocative_picture.specs.Frames as picture
 
 -- Paths with their sizes.

@@ -1,30 +1,17 @@
 -- Views keep the total, and what is at a last key.
-use Rattle.std.proofs.Common.{◌≡◌, ℕ, zero, suc, ◌+◌, ◌<◌, ◌≤◌, ◌^◌, All, inl, inr, cond, List, [], ◌∷◌, ◌++◌, take, length, get_or}
-use Rattle.std.proofs.Common.{flat_map, map, take_all, sum_by, codes, refl, sym, ap, ◌-◌, ◌∙◌, arith}
-use Rattle.allocative_picture.proofs.Common.{entries, Child, Path, Graph, total, total_of, is_same_path, key_cmp, is_eq}
-use Rattle.allocative_picture.proofs.Common.{ordering_then, Ordering, Less, Equal, Greater}
-use Rattle.allocative_graph.specs.Representation.Children.{graph_of_path}
-use Rattle.std.proofs.lemmas.List.{map_push, take-map, take_more}
-use Rattle.std.proofs.lemmas.List.Folds.{fold-map}
-use Rattle.std.proofs.lemmas.List.Sums.{fold-append, get_or-le-sum_by, sum_by_more_le}
-use Rattle.std.proofs.lemmas.List.Sorted.{sum_by-IsPermutation}
-use Rattle.allocative_graph.specs.Path.{Key}
-use Rattle.allocative_graph.specs.Graph.{default, size_at, sum_of, under}
-use Rattle.allocative_graph.specs.Rows.{sum_of_all}
-use Rattle.allocative_graph.specs.Graph.{ends_in}
-use Rattle.allocative_graph.specs.Rows.{Figures, figures, row_figures}
-use Rattle.allocative_graph.specs.declared.flamegraph.Row.{Row}
-use Rattle.allocative_graph.proofs.Children.{total_of-cons}
-use Rattle.std.proofs.lemmas.List.Sorted.{IsPermutation-map}
-use Rattle.std.specs.List.Sorted.{IsPermutation}
-use Rattle.allocative_graph.proofs.Graphs.{added_up, added_up-permuted, total-default, total-added_up, size_at-added_up, total-all}
-use Rattle.allocative_graph.proofs.Graphs.{size_at-default, total-sum_of, total-under}
-use Rattle.allocative_graph.proofs.Children.{total-node}
-use Rattle.allocative_graph.proofs.Nodes.{total-path}
-use Rattle.allocative_graph.proofs.StackSums.{size_at-path}
-use Rattle.allocative_picture.specs.Views.{bytes_alone, last_of, by_last_key, bytes_ending_in, joined}
-use Rattle.allocative_picture.specs.Table.{IsWord, table_line}
-use Rattle.allocative_picture.specs.Views.{GuidesChild, HasChildren, InStep, IsOutline}
+use Rattle.std.proofs.Common.{◌≡◌, ℕ, zero, suc, ◌+◌, ◌<◌, ◌≤◌, ◌^◌, All, inl, inr, cond, List, [], ◌∷◌, ◌++◌, take}
+use Rattle.std.proofs.Common.{length, get_or, flat_map, map, take_all, sum_by, codes, refl, sym, ap, ◌-◌, ◌∙◌, arith}
+use Rattle.std.proofs.Common.{is_eq, Ordering, Less, Equal, Greater, IsPermutation}
+use Rattle.allocative_picture.proofs.Common.{entries, Child, Path, Graph, total, total_of, is_same_path, key_cmp}
+use Rattle.allocative_picture.proofs.Common.{ordering_then, graph_of_path, map_push, take-map, take_more, fold-map}
+use Rattle.allocative_picture.proofs.Common.{fold-append, get_or-le-sum_by, sum_by_more_le, sum_by-IsPermutation, Key}
+use Rattle.allocative_picture.proofs.Common.{default, size_at, sum_of, under, sum_of_all, ends_in, Figures, figures}
+use Rattle.allocative_picture.proofs.Common.{row_figures, Row, total_of-cons, IsPermutation-map, total-node, total-path}
+use Rattle.allocative_picture.proofs.Common.{size_at-path, IsWord, table_line}
+use Rattle.allocative_graph.proofs.Graphs.{added_up, added_up-permuted, total-default, total-added_up, size_at-added_up}
+use Rattle.allocative_graph.proofs.Graphs.{total-all, size_at-default, total-sum_of, total-under}
+use Rattle.allocative_picture.specs.Views.{bytes_alone, last_of, by_last_key, bytes_ending_in, joined, GuidesChild}
+use Rattle.allocative_picture.specs.Views.{HasChildren, InStep, IsOutline}
 
 -- ---- totals
 -- The bytes by last key are all bytes.

@@ -1,7 +1,6 @@
 -- of escaped: the result
-use Rattle.std.proofs.Common.{◌≡◌, List, [], ◌∷◌, ℕ, map, refl, ap, sym, ◌∙◌}
-use Rattle.allocative_picture.proofs.Common.{escaped_char}
-use Rattle.std.specs.List.{flat_map}
+use Rattle.std.proofs.Common.{◌≡◌, List, [], ◌∷◌, ℕ, map, refl, ap, sym, ◌∙◌, flat_map}
+use Rattle.allocative_picture.specs.Escape.{escaped_char}
 use Rattle.std.proofs.lemmas.Iterator.{YieldsList-from_chars}
 use Rattle.std.proofs.lemmas.Iterator.Consumers.{YieldsList-end}
 use Rattle.allocative_picture.proofs.escape.escaped.Goals as goal

@@ -1,6 +1,6 @@
 -- of escaped: the invariant of its loop
 use Rattle.std.proofs.Common.{◌≡◌, flat_map, string_bytes}
-use Rattle.allocative_picture.proofs.Common.{escaped_char}
+use Rattle.allocative_picture.specs.Escape.{escaped_char}
 use Rattle.allocative_picture.proofs.escape.escaped.Given as goal
 
 -- The text is the markup of the characters so far.

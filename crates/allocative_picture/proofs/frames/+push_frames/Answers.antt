@@ -1,17 +1,9 @@
 -- of push_frames: a number fits, what push_frames requires, the step of its loop, before, paths and frames
 use Rattle.std.proofs.Common.{rules, ◌≡◌, refl, ◌+◌, ◌<◌, ◌++◌, [], ◌∷◌, List, map, arith, ap, sym, subst, append_assoc}
 use Rattle.std.proofs.Common.{append-nil, ◌∙◌, filter, length, take_all}
-use Rattle.allocative_picture.proofs.Common.{is_drawn, len, Child, Path, total, total_at, total_of, FrameData, frame_data}
-use Rattle.allocative_picture.proofs.Common.{frames_from, frame_from}
-use Rattle.std.proofs.lemmas.List.Elements.{filter-append}
-use Rattle.allocative_graph.proofs.Nodes.{rows_of_node}
-use Rattle.allocative_graph.specs.Graph.{size_at}
-use Rattle.allocative_graph.specs.Rows.{rows_of}
-use Rattle.allocative_graph.proofs.Children.{total-node}
-use Rattle.allocative_graph.proofs.Text.{texts, popped}
-use Rattle.allocative_graph.proofs.Behind.{figured}
-use Rattle.std.proofs.lemmas.List.Sums.{sum_by-take-le}
-use Rattle.allocative_picture.specs.Frames.{mark_by}
+use Rattle.allocative_picture.proofs.Common.{is_drawn, len, Child, Path, total, total_at, total_of, FrameData}
+use Rattle.allocative_picture.proofs.Common.{frame_data, frames_from, frame_from, filter-append, rows_of_node, size_at}
+use Rattle.allocative_picture.proofs.Common.{rows_of, total-node, texts, popped, figured, sum_by-take-le, mark_by}
 use Rattle.allocative_picture.proofs.Placing.{pushed_key, total_of_more, rows_more, child_rows, node_rows}
 use Rattle.allocative_picture.proofs.frames.+push_frames.Goals as goal
 

@@ -1,9 +1,7 @@
 -- of push_frames: its recursion ends and the invariant of its loop
 use Rattle.std.proofs.Common.{◌≡◌, ◌+◌, ◌++◌, map, take, length, filter}
-use Rattle.allocative_picture.proofs.Common.{len, total_at, total_of, frame_data, frames_from, is_drawn}
-use Rattle.allocative_graph.specs.Rows.{rows_of}
-use Rattle.allocative_graph.proofs.Behind.{figured}
-use Rattle.allocative_picture.specs.Frames.{mark_by}
+use Rattle.allocative_picture.proofs.Common.{len, total_at, total_of, frame_data, frames_from, is_drawn, rows_of}
+use Rattle.allocative_picture.proofs.Common.{figured, mark_by}
 use Rattle.allocative_picture.proofs.frames.+push_frames.Given as goal
 
 -- Each call is for a graph with fewer paths.

@@ -1,6 +1,6 @@
 -- of below: the result
 use Rattle.std.proofs.Common.{sym, ap, ◌∙◌, ◌≡◌, Some, option_copied, ◌∷◌, rules}
-use Rattle.allocative_picture.specs.Frames.{mark_in}
+use Rattle.allocative_picture.proofs.Common.{mark_in}
 use Rattle.allocative_picture.proofs.Marking.{marks_found}
 use Rattle.allocative_picture.proofs.frames.below.Goals as goal
 

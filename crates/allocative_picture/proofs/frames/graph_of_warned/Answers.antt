@@ -1,14 +1,9 @@
 -- of graph_of_warned: the start of its loop, the step of its loop and the result
 use Rattle.std.proofs.Common.{◌≡◌, ℕ, ◌+◌, ◌++◌, ◌∷◌, [], List, Bor, map, take, sym, ap, ◌∙◌, arith, take_all}
-use Rattle.std.proofs.lemmas.List.{take_more, map_push}
-use Rattle.allocative_collectors.specs.Warned.{warning_of}
+use Rattle.allocative_picture.proofs.Common.{take_more, map_push, warning_of, Graph, Warned, size_at, total, sum_of}
+use Rattle.allocative_picture.proofs.Common.{graph_of_path, texts, total-path}
 use Rattle.allocative_collectors.specs.declared.output.WarnedPath.{WarnedPath}
-use Rattle.allocative_graph.specs.Graph.{Graph, Warned, size_at, total, sum_of}
-use Rattle.allocative_graph.specs.Representation.Children.{graph_of_path}
-use Rattle.allocative_graph.proofs.Graphs.{total-default}
-use Rattle.allocative_graph.proofs.Graphs.{size_at-default, total-sum_of}
-use Rattle.allocative_graph.proofs.Text.{texts}
-use Rattle.allocative_graph.proofs.Nodes.{total-path}
+use Rattle.allocative_graph.proofs.Graphs.{total-default, size_at-default, total-sum_of}
 use Rattle.allocative_picture.proofs.Marking.{warnings_at, warning_more, mark_counted}
 use Rattle.allocative_picture.proofs.frames.graph_of_warned.Goals as goal
 

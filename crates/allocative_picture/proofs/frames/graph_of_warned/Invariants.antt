@@ -1,8 +1,6 @@
 -- of graph_of_warned: the invariant of its loop
 use Rattle.std.proofs.Common.{◌≡◌, map, take}
-use Rattle.allocative_picture.proofs.Common.{Path, total}
-use Rattle.allocative_graph.specs.Graph.{size_at}
-use Rattle.allocative_collectors.specs.Warned.{warning_of}
+use Rattle.allocative_picture.proofs.Common.{Path, total, size_at, warning_of}
 use Rattle.allocative_picture.proofs.Marking.{warnings_at}
 use Rattle.allocative_picture.proofs.frames.graph_of_warned.Given as goal
 

@@ -1,7 +1,6 @@
 -- of shown_key: the result
 use Rattle.std.proofs.Common.{◌≡◌, ℕ, suc, ◌-◌, ◌<◌, List, Bor, [], ◌∷◌, length, get_or, refl, ap, ◌∙◌, arith}
-use Rattle.allocative_graph.proofs.Text.{texts}
-use Rattle.allocative_picture.specs.Frames.{shown_key}
+use Rattle.allocative_picture.proofs.Common.{texts, shown_key}
 use Rattle.allocative_picture.proofs.frames.shown_key.Goals as goal
 
 -- The shown key of a path with a key is its last key.

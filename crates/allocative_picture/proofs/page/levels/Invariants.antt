@@ -1,7 +1,6 @@
 -- of levels: the invariant of its loop
 use Rattle.std.proofs.Common.{◌≡◌, ◌≤◌, ◌^◌, map, take}
-use Rattle.allocative_picture.proofs.Common.{frame_data}
-use Rattle.allocative_picture.specs.Picture.{levels}
+use Rattle.allocative_picture.proofs.Common.{frame_data, levels}
 use Rattle.allocative_picture.proofs.page.levels.Given as goal
 
 -- The number of levels is that of the frames so far.

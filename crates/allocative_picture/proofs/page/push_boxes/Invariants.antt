@@ -1,7 +1,6 @@
 -- of push_boxes: the invariant of its loop
 use Rattle.std.proofs.Common.{◌≡◌, ◌++◌, map, take, flat_map, string_bytes}
-use Rattle.allocative_picture.proofs.Common.{frame_data}
-use Rattle.allocative_picture.specs.Boxes.{element}
+use Rattle.allocative_picture.proofs.Common.{frame_data, element}
 use Rattle.allocative_picture.proofs.page.push_boxes.Given as goal
 
 -- The boxes of the frames so far have been appended.

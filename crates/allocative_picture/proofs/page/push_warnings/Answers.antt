@@ -1,10 +1,8 @@
 -- of push_warnings: the step of its loop
 use Rattle.std.proofs.Common.{◌≡◌, ℕ, ◌+◌, ◌*◌, List, [], ◌∷◌, ◌++◌, length, sym, ap, ◌∙◌, append_assoc, append-nil}
 use Rattle.std.proofs.Common.{arith}
-use Rattle.allocative_picture.proofs.Common.{warning_lines}
+use Rattle.allocative_picture.proofs.Common.{warning_lines, Warned, warning_line}
 use Rattle.std.proofs.lemmas.Grind.{common_steps}
-use Rattle.allocative_graph.specs.Graph.{Warned}
-use Rattle.allocative_picture.specs.Picture.{warning_line}
 use Rattle.allocative_picture.proofs.page.push_warnings.Goals as goal
 
 -- The text of the warnings after one more path.

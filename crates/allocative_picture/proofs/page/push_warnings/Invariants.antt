@@ -1,7 +1,6 @@
 -- of push_warnings: the invariant of its loop
 use Rattle.std.proofs.Common.{◌≡◌, ◌++◌, map, take, string_bytes}
-use Rattle.allocative_picture.proofs.Common.{warning_lines}
-use Rattle.allocative_collectors.specs.Warned.{warning_of}
+use Rattle.allocative_picture.proofs.Common.{warning_lines, warning_of}
 use Rattle.allocative_picture.proofs.page.push_warnings.Given as goal
 
 -- The warnings of the paths so far have been appended.

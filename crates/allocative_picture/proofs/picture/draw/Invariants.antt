@@ -1,7 +1,6 @@
 -- of draw: the invariant of its loop
 use Rattle.std.proofs.Common.{◌≡◌, map, take, filter}
-use Rattle.allocative_picture.proofs.Common.{frame_data, is_drawn}
-use Rattle.allocative_picture.specs.Picture.{all_of}
+use Rattle.allocative_picture.proofs.Common.{frame_data, is_drawn, all_of}
 use Rattle.allocative_picture.proofs.picture.draw.Given as goal
 
 -- Of the frames so far those that are wide enough are kept.

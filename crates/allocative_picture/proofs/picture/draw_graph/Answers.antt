@@ -1,9 +1,7 @@
 -- of draw_graph: the result
 use Rattle.std.proofs.Common.{◌≡◌, ◌++◌, map, ap, ◌∙◌, filter, arith}
-use Rattle.allocative_picture.proofs.Common.{figures_behind, is_drawn, len, frames_from, frame_data}
-use Rattle.allocative_graph.proofs.Text.{texts}
-use Rattle.allocative_picture.specs.Picture.{all_of}
-use Rattle.allocative_picture.specs.Frames.{mark_by}
+use Rattle.allocative_picture.proofs.Common.{figures_behind, is_drawn, len, frames_from, frame_data, texts, all_of}
+use Rattle.allocative_picture.proofs.Common.{mark_by}
 use Rattle.allocative_picture.proofs.Placing.{frames_from-figures, length-frames_of}
 use Rattle.allocative_picture.proofs.picture.draw_graph.Goals as goal
 

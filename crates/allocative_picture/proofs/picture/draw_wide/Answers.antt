@@ -1,6 +1,6 @@
 -- of draw_wide: the result
 use Rattle.std.proofs.Common.{refl}
-use Rattle.std.proofs.lemmas.List.{length-map}
+use Rattle.allocative_picture.proofs.Common.{length-map}
 use Rattle.allocative_picture.specs.Picture.{drawing_of}
 use Rattle.allocative_picture.proofs.picture.draw_wide.Goals as goal
 

@@ -1,11 +1,9 @@
 -- of sort_by_weight: falling
 use Rattle.std.proofs.Common.{◌<◌, List, [], ◌∷◌, map, length, arith, rules, All, AllPairs}
+use Rattle.allocative_picture.proofs.Common.{length-map, get_or-map, All-permutation}
+use Rattle.allocative_picture.proofs.Common.{IsNonDecreasingBy-from_sort_by_key, row_figures, Row, HasNoLess, IsWord}
+use Rattle.allocative_picture.proofs.Common.{lightness}
 use Rattle.std.specs.List.Sorted.{IsNonDecreasingBy}
-use Rattle.std.proofs.lemmas.List.{length-map, get_or-map}
-use Rattle.std.proofs.lemmas.List.Sorted.{All-permutation, IsNonDecreasingBy-from_sort_by_key}
-use Rattle.allocative_graph.specs.Rows.{row_figures}
-use Rattle.allocative_graph.specs.declared.flamegraph.Row.{Row}
-use Rattle.allocative_picture.specs.Table.{HasNoLess, IsWord, lightness}
 use Rattle.allocative_picture.proofs.table.sort_by_weight.Goals as goal
 
 -- What is sorted by lightness falls by weight.

@@ -1,9 +1,6 @@
 -- of table: what its sort requires, and the result
-use Rattle.std.proofs.Common.{List, map, subst, ◌∙◌, arith}
-use Rattle.std.specs.List.Sorted.{IsPermutation}
-use Rattle.std.proofs.lemmas.List.Sorted.{IsPermutation-map}
-use Rattle.allocative_graph.specs.Graph.{total}
-use Rattle.allocative_graph.specs.Rows.{Figures, row_figures}
+use Rattle.std.proofs.Common.{List, map, subst, ◌∙◌, arith, IsPermutation}
+use Rattle.allocative_picture.proofs.Common.{IsPermutation-map, total, Figures, row_figures}
 use Rattle.allocative_picture.proofs.Viewing.{rows-fit, table-is}
 use Rattle.allocative_picture.proofs.table.table.Goals as goal
 

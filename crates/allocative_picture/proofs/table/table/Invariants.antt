@@ -1,7 +1,6 @@
 -- of table: the invariant of its loop
 use Rattle.std.proofs.Common.{◌≡◌, map, take, flat_map, string_bytes}
-use Rattle.allocative_graph.specs.Rows.{row_figures}
-use Rattle.allocative_picture.specs.Table.{table_line}
+use Rattle.allocative_picture.proofs.Common.{row_figures, table_line}
 use Rattle.allocative_picture.proofs.table.table.Given as goal
 
 -- The lines of the rows so far are written.

@@ -1,13 +1,9 @@
 -- of outline: its returns, and the step of its loop
 use Rattle.std.proofs.Common.{◌≡◌, List, [], ◌∷◌, ◌++◌, ap, subst, subst₂, ◌∙◌, take_all, arith}
-use Rattle.std.proofs.lemmas.List.Elements.{all_zip_more}
+use Rattle.allocative_picture.proofs.Common.{all_zip_more, Child, Graph, total, size_at, sum_of, under, total-path}
 use Rattle.std.proofs.lemmas.Result.{IfOk-weaker}
-use Rattle.allocative_picture.proofs.Common.{Child, Graph, total}
-use Rattle.allocative_graph.specs.Graph.{size_at, sum_of, under}
-use Rattle.allocative_graph.proofs.Nodes.{total-path}
 use Rattle.allocative_picture.specs.Views.{bytes_alone, GuidesChild, InStep, IsOutline}
-use Rattle.allocative_picture.proofs.Viewing.{all-push, outline-each, outline-joined, outline-root}
-use Rattle.allocative_picture.proofs.Viewing.{total-outline}
+use Rattle.allocative_picture.proofs.Viewing.{all-push, outline-each, outline-joined, outline-root, total-outline}
 use Rattle.allocative_picture.proofs.views.+outline.Goals as goal
 
 -- All bytes are the root's if no key is left.

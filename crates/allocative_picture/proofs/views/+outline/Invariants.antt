@@ -1,8 +1,6 @@
 -- of outline: its recursion ends, and the invariant of its loop
 use Rattle.std.proofs.Common.{◌≡◌, List, [], take}
-use Rattle.allocative_picture.proofs.Common.{Child, Graph}
-use Rattle.allocative_graph.specs.Graph.{size_at}
-use Rattle.allocative_graph.specs.Rows.{sum_of_all}
+use Rattle.allocative_picture.proofs.Common.{Child, Graph, size_at, sum_of_all}
 use Rattle.allocative_picture.specs.Views.{bytes_alone, GuidesChild, InStep, IsOutline}
 use Rattle.allocative_picture.proofs.views.+outline.Given as goal
 

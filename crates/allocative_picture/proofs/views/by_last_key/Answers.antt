@@ -1,7 +1,6 @@
 -- of by_last_key: the result
 use Rattle.std.proofs.Common.{[], ◌∷◌, IsPermutation, ap, ◌∙◌, arith}
-use Rattle.allocative_picture.proofs.Common.{Graph, total}
-use Rattle.allocative_graph.specs.Graph.{size_at}
+use Rattle.allocative_picture.proofs.Common.{Graph, total, size_at}
 use Rattle.allocative_picture.proofs.Viewing.{row_fits, rows-added, size_at-by_last_key, total-by_last_key}
 use Rattle.allocative_picture.proofs.views.by_last_key.Goals as goal
 

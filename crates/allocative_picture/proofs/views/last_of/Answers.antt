@@ -1,6 +1,6 @@
 -- of last_of: the result
 use Rattle.std.proofs.Common.{refl}
-use Rattle.std.proofs.lemmas.List.{drop-map, length-map, take_rest}
+use Rattle.allocative_picture.proofs.Common.{drop-map, length-map, take_rest}
 use Rattle.allocative_picture.proofs.views.last_of.Goals as goal
 
 pub returns : goal.returns
