@@ -1,33 +1,24 @@
 -- The graphs of fields: their totals, why they are refused, the documents of a text, and what a run makes of them.
-use Rattle.std.proofs.Common.{◌≡◌, ℕ, ◌+◌, ◌^◌, ◌<◌, ◌≤◌, ◌==◌, Bool, true, false, List, [], ◌∷◌, ◌++◌, length, get_or, take}
-use Rattle.std.proofs.Common.{drop, map, Bor, Option, None, Some, Result, Ok, Err, IfErr, IfSome, IsErrAnd, inl, inr}
-use Rattle.std.proofs.Common.{MatchResult, unwrap_or, refl, sym, ap, subst, subst₂, ◌∙◌, not, cond, arith, append-nil}
-use Rattle.std.proofs.Common.{take-append-drop}
-use Rattle.std.proofs.lemmas.List.{drop_more, length-map}
+use Rattle.std.proofs.Common.{◌≡◌, ℕ, ◌+◌, ◌^◌, ◌<◌, ◌≤◌, ◌==◌, Bool, true, false, List, [], ◌∷◌, ◌++◌, length, get_or}
+use Rattle.std.proofs.Common.{take, drop, map, Bor, Option, None, Some, Result, Ok, Err, IfErr, IfSome, IsErrAnd, inl}
+use Rattle.std.proofs.Common.{inr, MatchResult, unwrap_or, refl, sym, ap, subst, subst₂, ◌∙◌, not, cond, arith}
+use Rattle.std.proofs.Common.{append-nil, take-append-drop}
+use Rattle.allocative_json.proofs.Common.{drop_more, length-map, fold-map, Graph, default, add_self, total, sum_of_all}
+use Rattle.allocative_json.proofs.Common.{Child, total-add_at, total-default, total-all, view, Value, Fault, fault_of}
+use Rattle.allocative_json.proofs.Common.{StopsReading, bytes_alone, all_fields, is_blank, filled, lines_in, texts_of}
+use Rattle.allocative_json.proofs.Common.{AreDocuments, AppendsDocument, RefusesDocument, RefusesGraph, RefusesText}
+use Rattle.allocative_json.proofs.Common.{RefusesFields, MayEndFields}
 use Rattle.std.proofs.lemmas.List.Elements.{filter-append}
-use Rattle.std.proofs.lemmas.List.Folds.{fold-map}
 use Rattle.std.proofs.lemmas.List.Splits.{length-slice_split}
 use Rattle.std.proofs.lemmas.List.Sums.{sum_by_more_le, count_by-le-length}
 use Rattle.std.proofs.lemmas.Slice.Zip.{all_zipped_more}
-use Rattle.allocative_graph.specs.Graph.{Graph, default, add_self, total}
-use Rattle.allocative_graph.specs.Rows.{sum_of_all}
-use Rattle.allocative_graph.specs.declared.flamegraph.Child.{Child}
 use Rattle.allocative_graph.specs.declared.refusal.Refusal.{Refusal}
-use Rattle.allocative_graph.specs.declared.refusal.Refusal.TheVariants as refused
-use Rattle.allocative_graph.proofs.Graphs.{total-add_at}
-use Rattle.allocative_graph.proofs.Graphs.{total-default, total-all}
-use Rattle.allocative_json.proofs.Common.{view, Value}
-use Rattle.allocative_json.specs.declared.fault.Fault.{Fault}
 use Rattle.allocative_json.specs.declared.fault.Fault.TheVariants.{Memory, TooLarge, Reading}
 use Rattle.allocative_json.specs.declared.fields.FieldsFault.{FieldsFault}
 use Rattle.allocative_json.specs.declared.fields.FieldsFault.TheVariants.{NotJson, Other}
-use Rattle.allocative_json.specs.Fault.{fault_of}
 use Rattle.allocative_json.specs.Roots.{IsDocument}
-use Rattle.allocative_json.specs.Run.{StopsReading}
-use Rattle.allocative_json.specs.Fields.{bytes_alone, all_fields, is_blank, filled, lines_in, texts_of, AreDocuments}
-use Rattle.allocative_json.specs.Fields.{AppendsDocument, RefusesDocument, RefusesGraph, RefusesText, RefusesFields}
-use Rattle.allocative_json.specs.Fields.{MayEndFields}
 use Rattle.allocative_json.proofs.Reports.{some_text}
+use Rattle.allocative_graph.specs.declared.refusal.Refusal.TheVariants as refused
 
 -- ---- totals
 -- The total of a graph whose root alone has bytes is these bytes.
@@ -65,12 +56,6 @@ pub refused_sum : {T : Type 0} (r : Refusal) (h : Graph) (bytes : ℕ) →
 refused_sum refused.Memory h bytes large never within = tt
 refused_sum refused.TooLarge h bytes large never within = omega (arith, large refl)
 refused_sum refused.Open h bytes large never within = absurd (never refl)
-
--- More bytes of a root are refused.
-pub refused_self : {T : Type 0} (r : Refusal) (h : Graph) (bytes : ℕ) →
-    (◌≡◌ {A = Result T Refusal} (Err r) (Err refused.TooLarge) → 2 ^ 64 ≤ bytes) → r ≡ refused.TooLarge →
-    bytes ≤ total h → RefusesGraph h r
-refused_self r h bytes large is within = subst (RefusesGraph h) (sym is) (omega (arith, large (ap Err is)))
 
 -- A refusal is passed on.
 pub passed_on : {T : Type 0} (y : T) (g : Graph) (x : Result T Refusal) (r : Refusal) → IsErrAnd x (λ q. q ≡ r) →

@@ -2,12 +2,9 @@
 use Rattle.std.proofs.Common.{◌≡◌, ◌≢◌, ℕ, suc, ◌+◌, ◌<◌, ◌≤◌, ◌==◌, Bool, true, false, cond, List, [], ◌∷◌, ◌++◌}
 use Rattle.std.proofs.Common.{length, get_or, take, drop, Option, None, Some, refl, ap, sym, ◌∙◌, arith, append_assoc}
 use Rattle.std.proofs.Common.{append-nil, eq-eqb, Bor, MatchOption, ne_eqb, take-append-drop}
-use Rattle.allocative_json.proofs.Common.{after_last, kept_lines}
+use Rattle.allocative_json.proofs.Common.{after_last, kept_lines, Lacks, lines_from, before_last, kept_line}
 use Rattle.std.specs.Str.Pattern.{RFindsChar}
 use Rattle.std.proofs.lemmas.Str.Pattern.{NoCharPasses-char, drop_at_char, IsSplitOnceResult, split_parts}
-use Rattle.allocative.specs.Graph.{Lacks}
-use Rattle.allocative.specs.Graph.{lines_from, before_last}
-use Rattle.allocative_json.specs.Profile.{kept_line}
 
 -- Bytes of which none is c lack c.
 lacks_from : (c : ℕ) (bs : List ℕ) → ((i : ℕ) → i < length bs → get_or bs i 0 ≢ c) → Lacks c bs

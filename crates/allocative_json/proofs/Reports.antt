@@ -1,30 +1,24 @@
 -- How reports of roots are reports of an input, and how their errors are those of a run.
 use Rattle.std.proofs.Common.{◌≡◌, ℕ, ◌<◌, ℤ, length, arith, Bool, true, List, [], ◌∷◌, Option, None, Some, Result, Ok}
-use Rattle.std.proofs.Common.{Err, IfOk, IfErr, IsErrAnd, IfSome, MatchResult, refl, ap, ◌∙◌, sym, subst}
-use Rattle.allocative_json.proofs.Common.{BTreeSet, view, Value, Showing, roots_show, Word, AreWords}
-use Rattle.std.specs.List.{list_all}
-use Rattle.std.proofs.lemmas.Result.{IfOk-weaker, IfErr-weaker}
-use Rattle.serde_json.specs.Data.{Data}
+use Rattle.std.proofs.Common.{Err, IfOk, IfErr, IsErrAnd, IfSome, MatchResult, refl, ap, ◌∙◌, sym, subst, BTreeSet}
+use Rattle.allocative_json.proofs.Common.{view, Value, Showing, roots_show, Word, AreWords, list_all, IfOk-weaker}
+use Rattle.allocative_json.proofs.Common.{IfErr-weaker, Data, fault_of, Nothing, Both, each_shows, Fault, AreTexts}
+use Rattle.allocative_json.proofs.Common.{IsReportOf, IsRightReport, RefusesRoots, RefusesReport, IsReportFor}
+use Rattle.allocative_json.proofs.Common.{MayEndRun, Asks}
 use Rattle.serde_json.specs.Read.{read}
 use Rattle.serde_json.proofs.OnLiterals.{serde_json_on_literals}
 use Rattle.allocative.specs.Refusal.{Refusal}
-use Rattle.allocative.specs.Refusal.TheVariants as refused
-use Rattle.allocative_json.specs.Fault.{fault_of}
 use Rattle.allocative.specs.Forest.{Forest, followed_by}
-use Rattle.allocative.specs.Shows.{Nothing, Both, each_shows}
 use Rattle.allocative.specs.Collector.{Kind, OfGraph, begin, no_entries}
 use Rattle.allocative.specs.Strict.{CanTake, MayRefuseProfile}
 use Rattle.allocative.proofs.Strict.{each_one, followed_by-empty, may_refuse}
 use Rattle.allocative.specs.Visits.{Profile, IsProfileOf}
-use Rattle.allocative_json.specs.declared.fault.Fault.{Fault}
 use Rattle.allocative_json.specs.declared.fault.Fault.TheVariants.{Memory, TooLarge, Reading, Writing, Open}
-use Rattle.allocative_json.specs.declared.fault.Fault.TheVariants as fault
 use Rattle.allocative_json.specs.declared.profile.Report.{Report}
 use Rattle.allocative_json.specs.declared.words.Words.{Words}
-use Rattle.allocative_json.specs.Profile.{AreTexts, IsReportOf, IsRightReport, RefusesRoots, RefusesReport}
 use Rattle.allocative_json.specs.Roots.{IsDocument, AreRoots}
-use Rattle.allocative_json.specs.Run.{IsReportFor, MayEndRun}
-use Rattle.allocative_json.specs.Run.{Asks}
+use Rattle.allocative.specs.Refusal.TheVariants as refused
+use Rattle.allocative_json.specs.declared.fault.Fault.TheVariants as fault
 
 -- ---- reports of roots
 -- The texts of a profile of what p allows are a report of it.

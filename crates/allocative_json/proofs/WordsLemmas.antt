@@ -2,11 +2,10 @@
 use Rattle.std.proofs.Common.{◌≡◌, ◌≢◌, ℕ, ◌+◌, ◌<◌, List, [], ◌∷◌, ◌++◌, length, length-append, get_or, take, drop}
 use Rattle.std.proofs.Common.{refl, ap, sym, ◌∙◌, subst, arith, Contains, String, Global, string_bytes}
 use Rattle.std.proofs.Common.{take-append-drop}
-use Rattle.allocative_json.proofs.Common.{Word, words_of, AreWords}
+use Rattle.allocative_json.proofs.Common.{Word, words_of, AreWords, get_or_at, get_or_append_left, map-append}
+use Rattle.allocative_json.proofs.Common.{drop_more, IsKnown}
 use Rattle.std.proofs.lemmas.List.Elements.{All-push, All-contains, Contains-get_or, Contains-append_right}
 use Rattle.std.proofs.lemmas.List.Quantifiers.{all_pairs_push}
-use Rattle.std.proofs.lemmas.List.{get_or_at, get_or_append_left, map-append, drop_more}
-use Rattle.allocative_json.specs.Run.{IsKnown}
 
 -- The words around the one at i.
 pub at_word : (texts : List (String Global)) (i : ℕ) (t : String Global) → i < length texts → t ≡ get_or texts i t

@@ -1,5 +1,6 @@
 -- The document that an input is, its numbers at any depth, and why it is none.
-use Rattle.std.specs.Prelude.{◌≡◌, ℕ, ℤ, pos, ◌<◌, Bool, true, false, ◌&&◌, ◌||◌, List, length, Option, None, Some, IsUtf8}
+use Rattle.std.specs.Prelude.{◌≡◌, ℕ, ℤ, pos, ◌<◌, Bool, true, false, ◌||◌, List, [], ◌∷◌, ◌++◌, length, Option, None, Some, IsUtf8}
+use Rattle.std.specs.List.{list_all, list_any}
 use Rattle.std.specs.Ordering.{int_cmp, int_eq}
 use Rattle.std.specs.BTreeSet.{BTreeSet, contains, IsOrdered}
 use Rattle.serde_json.specs.Data.{Num, unsigned, negative, float, Data, null, boolean, number, string, array, object}
@@ -9,31 +10,35 @@ use Rattle.allocative_json.specs.declared.fault.Fault.{Fault}
 use Rattle.allocative_json.specs.declared.fault.Fault.TheVariants.{Memory, NotJson, NotWhole}
 
 -- ---- numbers
+abbrev mutual
+  -- The numbers of a document, at any depth.
+  pub numbers_of : Data → List Num
+  numbers_of null = []
+  numbers_of (boolean b) = []
+  numbers_of (number n) = n ∷ []
+  numbers_of (string s) = []
+  numbers_of (array ds) = items_numbers ds
+  numbers_of (object ms) = members_numbers ms
+
+  -- The numbers of the items of an array.
+  pub items_numbers : Items → List Num
+  items_numbers no_items = []
+  items_numbers (item d ds) = numbers_of d ++ items_numbers ds
+
+  -- The numbers of the values of the members of an object.
+  pub members_numbers : Members → List Num
+  members_numbers no_members = []
+  members_numbers (member k d ms) = numbers_of d ++ members_numbers ms
+
 -- Whether a number is an i64 or a u64.
 abbrev pub is_whole_number : Num → Bool
 is_whole_number (unsigned n) = true
 is_whole_number (negative z) = true
 is_whole_number (float x) = false
 
-abbrev mutual
-  -- Whether each number of a document is an i64 or a u64.
-  pub is_whole : Data → Bool
-  is_whole null = true
-  is_whole (boolean b) = true
-  is_whole (number n) = is_whole_number n
-  is_whole (string s) = true
-  is_whole (array ds) = are_whole ds
-  is_whole (object ms) = have_whole ms
-
-  -- Whether each number of the items of an array is an i64 or a u64.
-  pub are_whole : Items → Bool
-  are_whole no_items = true
-  are_whole (item d ds) = is_whole d && are_whole ds
-
-  -- Whether each number of the members of an object is an i64 or a u64.
-  pub have_whole : Members → Bool
-  have_whole no_members = true
-  have_whole (member k d ms) = is_whole d && have_whole ms
+-- Whether each number of a document is an i64 or a u64.
+abbrev pub is_whole : Data → Bool
+is_whole d = list_all is_whole_number (numbers_of d)
 
 -- Whether a number is the whole number k.
 abbrev pub is_number : Num → ℤ → Bool
@@ -41,34 +46,18 @@ is_number (unsigned n) k = int_eq (pos n) k
 is_number (negative z) k = int_eq z k
 is_number (float x) k = false
 
-abbrev mutual
-  -- Whether the whole number k is in a document, at any depth.
-  pub has_number : Data → ℤ → Bool
-  has_number null k = false
-  has_number (boolean b) k = false
-  has_number (number n) k = is_number n k
-  has_number (string s) k = false
-  has_number (array ds) k = items_have ds k
-  has_number (object ms) k = members_have ms k
+-- Whether the whole number k is one of some numbers.
+abbrev pub has_number : List Num → ℤ → Bool
+has_number ns k = list_any (λ n. is_number n k) ns
 
-  -- Whether the whole number k is in one of the items of an array.
-  pub items_have : Items → ℤ → Bool
-  items_have no_items k = false
-  items_have (item d ds) k = has_number d k || items_have ds k
-
-  -- Whether the whole number k is in the value of one of the members of an object.
-  pub members_have : Members → ℤ → Bool
-  members_have no_members k = false
-  members_have (member name d ms) k = has_number d k || members_have ms k
-
--- The new set has what the old set has, and each number that passes the test.
-abbrev pub AddsKeys : (ℤ → Bool) → BTreeSet ℤ → BTreeSet ℤ → Type 0
-AddsKeys test old new = (k : ℤ) → contains int_cmp new k ≡ (test k || contains int_cmp old k)
+-- The new set has what the old set has, and the whole ones of some numbers.
+abbrev pub AddsNumbers : List Num → BTreeSet ℤ → BTreeSet ℤ → Type 0
+AddsNumbers ns old new = (k : ℤ) → contains int_cmp new k ≡ (has_number ns k || contains int_cmp old k)
 
 -- The set has exactly the whole numbers of the document, each once, in order.
 pub record IsIndexOf (d : Data) (s : BTreeSet ℤ) : Type 0 where
   pub ordered : IsOrdered int_cmp s
-  pub exactly : (k : ℤ) → contains int_cmp s k ≡ has_number d k
+  pub exactly : (k : ℤ) → contains int_cmp s k ≡ has_number (numbers_of d) k
 
 -- ---- roots
 -- The input is the text of the document d.

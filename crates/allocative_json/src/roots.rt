@@ -1,9 +1,10 @@
 //! Reads a document and its numbers.
 ghost use Rattle.std.specs.Prelude.{◌≡◌, IsTrue, OnOk, IfOk, IfErr};
+ghost use Rattle.std.specs.List.{list_all};
 ghost use Rattle.std.specs.Ordering.{int_cmp};
 ghost use Rattle.std.specs.BTreeSet.{IsOrdered};
 ghost use Rattle.serde_json.specs.View.{view, items_view, members_view};
-ghost use Rattle.allocative_json.specs.Roots.{is_whole, are_whole, have_whole, has_number, items_have, members_have, AddsKeys, IsIndexOf, AreRoots, RefusesInput};
+ghost use Rattle.allocative_json.specs.Roots.{is_whole, is_whole_number, numbers_of, items_numbers, members_numbers, AddsNumbers, IsIndexOf, AreRoots, RefusesInput};
 
 use crate::fault::Fault;
 use serde_json::{Map, Value};
@@ -15,7 +16,7 @@ use std::collections::BTreeSet;
 fn add_numbers(value: &Value, index: bool, set: &mut BTreeSet<i128>) -> Result<bool, AllocError>
     ensures whole { IfOk result (λ all_whole. all_whole ≡ is_whole (view value.now)) }
     ensures keys { OnOk result (IsTrue index
-        → AddsKeys (has_number (view value.now)) set.old set.new) }
+        → AddsNumbers (numbers_of (view value.now)) set.old set.new) }
     ensures ordered { IsOrdered int_cmp set.old → IsOrdered int_cmp set.new }
 {
     match value {
@@ -36,9 +37,10 @@ fn add_numbers(value: &Value, index: bool, set: &mut BTreeSet<i128>) -> Result<b
 
 #[cycle(numbers)]
 fn add_items(items: &Vec<Value>, index: bool, set: &mut BTreeSet<i128>) -> Result<bool, AllocError>
-    ensures whole { IfOk result (λ all_whole. all_whole ≡ are_whole (items_view items.now.items)) }
+    ensures whole { IfOk result
+        (λ all_whole. all_whole ≡ list_all is_whole_number (items_numbers (items_view items.now.items))) }
     ensures keys { OnOk result (IsTrue index
-        → AddsKeys (items_have (items_view items.now.items)) set.old set.new) }
+        → AddsNumbers (items_numbers (items_view items.now.items)) set.old set.new) }
     ensures ordered { IsOrdered int_cmp set.old → IsOrdered int_cmp set.new }
 {
     let mut all_whole = true;
@@ -55,9 +57,9 @@ fn add_members(
     set: &mut BTreeSet<i128>,
 ) -> Result<bool, AllocError>
     ensures whole { IfOk result
-        (λ all_whole. all_whole ≡ have_whole (members_view members.now.entries)) }
+        (λ all_whole. all_whole ≡ list_all is_whole_number (members_numbers (members_view members.now.entries))) }
     ensures keys { OnOk result (IsTrue index
-        → AddsKeys (members_have (members_view members.now.entries)) set.old set.new) }
+        → AddsNumbers (members_numbers (members_view members.now.entries)) set.old set.new) }
     ensures ordered { IsOrdered int_cmp set.old → IsOrdered int_cmp set.new }
 {
     let mut all_whole = true;

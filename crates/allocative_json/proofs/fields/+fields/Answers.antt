@@ -1,11 +1,8 @@
 -- What refuses an item, a member, or adding one, refuses the whole graph.
-use Rattle.std.proofs.Common.{◌≡◌, ◌+◌, length, map, take, codes, ap, ◌∙◌, arith}
-use Rattle.std.specs.Prelude.{string_capacity, vec_capacity}
+use Rattle.std.proofs.Common.{◌≡◌, ◌+◌, length, map, take, codes, ap, ◌∙◌, arith, string_capacity, vec_capacity}
+use Rattle.allocative_json.proofs.Common.{total, sum_of_all, total_of, total-all, bytes_alone, array_bytes, value_below}
+use Rattle.allocative_json.proofs.Common.{member_below, member_of, fields_of}
 use Rattle.std.proofs.lemmas.Iterator.Consumers.{YieldsList-end, YieldsList-from_rest, YieldsList-turn}
-use Rattle.allocative_graph.specs.Graph.{total}
-use Rattle.allocative_graph.specs.Rows.{sum_of_all, total_of}
-use Rattle.allocative_graph.proofs.Graphs.{total-all}
-use Rattle.allocative_json.specs.Fields.{bytes_alone, array_bytes, value_below, member_below, member_of, fields_of}
 use Rattle.allocative_json.proofs.FieldsLemmas.{passed_on, refused_more, refused_sum, start_within, more_within}
 use Rattle.allocative_json.proofs.FieldsLemmas.{total-add_self}
 use Rattle.allocative_json.proofs.fields.+fields.Goals as goal

@@ -1,9 +1,6 @@
 -- of fields: the invariant of its loop
-use Rattle.std.proofs.Common.{◌≡◌, length, map, take, codes}
-use Rattle.std.specs.Prelude.{vec_capacity}
-use Rattle.allocative_json.proofs.Common.{deref_pair}
-use Rattle.allocative_graph.specs.Rows.{sum_of_all}
-use Rattle.allocative_json.specs.Fields.{bytes_alone, array_bytes, value_below, member_of}
+use Rattle.std.proofs.Common.{◌≡◌, length, map, take, codes, vec_capacity}
+use Rattle.allocative_json.proofs.Common.{deref_pair, sum_of_all, bytes_alone, array_bytes, value_below, member_of}
 use Rattle.allocative_json.proofs.fields.+fields.Given as goal
 
 -- The graph has the items before this one.

@@ -1,7 +1,6 @@
 -- of array_alone: the result
-use Rattle.std.proofs.Common.{length, arith}
-use Rattle.std.specs.Prelude.{vec_capacity}
-use Rattle.allocative_json.specs.Fields.{array_bytes}
+use Rattle.std.proofs.Common.{length, arith, vec_capacity}
+use Rattle.allocative_json.proofs.Common.{array_bytes}
 use Rattle.allocative_json.proofs.FieldsLemmas.{total-bytes_alone}
 use Rattle.allocative_json.proofs.fields.array_alone.Goals as goal
 

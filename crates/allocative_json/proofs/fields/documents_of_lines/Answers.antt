@@ -1,8 +1,8 @@
 -- of documents_of_lines: the steps of its loop, err and ok
 use Rattle.std.proofs.Common.{◌≡◌, ◌+◌, ◌==◌, ℕ, List, Bor, length, map, sym, ◌∙◌, arith, rules, tests}
+use Rattle.allocative_json.proofs.Common.{length_push, map_push}
 use Rattle.std.proofs.lemmas.Iterator.Splits.{YieldsList-from_slice_split}
 use Rattle.std.proofs.lemmas.Iterator.Consumers.{YieldsList-at, YieldsList-so_far, YieldsList-turn, YieldsList-end}
-use Rattle.std.proofs.lemmas.List.{length_push, map_push}
 use Rattle.allocative_json.proofs.FieldsLemmas.{lines_fit, documents_more, documents_skip, stops_line}
 use Rattle.allocative_json.proofs.fields.documents_of_lines.Goals as goal
 

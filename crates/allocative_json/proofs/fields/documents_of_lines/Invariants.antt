@@ -1,6 +1,6 @@
 -- of documents_of_lines: the invariant of its loop
 use Rattle.std.proofs.Common.{◌≡◌, List, ℕ, Bor, length, map}
-use Rattle.allocative_json.specs.Fields.{AreDocuments, filled}
+use Rattle.allocative_json.proofs.Common.{AreDocuments, filled}
 use Rattle.allocative_json.proofs.fields.documents_of_lines.Given as goal
 
 -- The lines so far are counted, and their documents are there.

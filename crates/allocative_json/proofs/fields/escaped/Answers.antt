@@ -1,10 +1,7 @@
 -- of escaped: the result
-use Rattle.std.proofs.Common.{ap, sym, ◌∙◌}
-use Rattle.std.specs.List.{flat_map}
-use Rattle.std.proofs.lemmas.List.{map-id}
-use Rattle.std.proofs.lemmas.Iterator.{YieldsList-from_chars}
+use Rattle.std.proofs.Common.{ap, sym, ◌∙◌, flat_map}
+use Rattle.allocative_json.proofs.Common.{map-id, YieldsList-from_chars, escaped_char}
 use Rattle.std.proofs.lemmas.Iterator.Consumers.{YieldsList-end}
-use Rattle.allocative_json.specs.Fields.{escaped_char}
 use Rattle.allocative_json.proofs.fields.escaped.Goals as goal
 
 -- After the last character the key of the whole name is made.

@@ -1,6 +1,6 @@
 -- of escaped: the invariant of its loop
 use Rattle.std.proofs.Common.{◌≡◌, flat_map, string_bytes}
-use Rattle.allocative_json.specs.Fields.{escaped_char}
+use Rattle.allocative_json.proofs.Common.{escaped_char}
 use Rattle.allocative_json.proofs.fields.escaped.Given as goal
 
 -- The text is the key of the characters so far.

@@ -1,7 +1,6 @@
 -- of graph_of_documents: an error
 use Rattle.std.proofs.Common.{◌≡◌, take, codes, ap, arith}
-use Rattle.allocative_graph.specs.Graph.{default, total}
-use Rattle.allocative_json.specs.Fields.{all_fields, value_below, fields_of}
+use Rattle.allocative_json.proofs.Common.{default, total, all_fields, value_below, fields_of}
 use Rattle.allocative_json.proofs.FieldsLemmas.{passed_on, refused_more, refused_sum, more_within}
 use Rattle.allocative_json.proofs.fields.graph_of_documents.Goals as goal
 

@@ -1,10 +1,9 @@
 -- What each box shows, and that its type is strict, is read off the box.
 use Rattle.std.proofs.Common.{Bool, true, ◌∙◌, ap, arith, refl, inl, inr}
-use Rattle.allocative_json.proofs.Common.{Showing}
+use Rattle.allocative_json.proofs.Common.{Showing, index_shows}
 use Rattle.std.proofs.lemmas.Grind.{common_steps}
 use denote.Param.Object.{read_made}
 use Rattle.allocative.specs.JsonShows.{stored_value}
-use Rattle.allocative_json.specs.Profile.{index_shows}
 use Rattle.allocative_json.proofs.Reports.{one_profiled, two_profiled}
 use Rattle.allocative_json.proofs.profile.profile_by_registry.OwnLists.{own-1}
 use Rattle.allocative_json.proofs.profile.profile_by_registry.Goals as goal

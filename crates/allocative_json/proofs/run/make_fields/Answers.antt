@@ -1,7 +1,6 @@
 -- of make_fields: err and ok
 use Rattle.std.proofs.Common.{◌≡◌, Option, Bool, IfSome, sym, ◌∙◌, subst, inr}
-use Rattle.std.proofs.lemmas.Result.{IfErr-weaker, IfOk-weaker}
-use Rattle.allocative_json.specs.Fields.{MayEndFields}
+use Rattle.allocative_json.proofs.Common.{IfErr-weaker, IfOk-weaker, MayEndFields}
 use Rattle.allocative_json.proofs.FieldsLemmas.{stops_reading}
 use Rattle.allocative_json.proofs.run.make_fields.Goals as goal
 

@@ -1,8 +1,7 @@
 -- The word is found, not found here, or not there at all.
 use Rattle.std.proofs.Common.{◌≡◌, ◌+◌, ◌∷◌, inl, inr, take, drop, refl, sym, ◌∙◌, true≢false, string_bytes, arith}
 use Rattle.std.proofs.Common.{take_all}
-use Rattle.allocative_json.proofs.Common.{words_of}
-use Rattle.std.proofs.lemmas.List.{map-append, take_more}
+use Rattle.allocative_json.proofs.Common.{words_of, map-append, take_more}
 use Rattle.std.proofs.lemmas.List.Elements.{Contains-append_right, Contains-push_cases}
 use Rattle.std.proofs.lemmas.Slice.Eq.{bytes_eq-Decides}
 use Rattle.allocative_json.proofs.WordsLemmas.{at_word}

@@ -1,7 +1,6 @@
 -- A word that is not accepted, and one that is.
 use Rattle.std.proofs.Common.{◌+◌, take, drop, refl, sym, ◌∙◌, true≢false, string_bytes}
-use Rattle.allocative_json.proofs.Common.{words_of}
-use Rattle.std.proofs.lemmas.List.{map-append, take_more}
+use Rattle.allocative_json.proofs.Common.{words_of, map-append, take_more}
 use Rattle.allocative_json.proofs.WordsLemmas.{at_word, one_more, each_accepted}
 use Rattle.allocative_json.proofs.words.read_words.Goals as goal
 
