@@ -8,7 +8,7 @@ use Rattle.std.specs.Cmp.Lexicographic.{slice_cmp}
 use Rattle.std.specs.List.Sorted.{IsStrictlySortedBy}
 use Rattle.std.specs.List.{sum_by}
 use Rattle.std.specs.Map.{keys_of, set_value, values_of}
-use Rattle.std.specs.Option.{is_some, option_and_then, unwrap_or}
+use Rattle.std.specs.Option.{is_some, unwrap_or}
 use Rattle.std.specs.Str.{bytes_eq}
 use Rattle.std.specs.String.{string_cmp, string_cmp_total}
 use Rattle.std.proofs.lemmas.Bool.{false_from_ne_true}
@@ -18,8 +18,9 @@ use Rattle.std.proofs.lemmas.Map.Steps.{set_value_same}
 use Rattle.std.proofs.lemmas.Map.Text.{btree_map_updates_text}
 use Rattle.std.proofs.lemmas.Slice.Eq.{bytes_eq-Decides}
 use Rattle.allocative_service.specs.declared.ledger.Ledger.{Ledger}
-use Rattle.allocative_service.specs.AccountData.{bytes_at, sum_of}
-use Rattle.allocative_service.specs.Accounts.{SameTerms, EntersWithin, Stores, account_of, entry_of, overgrown_of, total_of}
+use Rattle.allocative_service.specs.AccountData.{most_of, sum_of}
+use Rattle.allocative_service.specs.Accounts.{SameTerms, Stores, StoresBy, overgrown_of, total_of}
+use Rattle.allocative_service.specs.Rejected.{HasRoomBy}
 use Rattle.allocative_service.specs.Store.{is_tenant}
 
 -- Values by the names of tenants.
@@ -108,23 +109,16 @@ module _ {A : Type 0} (size : A → ℕ) where
   account_within tenant old h account = omega (arith, all_bytes-close tenant old h (sym account))
 
 -- ---- entries
--- What is stored is within limits, if there was room for it.
-pub entered : (most : AccountData → ℕ) (all_most : ℕ) (tenant : List ℕ) (number bytes : ℕ) (had : Option ℕ)
-    (old new : Ledger) (h : AccountData) (total : ℕ) → account_of tenant old ≡ Some h → bytes_at number h ≡ had →
-    sum_of h.entries + bytes ≤ most h + unwrap_or had 0 → total_of old + bytes ≤ all_most + unwrap_or had 0 →
-    Stores tenant number bytes (entry_of tenant number old) old new total →
-    EntersWithin most all_most tenant number bytes had old new total
-entered most all_most tenant number bytes had old new h total found there within all s =
-    let same : h ≡ s.before = cc (found, s.account) in
-    let is : entry_of tenant number old ≡ had = ap (option_and_then (bytes_at number)) found ∙ there in
-    let room = subst (λ (k : AccountData). sum_of k.entries + bytes ≤ most k + unwrap_or had 0) same within in
-    let sum = subst (λ (o : Option ℕ). total + unwrap_or o 0 ≡ sum_of s.before.entries + bytes) is s.puts.total_is in
-    let sums = subst (λ (o : Option ℕ). total_of new + unwrap_or o 0 ≡ total_of old + bytes) is s.all_is in
-    subst (λ (o : Option ℕ). EntersWithin most all_most tenant number bytes o old new total) is (record {
-      stores = s;
-      within = omega (arith, room, sum);
-      all_within = omega (arith, all, sums);
-    })
+-- What is stored is within the limits, if there was room for it.
+pub stored_by : (most : Option ℕ) (tenant : List ℕ) (number bytes : ℕ) (had : Option ℕ) (old new : Ledger) (total : ℕ)
+    (s : Stores tenant number bytes had old new total) → HasRoomBy (total_of old) most (unwrap_or had 0) bytes s.before
+    → sum_of s.before.entries ≤ most_of s.before → StoresBy most tenant number bytes had old new total
+stored_by None tenant number bytes had old new total s room within = (s, within)
+stored_by (Some most) tenant number bytes had old new total s room within = record {
+  stores = s;
+  within = omega (arith, s.puts.total_is, room.within);
+  all_within = omega (arith, s.all_is, room.all_within);
+}
 
 -- ---- results
 -- What holds holds also if the result is an Err.

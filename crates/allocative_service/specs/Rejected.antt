@@ -1,5 +1,6 @@
 -- Why data is not admitted.
-use Rattle.std.specs.Prelude.{◌≡◌, ◌⊎◌, ℕ, ◌+◌, ◌^◌, ◌<◌, ◌≤◌, Bool, Option, Some, None, IsSome}
+use Rattle.std.specs.Prelude.{◌≡◌, ◌⊎◌, ℕ, ◌+◌, ◌^◌, ◌<◌, ◌≤◌, Bool, Option, Some, None, IsSome, IfSome, OnSome}
+use Rattle.std.specs.Prelude.{unwrap_or, Result, Ok, Err}
 use Rattle.allocative.specs.Refusal.{Refusal}
 use Rattle.allocative.specs.Shows.{Showing}
 use Rattle.allocative_service.specs.declared.ledger.rejection.Rejection.{Rejection}
@@ -86,3 +87,23 @@ abbrev pub RejectsOpening : {A : Type 0} → Option A → Rejection → Type 0
 RejectsOpening had HasAccount = IsSome had
 RejectsOpening had NotKept = had ≡ None
 RejectsOpening had _ = ⊥
+
+-- There is room for `bytes` in place of `had` bytes of one entry of the account: the new sum of all accounts fits a
+-- word, and if all may have `most`, neither limit is exceeded.
+pub record HasRoomBy (all : ℕ) (most : Option ℕ) (had bytes : ℕ) (h : AccountData) : Type 0 where
+  pub fits : all + bytes < 2 ^ 64 + had
+  pub within : OnSome most (sum_of h.entries + bytes ≤ h.limit + had)
+  pub all_within : IfSome most (λ m. all + bytes ≤ m + had)
+
+-- There is no such room, as the rejection says.
+abbrev pub RejectsRoom : ℕ → Option ℕ → ℕ → ℕ → AccountData → Rejection → Type 0
+RejectsRoom all (Some most) had bytes h r = RejectsWithin all most had bytes h r
+RejectsRoom all None had bytes h TooLarge = 2 ^ 64 + had ≤ all + bytes
+RejectsRoom all None had bytes h _ = ⊥
+
+-- Storing the bytes that P makes of those of an entry is rejected: by P, for want of room, or memory runs out.
+abbrev pub RejectsBy : ℕ → Option ℕ → (Option ℕ → Result ℕ Rejection → Type 0) → Option ℕ → AccountData → Rejection →
+    Type 0
+RejectsBy all most P had h r = P had (Err r) ⊎ ((bytes : ℕ) × P had (Ok bytes)
+    × (RejectsRoom all most (unwrap_or had 0) bytes h r
+    ⊎ ((r ≡ NotKept) × (had ≡ None) × HasRoomBy all most (unwrap_or had 0) bytes h)))

@@ -1,5 +1,5 @@
 //! The accounts of all tenants.
-ghost use Rattle.std.specs.Prelude.{◌≡◌, ℕ, ◌+◌, ◌-◌, ◌^◌, ◌<◌, ◌≤◌, ◌↔◌, Some, None, [], IfOk, OnOk, IfErr, OnErr, IfSome, OnSome, IfNone, IsSomeAnd, IsTrue, MatchOption, option_map, unwrap_or};
+ghost use Rattle.std.specs.Prelude.{◌≡◌, ℕ, ◌+◌, ◌-◌, ◌^◌, ◌<◌, ◌≤◌, ◌↔◌, Some, None, Ok, [], IfOk, OnOk, IfErr, OnErr, IfSome, OnSome, IfNone, IsSomeAnd, IsTrue, MatchOption, option_map, unwrap_or};
 ghost use Rattle.allocative_service.specs.AccountData.{all_bytes};
 
 pub mod account;
@@ -45,10 +45,10 @@ pub struct Ledger {
 }
 
 impl Ledger {
-    ghost use Rattle.allocative_service.specs.Accounts.{account_of, accounts_of, all_most_of, entry_of, limit_of, measure_of, overgrown_of, total_of, ChangesAccount, Enters, IsUnchanged, Lowers, MapsAccount, RejectsGrowth, RejectsNewBytes, RejectsPut, Releases, StandsAt, Stores};
+    ghost use Rattle.allocative_service.specs.Accounts.{account_of, accounts_of, all_most_of, entry_of, limit_of, measure_of, overgrown_of, total_of, ChangesAccount, Enters, IsUnchanged, Lowers, MapsAccount, RejectsGrowth, RejectsNewBytes, RejectsPut, Releases, StandsAt, Stores, StoresBy};
     ghost use Rattle.allocative_service.specs.AccountData.{IsLargest, IsSummed, bytes_at, new_account, sum_of, with_limit, with_peak_reset, with_soft_limit};
     ghost use Rattle.allocative_service.specs.Measured.{Declares};
-    ghost use Rattle.allocative_service.specs.Rejected.{IsLedgerFull, RejectsChange, RejectsCredit, RejectsIn, RejectsLimit, RejectsMeasured, RejectsNew, RejectsOpening};
+    ghost use Rattle.allocative_service.specs.Rejected.{IsLedgerFull, RejectsBy, RejectsChange, RejectsCredit, RejectsIn, RejectsLimit, RejectsMeasured, RejectsNew, RejectsOpening};
 
     /// A ledger with no account and no limit of its own. It allocates nothing.
     pub fn new(alloc: Global, measure: Measure) -> Ledger
@@ -261,11 +261,11 @@ impl Ledger {
             (RejectsNewBytes self.old))) (account_of tenant.now self.old)) }
         ensures unchanged { OnErr result (IsUnchanged self.old self.new) }
     {
-        let account = self.account(tenant)?;
-        account.check_free(number)?;
-        let bytes = self.measure.size_of(self.alloc, value)?;
-        account.check_room(0, bytes, self.bytes, self.limit)?;
-        let standing = self.store(tenant, number, 0, bytes)?;
+        let (measure, alloc) = (self.measure, self.alloc);
+        let standing = self.put_with(tenant, number, Some(self.limit), |had| match had {
+            None => Ok(measure.size_of(alloc, value)?),
+            Some(_) => Err(Rejection::Taken { number }),
+        })?;
         Ok(standing.bytes)
     }
 
@@ -289,11 +289,11 @@ impl Ledger {
             (RejectsPut self.old had))) (account_of tenant.now self.old)) }
         ensures unchanged { OnErr result (IsUnchanged self.old self.new) }
     {
-        let account = self.account(tenant)?;
-        let had = account.entry(number)?;
-        let bytes = self.measure.size_of(self.alloc, value)?;
-        account.check_room(had, bytes, self.bytes, self.limit)?;
-        let standing = self.store(tenant, number, had, bytes)?;
+        let (measure, alloc) = (self.measure, self.alloc);
+        let standing = self.put_with(tenant, number, Some(self.limit), |had| match had {
+            None => Err(Rejection::NotThere { number }),
+            Some(_) => Ok(measure.size_of(alloc, value)?),
+        })?;
         Ok(standing.bytes)
     }
 
@@ -321,12 +321,11 @@ impl Ledger {
             (RejectsGrowth self.old had))) (account_of tenant.now self.old)) }
         ensures unchanged { OnErr result (IsUnchanged self.old self.new) }
     {
-        let had = self.account(tenant)?.entry(number)?;
-        let bytes = self.measure.size_of(self.alloc, value)?;
-        if bytes > usize::MAX - (self.bytes - had) {
-            return Err(Rejection::TooLarge);
-        }
-        self.store(tenant, number, had, bytes)
+        let (measure, alloc) = (self.measure, self.alloc);
+        self.put_with(tenant, number, None, |had| match had {
+            None => Err(Rejection::NotThere { number }),
+            Some(_) => Ok(measure.size_of(alloc, value)?),
+        })
     }
 
     /// Adds an entry with bytes that the caller knows for the tenant, under a number that has none, and returns the
@@ -338,10 +337,10 @@ impl Ledger {
             (RejectsIn (RejectsNew number (RejectsNewBytes self.old bytes)) (account_of tenant.now self.old)) }
         ensures unchanged { OnErr result (IsUnchanged self.old self.new) }
     {
-        let account = self.account(tenant)?;
-        account.check_free(number)?;
-        account.check_room(0, bytes, self.bytes, self.limit)?;
-        let standing = self.store(tenant, number, 0, bytes)?;
+        let standing = self.put_with(tenant, number, Some(self.limit), |had| match had {
+            None => Ok(bytes),
+            Some(_) => Err(Rejection::Taken { number }),
+        })?;
         Ok(standing.bytes)
     }
 
@@ -356,13 +355,10 @@ impl Ledger {
             (account_of tenant.now self.old)) }
         ensures unchanged { OnErr result (IsUnchanged self.old self.new) }
     {
-        let account = self.account(tenant)?;
-        let had = account.entry(number)?;
-        let Some(bytes) = had.checked_add(more) else {
-            return Err(Rejection::TooLarge);
-        };
-        account.check_room(had, bytes, self.bytes, self.limit)?;
-        let standing = self.store(tenant, number, had, bytes)?;
+        let standing = self.put_with(tenant, number, Some(self.limit), |had| match had {
+            None => Err(Rejection::NotThere { number }),
+            Some(had) => had.checked_add(more).ok_or(Rejection::TooLarge),
+        })?;
         Ok(standing.bytes)
     }
 
@@ -378,11 +374,12 @@ impl Ledger {
             (RejectsIn (RejectsChange number (RejectsCredit less)) (account_of tenant.now self.old)) }
         ensures unchanged { OnErr result (IsUnchanged self.old self.new) }
     {
-        let had = self.account(tenant)?.entry(number)?;
-        let Some(bytes) = had.checked_sub(less) else {
-            return Err(Rejection::OverCredit { bytes: had, less });
-        };
-        let standing = self.store(tenant, number, had, bytes)?;
+        let standing = self.put_with(tenant, number, None, |entry| match entry {
+            None => Err(Rejection::NotThere { number }),
+            Some(bytes) => bytes
+                .checked_sub(less)
+                .ok_or(Rejection::OverCredit { bytes, less }),
+        })?;
         Ok(standing.bytes)
     }
 
@@ -399,47 +396,36 @@ impl Ledger {
         Some(bytes)
     }
 
-    /// The account of a tenant. The error is `NoAccount` exactly if there is none.
-    fn account(&self, tenant: &str) -> Result<&Account, Rejection>
-        ensures found { IfOk result (λ account. account_of tenant.now self.now ≡ Some account.now) }
-        ensures part { IfOk result (λ account. sum_of account.now.entries ≤ total_of self.now) }
-        ensures missing { IfErr result
-            (λ r. (r ≡ Rejection.NoAccount) × (account_of tenant.now self.now ≡ None)) }
-    {
-        match self.accounts.get(tenant) {
-            Some(account) => Ok(account),
-            None => Err(Rejection::NoAccount),
-        }
-    }
-
-    /// Stores the bytes for the tenant under the number, in place of the `had` bytes that it has, also beyond the limits.
+    /// Stores for the tenant under the number the bytes that `bytes_of` makes of those that it has, if there is room.
+    /// All accounts may have `most` bytes together; without `most` no limit counts.
     ///
-    /// The error is `NoAccount` if the tenant has no account, and otherwise `NotKept` if the number has no entry and
-    /// memory runs out. After an error all accounts are unchanged.
-    fn store(
+    /// The error is `NoAccount` if the tenant has no account, and otherwise that of `Account::put_with`. After an error
+    /// all accounts are unchanged.
+    fn put_with<F: FnOnce(Option<usize>) -> Result<usize, Rejection>>(
         &mut self,
         tenant: &str,
         number: u64,
-        had: usize,
-        bytes: usize,
+        most: Option<usize>,
+        bytes_of: F,
     ) -> Result<Standing, Rejection>
-        requires had { had ≡ unwrap_or (entry_of tenant.now number self.old) 0 }
-        requires fits { total_of self.old + bytes < 2 ^ 64 + had }
-        ensures stored { IfOk result
-            (λ s. Stores tenant.now number bytes (entry_of tenant.now number self.old) self.old self.new s.bytes) }
+        requires { F.IsAlwaysCallable bytes_of }
+        ensures stored { IfOk result (λ s. (bytes : ℕ)
+            × F.post bytes_of (entry_of tenant.now number self.old) (Ok bytes)
+            × StoresBy most tenant.now number bytes (entry_of tenant.now number self.old) self.old self.new s.bytes) }
         ensures standing { IfOk result (StandsAt tenant.now self.new) }
-        ensures rejected { IfErr result (RejectsIn
-            (λ h r. (r ≡ Rejection.NotKept) × (bytes_at number h ≡ None)) (account_of tenant.now self.old)) }
+        ensures part { unwrap_or (entry_of tenant.now number self.old) 0 ≤ total_of self.old }
+        ensures rejected { IfErr result (RejectsIn (λ h. RejectsBy (total_of self.old) most (F.post bytes_of)
+            (bytes_at number h) h) (account_of tenant.now self.old)) }
         ensures unchanged { OnErr result (IsUnchanged self.old self.new) }
     {
         let Some(account) = self.accounts.get_mut(tenant) else {
             return Err(Rejection::NoAccount);
         };
-        let total = account.put(number, had, bytes)?;
+        let rest = self.bytes - account.bytes();
+        let total = account.put_with(number, self.bytes, most, bytes_of)?;
         let excess = account.excess();
-        let all = self.bytes - had + bytes;
-        let ledger_excess = all.saturating_sub(self.limit);
-        self.bytes = all;
+        self.bytes = rest + total;
+        let ledger_excess = self.bytes.saturating_sub(self.limit);
         self.overgrown = self.overgrown.max(ledger_excess);
         Ok(Standing {
             bytes: total,

@@ -122,6 +122,7 @@ impl<K: Eq + Hash + Drop, V: Allocative + Described> Shelf<K, V> {
     }
 
     /// The bytes of a value, if there is room for it under the key. The errors are those of `put` but `NotKept`.
+    #[tactic(auto, using(crate::proofs::Inserting::putting))]
     fn figure_of(&self, key: &K, value: &V, rest: usize, most: usize) -> Result<usize, Rejection>
         requires { rest + bytes_of self.now.entries < 2 ^ 64 }
         ensures figure { IfOk result (IsFigure V.size V.may_show self.now.measure value.now) }
@@ -130,9 +131,18 @@ impl<K: Eq + Hash + Drop, V: Allocative + Described> Shelf<K, V> {
         ensures refused { IfErr result
             (RefusesKept V.size V.may_show V.is_strict (K.eq key.now) rest most value.now self.now) }
     {
+        let bytes = self.measure.size_of(self.alloc, value)?;
+        // The key is looked up only if there is no room beside what it has.
+        if let Some(all) = (rest + self.bytes).checked_add(bytes)
+            && all <= most
+            && all - rest <= self.limit
+        {
+            return Ok(bytes);
+        }
         let (own, limit) = (self.bytes_without(key), self.limit);
-        let room = usize::MAX - rest - own;
-        let bytes = figure_within(self.alloc, self.measure, value, room)?;
+        if bytes > usize::MAX - rest - own {
+            return Err(Rejection::TooLarge);
+        }
         let total = own + bytes;
         let all = rest + total;
         if total > limit {

@@ -1,7 +1,7 @@
 //! The bytes of one tenant's entries, and their limit.
-ghost use Rattle.std.specs.Prelude.{◌≡◌, ℕ, ◌+◌, ◌-◌, ◌^◌, ◌<◌, ◌≤◌, ◌↔◌, [], Some, None, MatchOption, IsSome, IsTrue, IfOk, IfErr, IfNone, OnOk, OnErr, unwrap_or};
+ghost use Rattle.std.specs.Prelude.{◌≡◌, ℕ, ◌+◌, ◌-◌, ◌^◌, ◌<◌, ◌≤◌, ◌↔◌, [], Some, None, Ok, MatchOption, IsSome, IsTrue, IfOk, IfErr, IfNone, OnOk, OnErr, unwrap_or};
 ghost use Rattle.allocative_service.specs.AccountData.{IsLargest, IsSummed, bytes_at, most_of, new_account, sum_of, with_limit, with_peak_reset, with_soft_limit, without, Puts};
-ghost use Rattle.allocative_service.specs.Rejected.{HasRoom, RejectsAdded, RejectsNew, RejectsChange, RejectsLimit, RejectsWithin};
+ghost use Rattle.allocative_service.specs.Rejected.{HasRoomBy, RejectsAdded, RejectsBy, RejectsChange, RejectsLimit, RejectsNew, RejectsRoom, RejectsWithin};
 
 use crate::ledger::budget::Budget;
 use crate::ledger::rejection::Rejection;
@@ -201,9 +201,10 @@ impl Account {
             (RejectsNew number (RejectsAdded (sum_of self.old.entries) (2 ^ 64 - 1) bytes) self.old) }
         ensures unchanged { OnErr result (self.new ≡ self.old) }
     {
-        self.check_free(number)?;
-        self.check_room(0, bytes, self.bytes, usize::MAX)?;
-        self.put(number, 0, bytes)
+        self.put_with(number, self.bytes, Some(usize::MAX), |had| match had {
+            None => Ok(bytes),
+            Some(_) => Err(Rejection::Taken { number }),
+        })
     }
 
     /// Replaces the bytes of the entry under a number. It returns the bytes of all entries together.
@@ -218,24 +219,41 @@ impl Account {
             (RejectsChange number (λ had. RejectsWithin (sum_of self.old.entries) (2 ^ 64 - 1) had bytes) self.old) }
         ensures unchanged { OnErr result (self.new ≡ self.old) }
     {
-        let had = self.entry(number)?;
-        self.check_room(had, bytes, self.bytes, usize::MAX)?;
-        self.put(number, had, bytes)
+        self.put_with(number, self.bytes, Some(usize::MAX), |had| match had {
+            None => Err(Rejection::NotThere { number }),
+            Some(_) => Ok(bytes),
+        })
     }
 
-    /// Stores the bytes under the number, in place of the `had` bytes that it has, also beyond the limit. It returns the
-    /// bytes of all entries together. The error is `NotKept` if the number has no entry and memory runs out. After it
-    /// the account is unchanged.
+    /// Stores under the number the bytes that `bytes_of` makes of those that it has, if there is room. It returns the
+    /// bytes of all entries together. All accounts have `all` bytes together and may have `most`; without `most` no
+    /// limit counts.
+    ///
+    /// The error is that of `bytes_of`, otherwise that of `check_room`, and otherwise `NotKept` if the number has no entry
+    /// and memory runs out. After it the account is unchanged.
     #[tactic(auto, using(crate::proofs::Sums::sums))]
-    pub(crate) fn put(&mut self, number: u64, had: usize, bytes: usize) -> Result<usize, Rejection>
-        requires had { had ≡ unwrap_or (bytes_at number self.old) 0 }
-        requires fits { sum_of self.old.entries + bytes < 2 ^ 64 + had }
-        ensures put { IfOk result (Puts number bytes (bytes_at number self.old) self.old self.new) }
+    pub(crate) fn put_with<F: FnOnce(Option<usize>) -> Result<usize, Rejection>>(
+        &mut self,
+        number: u64,
+        all: usize,
+        most: Option<usize>,
+        bytes_of: F,
+    ) -> Result<usize, Rejection>
+        requires called { F.IsAlwaysCallable bytes_of }
+        requires within { sum_of self.old.entries ≤ all }
+        ensures put { IfOk result (λ total. (bytes : ℕ) × F.post bytes_of (bytes_at number self.old) (Ok bytes)
+            × HasRoomBy all most (unwrap_or (bytes_at number self.old) 0) bytes self.old
+            × Puts number bytes (bytes_at number self.old) self.old self.new total) }
         ensures sum { IfOk result (λ total. sum_of self.new.entries ≡ total) }
-        ensures rejected { IfErr result
-            (λ r. (r ≡ Rejection.NotKept) × (bytes_at number self.old ≡ None)) }
+        ensures part { unwrap_or (bytes_at number self.old) 0 ≤ sum_of self.old.entries }
+        ensures within { sum_of self.old.entries ≤ most_of self.old }
+        ensures rejected { IfErr result (RejectsBy all most (F.post bytes_of) (bytes_at number self.old) self.old) }
         ensures unchanged { OnErr result (self.new ≡ self.old) }
     {
+        let had = self.entries.get(&number).copied();
+        let bytes = bytes_of(had)?;
+        let had = had.unwrap_or(0);
+        self.check_room(had, bytes, all, most)?;
         let total = self.bytes - had + bytes;
         let Ok(_had) = self.entries.insert(number, bytes) else {
             return Err(Rejection::NotKept);
@@ -246,25 +264,27 @@ impl Account {
         Ok(total)
     }
 
-    /// Checks that there is room for `bytes` in place of `had` bytes of an entry. All accounts have `all` bytes together
-    /// and may have `most`.
+    /// Checks that there is room for `bytes` in place of `had` bytes of an entry, as `put_with` says.
     ///
-    /// The error is `TooLarge` if the new bytes of all accounts do not fit a word, otherwise `OverBudget` if those of
-    /// this account exceed its limit, and otherwise `LedgerFull` if those of all accounts exceed `most`.
-    pub(crate) fn check_room(
+    /// The error is `TooLarge` if the new bytes of all accounts do not fit a word, otherwise, with `most`, `OverBudget`
+    /// if those of this account exceed its limit, and otherwise `LedgerFull` if those of all accounts exceed `most`.
+    fn check_room(
         &self,
         had: usize,
         bytes: usize,
         all: usize,
-        most: usize,
+        most: Option<usize>,
     ) -> Result<(), Rejection>
         requires part { had ≤ sum_of self.now.entries }
         requires within { sum_of self.now.entries ≤ all }
-        ensures room { OnOk result (HasRoom all most had bytes self.now) }
-        ensures rejected { IfErr result (RejectsWithin all most had bytes self.now) }
+        ensures room { OnOk result (HasRoomBy all most had bytes self.now) }
+        ensures rejected { IfErr result (RejectsRoom all most had bytes self.now) }
     {
         let Some(sum) = (all - had).checked_add(bytes) else {
             return Err(Rejection::TooLarge);
+        };
+        let Some(most) = most else {
+            return Ok(());
         };
         self.budget.check(self.bytes - had + bytes)?;
         if sum > most {

@@ -1,16 +1,19 @@
 -- of Ledger::credit: credited
-use Rattle.std.proofs.Common.{Some, arith}
-use Rattle.allocative_service.proofs.Accounts.{entered}
-use Rattle.allocative_service.specs.AccountData.{most_of}
-use Rattle.allocative_service.specs.Accounts.{all_most_of}
+use Rattle.std.proofs.Common.{◌≡◌, ◌+◌, Some, arith, refl, rules}
+use Rattle.allocative_service.specs.Accounts.{entry_of}
 use Rattle.allocative_service.proofs.ledger.Ledger.credit.Goals as goal
 
 pub returns-clause-credited : goal.returns-clause-credited
-returns-clause-credited c = (
-  c.in_ok-had.had,
-  c.in-Some.bytes,
-  omega arith,
-  entered most_of (all_most_of c.args.self.now) c.args.tenant.now c.args.number c.in-Some.bytes (Some c.in_ok-had.had) c.args.self.now c.store.new.self
-      c.in_ok-account.field-0.now c.in_ok-standing.standing.bytes c.in_ok-account.ensures.found c.in_ok-had.ensures.found
-      (omega (arith, c.args.self.now.summed)) (omega (arith, c.args.self.now.summed)) c.in_ok-standing.ensures.stored,
-)
+returns-clause-credited c =
+    let s = c.in_ok-standing.ensures.stored in
+    let had : entry_of c.args.tenant.now c.args.number c.args.self.now ≡ Some (s.0 + c.args.less) = search rules in
+    let stored = rw had at s.2 in (
+      s.0 + c.args.less,
+      s.0,
+      refl,
+      record {
+        stores = stored.0;
+        within = omega (arith, stored.0.puts.total_is, stored.1);
+        all_within = omega (arith, stored.0.all_is, c.args.self.now.summed, c.args.self.now.within);
+      },
+    )
