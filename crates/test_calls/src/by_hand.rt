@@ -5,7 +5,7 @@ ghost use Rattle.std.specs.Prelude.{codes, None};
 ghost use Rattle.allocative.specs.Shows as shows;
 ghost use Rattle.allocative.specs.Visits.{AddsForest};
 
-use crate::expected::is_refused;
+use crate::bad::is_refused;
 use crate::huge::Unsized;
 use allocative::by_hand::{collector_of, enter, enter_content, enter_unique};
 use allocative::collector::Collector;

@@ -3,16 +3,6 @@ use crate::huge::Unsized;
 use allocative::{FlameGraphBuilder, Key, Refusal};
 use std::alloc::Global;
 use std::mem::forget;
-use std::test::Fail;
-
-/// What is done with a new builder.
-#[derive(Clone, Copy)]
-enum Act {
-    PassTheBound,
-    EnterUnsized,
-    ForgetRoot,
-    ForgetBelow,
-}
 
 /// Enters as many bytes as fit, a byte more, and then nothing more.
 fn pass_the_bound(builder: &mut FlameGraphBuilder) -> Result<(), Refusal> {
@@ -43,38 +33,31 @@ fn forget_below(builder: &mut FlameGraphBuilder) -> Result<(), Refusal> {
     Ok(())
 }
 
-fn act_on(builder: &mut FlameGraphBuilder, act: Act) -> Result<(), Refusal> {
-    match act {
-        Act::PassTheBound => pass_the_bound(builder),
-        Act::EnterUnsized => enter_unsized(builder),
-        Act::ForgetRoot => forget_root(builder),
-        Act::ForgetBelow => forget_below(builder),
-    }
-}
-
 /// The errors of an act, and then of the builder for a root visitor, for a root and for its output.
-fn errors(alloc: Global, act: Act) -> Result<[Option<Refusal>; 4], Refusal> {
+fn errors<F: FnOnce(&mut FlameGraphBuilder) -> Result<(), Refusal>>(
+    alloc: Global,
+    act: F,
+) -> Result<[Option<Refusal>; 4], Refusal>
+    requires { F.IsAlwaysCallable act }
+{
     let mut builder = FlameGraphBuilder::new(alloc)?;
-    let acted = act_on(&mut builder, act).err();
+    let acted = act(&mut builder).err();
     let begun = builder.root_visitor().err();
     let visited = builder.visit_root(&1u8).err();
     Ok([acted, begun, visited, builder.finish().err()])
 }
 
-/// Fails if an act ends with another error, or if its builder then returns another one.
-fn ends(alloc: Global, act: Act, acted: Option<Refusal>, ended: Refusal) -> Result<(), Fail> {
-    let found = errors(alloc, act)?;
-    if found == [acted, Some(ended), Some(ended), Some(ended)] {
-        return Ok(());
-    }
-    Err(Fail::new(format_args!("{found:?}")))
-}
-
 #[test]
-fn a_builder_returns_its_first_cause_for_good(rt: HostRuntime) -> Result<(), Fail> {
-    let (large, open) = (Refusal::TooLarge, Refusal::Open);
-    ends(rt.alloc(), Act::PassTheBound, Some(large), large)?;
-    ends(rt.alloc(), Act::EnterUnsized, Some(large), large)?;
-    ends(rt.alloc(), Act::ForgetRoot, None, open)?;
-    ends(rt.alloc(), Act::ForgetBelow, None, open)
+fn a_builder_returns_its_first_cause_for_good(rt: HostRuntime) -> Result<(), Refusal> {
+    let large = [Some(Refusal::TooLarge); 4];
+    let open = Some(Refusal::Open);
+    let found = [
+        errors(rt.alloc(), pass_the_bound)?,
+        errors(rt.alloc(), enter_unsized)?,
+        errors(rt.alloc(), forget_root)?,
+        errors(rt.alloc(), forget_below)?,
+    ];
+    let forgotten = [None, open, open, open];
+    assert!(rt; found == [large, large, forgotten, forgotten]);
+    Ok(())
 }

@@ -65,15 +65,11 @@ fn a_total_past_the_bound_is_refused(rt: HostRuntime) -> Result<(), Fail> {
 }
 
 #[test]
-fn hashes_are_fnv(rt: HostRuntime) {
+fn keys_have_hashes_and_makers_rising_numbers(rt: HostRuntime) {
     let hashes = [Key::hash_of(""), Key::hash_of("a")];
     assert_eq!(rt; hashes, [0xcbf2_9ce4_8422_2325, 0xaf63_dc4c_8601_ec8c]);
     let key = Key::new_unchecked(Key::hash_of("foo"), "foo");
     assert!(rt; ident_key!(foo) == key && Key::new("foo") == key);
-}
-
-#[test]
-fn a_maker_counts_up_to_the_greatest_number(rt: HostRuntime) {
     let mut last = IdMaker::starting_at(0, u64::MAX);
     let made = [last.fresh(), last.fresh(), last.fresh()];
     assert_eq!(rt; made, [Some(Identity::new(0, u64::MAX)), None, None]);

@@ -1,16 +1,19 @@
 //! The text of each helper of a visitor, and what values hold on the heap.
 #![tactic(auto, using(allocative::proofs::Parts::parts))]
 
-ghost use Rattle.std.specs.Prelude.{codes, false, Some, true, length};
+ghost use Rattle.std.specs.Prelude.{codes, false, Some, length};
 ghost use Rattle.allocative.specs.Shows as shows;
-ghost use Rattle.allocative.specs.Bodies.{slice_of, vec_body};
+ghost use Rattle.allocative.specs.Bodies.{vec_body};
 
-use crate::texts::{is_text, shows};
+use crate::texts::is_output;
 use allocative::{
-    Allocative, Described, Field, FlameGraphBuilder, Inside, Key, Part, Refusal, Unique, Visitor,
-    Whole, size_of_owned, size_of_unique, size_of_unique_allocated_data,
+    Allocative, Described, FlameGraphBuilder, FlameGraphOutput, Inside, Key, Part, Refusal, Unique,
+    Visitor, size_of_entries, size_of_owned, size_of_unique, size_of_unique_allocated_data,
+    visit_json_map,
 };
-use std::alloc::Global;
+use serde_json::Value;
+use std::alloc::{AllocError, Global};
+use std::boxed::BoxedSlice;
 use std::collections::BTreeMap;
 use std::test::Fail;
 
@@ -52,6 +55,19 @@ impl<const DROPS: bool> Allocative for Pair<DROPS> {
     }
 }
 
+/// Shows the body of a vector of bytes with no unused room.
+#[derive(Drop)]
+struct FullBody<'a>(&'a Vec<u8>);
+
+impl<'a> Part for FullBody<'a> {
+    ghost may_show = { λ b. vec_body (codes "u8") (Some 1) false
+        (λ _. shows.Field (codes "u8") (Some 1) shows.Nothing) b.0.now.items (length b.0.now.items) };
+
+    fn enter(self, visitor: &mut Visitor<'_>) -> Result<(), Refusal> {
+        visitor.visit_vec_like_body(self.0, self.0.len())
+    }
+}
+
 /// A helper, and what it is given.
 #[derive(Clone, Copy)]
 enum Helper {
@@ -70,6 +86,8 @@ enum Helper {
     OwnNames,
     Size,
     BoxedSlice,
+    FullBody,
+    Members,
 }
 
 /// Enters one byte three times, by each call that enters a type's own name and size.
@@ -93,10 +111,24 @@ fn enter_pairs(root: &mut Visitor<'_>, alloc: Global) -> Result<(), Refusal> {
 
 /// Enters a value of 24 bytes with a boxed slice and a byte.
 fn enter_boxed_slice(root: &mut Visitor<'_>, alloc: Global) -> Result<(), Refusal> {
-    let data = BoxedSlice([0u8; 100].to_vec(alloc)?);
+    let data = BoxedSlice::from_slice(alloc, &[0u8; 100])?;
     let mut value = root.enter(Key::new("TestData"), 24)?;
     value.visit_field(Key::new("data"), &data)?;
     value.visit_field(Key::new("b"), &1u8)
+}
+
+/// Enters three bytes behind a pointer, as those of a buffer with no unused room.
+fn enter_full_body(root: &mut Visitor<'_>, alloc: Global) -> Result<(), Refusal> {
+    let bytes = [1, 2, 3].to_vec(alloc)?;
+    Unique("ptr", 8, FullBody(&bytes)).enter(root)
+}
+
+/// Enters the members of the document `{"a":7}`.
+fn enter_members(root: &mut Visitor<'_>, alloc: Global) -> Result<(), Refusal> {
+    match Value::from_str(alloc, "{\"a\":7}") {
+        Ok(Value::Object(members)) => visit_json_map(root, &members),
+        _ => Err(Refusal::Memory),
+    }
 }
 
 fn call(root: &mut Visitor<'_>, alloc: Global, helper: Helper) -> Result<(), Refusal> {
@@ -118,16 +150,18 @@ fn call(root: &mut Visitor<'_>, alloc: Global, helper: Helper) -> Result<(), Ref
         Helper::OwnNames => enter_names(root),
         Helper::Size => enter_size(root),
         Helper::BoxedSlice => enter_boxed_slice(root, alloc),
+        Helper::FullBody => enter_full_body(root, alloc),
+        Helper::Members => enter_members(root, alloc),
     }
 }
 
-/// The text of a builder in which a helper was called.
-fn text_of(alloc: Global, helper: Helper) -> Result<String, Refusal> {
+/// What a builder shows in which a helper was called.
+fn output_of(alloc: Global, helper: Helper) -> Result<FlameGraphOutput, Refusal> {
     let mut builder = FlameGraphBuilder::new(alloc)?;
     let mut root = builder.root_visitor()?;
     call(&mut root, alloc, helper)?;
     root.exit();
-    builder.finish_and_write_flame_graph()
+    builder.finish()
 }
 
 #[test]
@@ -152,120 +186,15 @@ fn helpers(rt: HostRuntime) -> Result<(), Fail> {
             Helper::BoxedSlice,
             "TestData 7\nTestData;b;u8 1\nTestData;data;Box;ptr 16\nTestData;data;Box;ptr;u8;data;u8 100\n",
         ),
+        (Helper::FullBody, "ptr 8\nptr;capacity;u8 3\n"),
+        (
+            Helper::Members,
+            "Map 16\nMap;data 8\nMap;data;key;String 16\nMap;data;key;String;ptr 8\nMap;data;key;String;ptr;capacity;u8 1\nMap;data;value;Value 16\nMap;data;value;Value;Number;Number 16\n",
+        ),
     ] {
-        is_text(text_of(rt.alloc(), helper)?.as_str(), text)?;
+        is_output(&output_of(rt.alloc(), helper)?, text)?;
     }
     Ok(())
-}
-
-/// Shows items as a slice with an entry of its own.
-#[derive(Drop)]
-struct SliceOf<'a, T>(&'a Vec<T>);
-
-impl<'a, T: Allocative + Described> Part for SliceOf<'a, T> {
-    ghost may_show = { λ s. slice_of T.name T.size T.may_show s.0.now.items };
-
-    fn enter(self, visitor: &mut Visitor<'_>) -> Result<(), Refusal> {
-        visitor.visit_slice_of(self.0)
-    }
-}
-
-/// A value of 16 bytes, which shows `Box 16 {unique ptr 16 {..}}` of a slice.
-#[derive(Drop)]
-struct BoxedSlice<T>(Vec<T>);
-
-impl<T> Described for BoxedSlice<T> {
-    ghost name = { codes "Box" };
-
-    ghost align = { 8 };
-
-    ghost needs_drop = { true };
-
-    ghost size = { Some 16 };
-
-    fn name() -> &'static str {
-        "Box"
-    }
-
-    fn align() -> usize {
-        8
-    }
-
-    fn needs_drop() -> bool {
-        true
-    }
-
-    fn size() -> Option<usize> {
-        Some(16)
-    }
-}
-
-impl<T: Allocative + Described> Allocative for BoxedSlice<T> {
-    ghost may_show = { λ b. shows.Inside (codes "Box") 16
-        (shows.Unique (codes "ptr") 16 (slice_of T.name T.size T.may_show b.0.items)) };
-
-    fn visit(&self, visitor: &mut Visitor<'_>) -> Result<(), Refusal> {
-        Inside("Box", 16, Unique("ptr", 16, SliceOf(&self.0))).enter(visitor)
-    }
-}
-
-/// A value with one field, of a box. It declares what the box declares.
-#[derive(Drop)]
-struct Boxed<T> {
-    data: T,
-}
-
-impl<T: Described> Described for Boxed<T> {
-    ghost name = { codes "Boxed" };
-
-    ghost align = { T.align };
-
-    ghost needs_drop = { T.needs_drop };
-
-    ghost size = { T.size };
-
-    fn name() -> &'static str {
-        "Boxed"
-    }
-
-    fn align() -> usize {
-        T::align()
-    }
-
-    fn needs_drop() -> bool {
-        T::needs_drop()
-    }
-
-    fn size() -> Option<usize> {
-        T::size()
-    }
-}
-
-impl<T: Allocative + Described> Allocative for Boxed<T> {
-    ghost may_show = { λ b. shows.Field (codes "Boxed") T.size
-        (shows.Field (codes "data") T.size (T.may_show b.data)) };
-
-    fn visit(&self, visitor: &mut Visitor<'_>) -> Result<(), Refusal> {
-        Whole(self, Field("data", &self.data)).enter(visitor)
-    }
-}
-
-/// A value of 16 bytes, with a byte and a box.
-#[derive(Drop)]
-struct Data {
-    a: u8,
-    b: Box<u32>,
-}
-
-impl Allocative for Data {
-    ghost may_show = { λ d. shows.Inside (codes "Data") 16
-        (shows.Both (shows.Field (codes "a") (Some 1) (⟦<u8 as Allocative>⟧.may_show d.a))
-        (shows.Field (codes "b") (Some 8) (⟦<Box<u32> as Allocative>⟧.may_show d.b))) };
-
-    fn visit(&self, visitor: &mut Visitor<'_>) -> Result<(), Refusal> {
-        let (a, b) = (Field("a", &self.a), Field("b", &self.b));
-        Inside("Data", 16, (a, b)).enter(visitor)
-    }
 }
 
 /// The bytes that a value holds with its own declared size, and those that it owns.
@@ -286,63 +215,27 @@ fn holds(
     Err(Fail::new(format_args!("{sizes:?}")))
 }
 
-#[test]
-fn a_boxed_slice_holds_its_items(rt: HostRuntime) -> Result<(), Fail> {
-    let data = BoxedSlice([1u32, 2, 3].to_vec(rt.alloc())?);
-    let boxed = Boxed { data };
-    holds(&boxed, sizes(&boxed), 12, 28)
+/// A box in place of a field, which points to a pair of 16 bytes with a box of its own.
+fn nested_boxes(alloc: Global) -> Result<(Box<(u8, Box<u32>)>,), AllocError> {
+    let inner = Box::new(alloc, 7)?;
+    Ok((Box::new(alloc, (1, inner))?,))
 }
 
 #[test]
-fn a_box_holds_its_number(rt: HostRuntime) -> Result<(), Fail> {
-    let data = Box::new(rt.alloc(), 7u32)?;
-    let boxed = Boxed { data };
-    holds(&boxed, sizes(&boxed), 4, 12)
-}
-
-fn boxed_data(alloc: Global) -> Result<Box<Data>, Refusal> {
-    let b = Box::new(alloc, 7)?;
-    Ok(Box::new(alloc, Data { a: 1, b })?)
-}
-
-#[test]
-fn a_box_holds_what_its_box_holds(rt: HostRuntime) -> Result<(), Fail> {
-    let data = boxed_data(rt.alloc())?;
-    let boxed = Boxed { data };
-    holds(&boxed, sizes(&boxed), 20, 28)
-}
-
-/// Shows the body of a vector of bytes with no unused room.
-#[derive(Drop)]
-struct FullBody<'a>(&'a Vec<u8>);
-
-impl<'a> Part for FullBody<'a> {
-    ghost may_show = { λ b. vec_body (codes "u8") (Some 1) false
-        (λ _. shows.Field (codes "u8") (Some 1) shows.Nothing) b.0.now.items (length b.0.now.items) };
-
-    fn enter(self, visitor: &mut Visitor<'_>) -> Result<(), Refusal> {
-        visitor.visit_vec_like_body(self.0, self.0.len())
-    }
-}
-
-/// Shows a buffer with no unused room.
-#[derive(Drop)]
-struct Body(Vec<u8>);
-
-impl Allocative for Body {
-    ghost may_show = { λ s. shows.Unique (codes "ptr") 8
-        (vec_body (codes "u8") (Some 1) false (λ _. shows.Field (codes "u8") (Some 1) shows.Nothing) s.0.items
-        (length s.0.items)) };
-
-    fn visit(&self, visitor: &mut Visitor<'_>) -> Result<(), Refusal> {
-        Unique("ptr", 8, FullBody(&self.0)).enter(visitor)
-    }
+fn boxes_hold_what_they_point_to(rt: HostRuntime) -> Result<(), Fail> {
+    let alloc = rt.alloc();
+    let slice = (BoxedSlice::from_slice(alloc, &[1u32, 2, 3])?,);
+    holds(&slice, sizes(&slice), 12, 28)?;
+    let number = (Box::new(alloc, 7u32)?,);
+    holds(&number, sizes(&number), 4, 12)?;
+    let nested = nested_boxes(alloc)?;
+    holds(&nested, sizes(&nested), 20, 28)
 }
 
 #[test]
 fn a_full_buffer_holds_its_bytes(rt: HostRuntime) -> Result<(), Fail> {
-    let buffer = Body([1u8, 2, 3].to_vec(rt.alloc())?);
-    let is_held = size_of_unique_allocated_data(&buffer) == Ok(3);
-    assert!(rt; is_held);
-    shows(rt.alloc(), &buffer, "ptr 8\nptr;capacity;u8 3\n")
+    let bytes = [1u8, 2, 3].to_vec(rt.alloc())?;
+    let held = size_of_entries(|visitor| Unique("ptr", 8, FullBody(&bytes)).enter(visitor));
+    assert!(rt; held == Ok(3));
+    Ok(())
 }

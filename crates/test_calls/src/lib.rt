@@ -9,8 +9,6 @@ mod by_hand;
 #[cfg(test)]
 mod drops;
 #[cfg(test)]
-mod expected;
-#[cfg(test)]
 mod failed;
 #[cfg(test)]
 mod graphs;
@@ -34,7 +32,5 @@ mod std_types;
 mod tallies;
 #[cfg(test)]
 mod texts;
-#[cfg(test)]
-mod warned;
 #[cfg(test)]
 mod written_types;

@@ -1,11 +1,10 @@
 //! The text of each type of std at a concrete type.
-use crate::texts::{is_graph, show, shows, shows_room};
-use allocative::{IdArc, IdRc, Identity, Refusal, profile_value, size_of_unique_allocated_data};
+use crate::texts::{has_room, made, show, shows};
+use allocative::{IdArc, IdRc, Identity, Refusal, size_of_unique_allocated_data};
 use std::alloc::{AllocError, Global};
 use std::boxed::{BoxedSlice, BoxedStr};
 use std::cell::{Cell, OnceCell, RefCell};
 use std::collections::{BinaryHeap, HashMap, HashSet, LinkedList, VecDeque};
-use std::hash::RandomState;
 use std::marker::PhantomData;
 use std::mem::ManuallyDrop;
 use std::net::{IpAddr, Ipv4Addr, Ipv6Addr};
@@ -154,60 +153,28 @@ fn cells_and_locks(rt: HostRuntime) -> Result<(), Fail> {
 }
 
 #[test]
-fn a_cell_that_is_written_shows_its_own_entry_alone(rt: HostRuntime) -> Result<(), Fail> {
+fn a_cell_or_a_lock_that_is_held_shows_its_own_entry_alone(rt: HostRuntime) -> Result<(), Fail> {
     let cell = RefCell::new(1u64);
-    let guard = cell.try_borrow_mut().or(Err("a new cell is free"))?;
+    let _written = cell.try_borrow_mut().or(Err("a new cell is free"))?;
     shows(rt.alloc(), &cell, "RefCell 16\n")?;
-    drop(guard);
-    shows(rt.alloc(), &cell, "RefCell 8\nRefCell;data;u64 8\n")
-}
-
-#[test]
-fn a_held_lock_shows_its_own_entry_alone(rt: HostRuntime) -> Result<(), Fail> {
     let lock = Mutex::new(1u64);
-    let guard = lock.try_lock().ok_or("a new lock is free")?;
-    shows(rt.alloc(), &lock, "Mutex 16\n")?;
-    drop(guard);
-    shows(rt.alloc(), &lock, "Mutex 8\nMutex;data;u64 8\n")
-}
-
-#[test]
-fn a_reference_shows_nothing(rt: HostRuntime) -> Result<(), Fail> {
-    let number: &'static u8 = &7;
-    let output = profile_value(rt.alloc(), &number)?;
-    is_graph(output.flamegraph(), "", 0)
+    let _held = lock.try_lock().ok_or("a new lock is free")?;
+    shows(rt.alloc(), &lock, "Mutex 16\n")
 }
 
 #[test]
 fn pointers(rt: HostRuntime) -> Result<(), Fail> {
     let alloc = rt.alloc();
-    let text = "Box;ptr 8\nBox;ptr;u64 8\n";
-    shows(alloc, &Box::new(alloc, 1u64)?, text)?;
+    made(alloc, Ok::<&'static u8, AllocError>(&7), "")?;
+    made(alloc, Box::new(alloc, 1u64), "Box;ptr 8\nBox;ptr;u64 8\n")?;
     let text = "Option 8\nOption;Some;Box;ptr 8\nOption;Some;Box;ptr;u8 1\n";
-    shows(alloc, &Some(Box::new(alloc, 1u8)?), text)?;
+    made(alloc, Box::new(alloc, 1u8).map(Some), text)?;
     let text = "Rc;ptr 8\nRcInner 16\nRcInner;u64 8\n";
-    shows(alloc, &IdRc::new(alloc, 1u64, Identity::from(7))?, text)
-}
-
-#[test]
-fn slices_and_texts_in_boxes(rt: HostRuntime) -> Result<(), Fail> {
-    let alloc = rt.alloc();
-    let three = BoxedSlice::from_slice(alloc, &[1u16, 2, 3])?;
-    shows(alloc, &three, "Box;ptr 16\nBox;ptr;u16;data;u16 6\n")?;
-    let text = BoxedStr::from_str(alloc, "abc")?;
-    shows(alloc, &text, "Box;ptr 16\nBox;ptr;str 3\n")
-}
-
-#[test]
-fn items_of_a_list_and_a_heap(rt: HostRuntime) -> Result<(), Fail> {
-    let alloc = rt.alloc();
-    let list = LinkedList::from_array(alloc, [1u64, 2])?;
-    let text =
-        "LinkedList 16\nLinkedList;ptr 8\nLinkedList;ptr;data;u64 16\nLinkedList;ptr;links 32\n";
-    shows(alloc, &list, text)?;
-    let heap = BinaryHeap::from_array(alloc, [1u32, 2])?;
-    let text = "BinaryHeap 16\nBinaryHeap;ptr 8\nBinaryHeap;ptr;u32 8\n";
-    shows(alloc, &heap, text)
+    made(alloc, IdRc::new(alloc, 1u64, Identity::from(7)), text)?;
+    let three = BoxedSlice::from_slice(alloc, &[1u16, 2, 3]);
+    made(alloc, three, "Box;ptr 16\nBox;ptr;u16;data;u16 6\n")?;
+    let text = BoxedStr::from_str(alloc, "abc");
+    made(alloc, text, "Box;ptr 16\nBox;ptr;str 3\n")
 }
 
 /// A pointer and its clone.
@@ -228,114 +195,67 @@ fn two_pointers_for_threads(alloc: Global) -> Result<(IdArc<u8>, IdArc<u8>), Ref
 fn two_pointers_show_one_content(rt: HostRuntime) -> Result<(), Fail> {
     let alloc = rt.alloc();
     let text = "RcInner 23\nRcInner;u8 1\ntuple2;0;Rc;ptr 8\ntuple2;1;Rc;ptr 8\n";
-    shows(alloc, &two_pointers(alloc)?, text)?;
+    made(alloc, two_pointers(alloc), text)?;
     let text = "ArcInner 23\nArcInner;u8 1\ntuple2;0;Arc;ptr 8\ntuple2;1;Arc;ptr 8\n";
-    shows(alloc, &two_pointers_for_threads(alloc)?, text)
+    made(alloc, two_pointers_for_threads(alloc), text)
 }
 
 #[test]
-fn lists_and_texts(rt: HostRuntime) -> Result<(), Fail> {
+fn lists_and_tables(rt: HostRuntime) -> Result<(), Fail> {
     let alloc = rt.alloc();
     let text = "Vec 16\nVec;ptr 8\nVec;ptr;u8 3\n";
-    shows(alloc, &[1u8, 2, 3].to_vec(alloc)?, text)?;
-    let deque: VecDeque<u16> = [1, 2, 3].into_iter().collect(alloc)?;
-    shows(
-        alloc,
-        &deque,
-        "VecDeque 24\nVecDeque;ptr 8\nVecDeque;ptr;u16 6\n",
-    )?;
+    made(alloc, [1u8, 2, 3].to_vec(alloc), text)?;
+    let text = "VecDeque 24\nVecDeque;ptr 8\nVecDeque;ptr;u16 6\n";
+    made::<VecDeque<u16>, _>(alloc, [1, 2, 3].into_iter().collect(alloc), text)?;
     let text = "String 16\nString;ptr 8\nString;ptr;capacity;u8 2\n";
-    shows(alloc, &String::from_str(alloc, "ab")?, text)
-}
-
-fn hashed_keys(alloc: Global) -> Result<HashSet<u32>, AllocError> {
-    [1, 2].into_iter().collect(alloc)
-}
-
-fn hashed_pairs(alloc: Global) -> Result<HashMap<u8, u8>, AllocError> {
-    [(1, 1), (2, 2)].into_iter().collect(alloc)
-}
-
-/// A key with random keys of the hasher.
-fn random_key(alloc: Global, state: RandomState) -> Result<HashSet<u32, RandomState>, AllocError> {
-    let mut keys = HashSet::with_hasher(alloc, state);
-    keys.insert(1)?;
-    Ok(keys)
-}
-
-/// A pair with random keys of the hasher.
-fn random_pair(
-    alloc: Global,
-    state: RandomState,
-) -> Result<HashMap<u8, u8, RandomState>, AllocError> {
-    let mut pairs = HashMap::with_hasher(alloc, state);
-    pairs.insert(1, 1)?;
-    Ok(pairs)
-}
-
-#[test]
-fn keys_and_pairs_of_a_random_hasher(rt: HostRuntime) -> Result<(), Fail> {
-    let (alloc, state) = (rt.alloc(), RandomState::new(&rt)?);
-    let text = "HashSet 40\nHashSet;data 4\nHashSet;data;key;u32 4\n";
-    shows(alloc, &random_key(alloc, state)?, text)?;
-    let text = "HashMap 40\nHashMap;data 6\nHashMap;data;key;u8 1\nHashMap;data;value;u8 1\n";
-    shows(alloc, &random_pair(alloc, state)?, text)
-}
-
-#[test]
-fn hashed_keys_and_pairs(rt: HostRuntime) -> Result<(), Fail> {
-    let alloc = rt.alloc();
+    made(alloc, String::from_str(alloc, "ab"), text)?;
+    let text =
+        "LinkedList 16\nLinkedList;ptr 8\nLinkedList;ptr;data;u64 16\nLinkedList;ptr;links 32\n";
+    made(alloc, LinkedList::from_array(alloc, [1u64, 2]), text)?;
+    let text = "BinaryHeap 16\nBinaryHeap;ptr 8\nBinaryHeap;ptr;u32 8\n";
+    made(alloc, BinaryHeap::from_array(alloc, [1u32, 2]), text)?;
     let text = "HashSet 40\nHashSet;data;key;u32 8\n";
-    shows(alloc, &hashed_keys(alloc)?, text)?;
+    made::<HashSet<u32>, _>(alloc, [1, 2].into_iter().collect(alloc), text)?;
     let text = "HashMap 40\nHashMap;data 4\nHashMap;data;key;u8 2\nHashMap;data;value;u8 2\n";
-    shows(alloc, &hashed_pairs(alloc)?, text)
+    made::<HashMap<u8, u8>, _>(alloc, [(1, 1), (2, 2)].into_iter().collect(alloc), text)
 }
 
-/// Bytes with room for 100.
-fn roomy_vector(alloc: Global) -> Result<Vec<u8>, AllocError> {
+/// Three bytes with room for 100, and the unused room.
+fn roomy_vector(alloc: Global) -> Result<(Vec<u8>, usize), AllocError> {
     let mut bytes = Vec::with_capacity(alloc, 100)?;
     bytes.extend_from_slice(&[1, 2, 3])?;
-    Ok(bytes)
+    let room = bytes.capacity().wrapping_sub(3);
+    Ok((bytes, room))
 }
 
-/// Bytes with room for 100.
-fn roomy_deque(alloc: Global) -> Result<VecDeque<u8>, AllocError> {
+/// The same.
+fn roomy_deque(alloc: Global) -> Result<(VecDeque<u8>, usize), AllocError> {
     let mut bytes = VecDeque::with_capacity(alloc, 100)?;
     bytes.append(&mut [1, 2, 3].into_iter().collect(alloc)?)?;
-    Ok(bytes)
+    let room = bytes.capacity().wrapping_sub(3);
+    Ok((bytes, room))
 }
 
-/// Letters with room for 100.
-fn roomy_text(alloc: Global) -> Result<String, AllocError> {
+/// Three letters with room for 100, and the unused room.
+fn roomy_text(alloc: Global) -> Result<(String, usize), AllocError> {
     let mut text = String::with_capacity(alloc, 100)?;
     text.push_str("abc")?;
-    Ok(text)
-}
-
-#[test]
-fn a_vector_has_room_and_holds_it(rt: HostRuntime) -> Result<(), Fail> {
-    let bytes = roomy_vector(rt.alloc())?;
-    let is_held = size_of_unique_allocated_data(&bytes) == Ok(bytes.capacity());
-    assert!(rt; is_held);
-    let room = bytes.capacity().wrapping_sub(3);
-    shows_room(rt.alloc(), &bytes, "Vec;ptr;unused_capacity", room)
-}
-
-#[test]
-fn a_deque_has_room(rt: HostRuntime) -> Result<(), Fail> {
-    let deque = roomy_deque(rt.alloc())?;
-    let room = deque.capacity().wrapping_sub(3);
-    shows_room(rt.alloc(), &deque, "VecDeque;ptr;unused_capacity", room)
-}
-
-#[test]
-fn a_text_has_room(rt: HostRuntime) -> Result<(), Fail> {
-    let text = roomy_text(rt.alloc())?;
     let room = text.capacity().wrapping_sub(3);
-    shows_room(
-        rt.alloc(),
-        &text,
+    Ok((text, room))
+}
+
+#[test]
+fn lists_have_room_and_hold_it(rt: HostRuntime) -> Result<(), Fail> {
+    let alloc = rt.alloc();
+    has_room(alloc, roomy_vector(alloc), "Vec;ptr;unused_capacity")?;
+    has_room(alloc, roomy_deque(alloc), "VecDeque;ptr;unused_capacity")?;
+    has_room(
+        alloc,
+        roomy_text(alloc),
         "String;ptr;capacity;unused_capacity",
-        room,
-    )
+    )?;
+    let (bytes, room) = roomy_vector(alloc)?;
+    let is_held = size_of_unique_allocated_data(&bytes) == Ok(room.wrapping_add(3));
+    assert!(rt; is_held);
+    Ok(())
 }

@@ -1,5 +1,7 @@
 //! The text of one visit.
-use allocative::{Allocative, FlameGraph, FlameGraphBuilder, Refusal};
+use allocative::{
+    Allocative, FlameGraph, FlameGraphBuilder, FlameGraphOutput, Refusal, profile_value,
+};
 use std::alloc::Global;
 use std::test::Fail;
 
@@ -25,19 +27,16 @@ fn is_unused(line: &str) -> bool {
     line.contains(";unused_capacity ")
 }
 
-/// The text of one visit, followed by its warnings.
-fn text_of(alloc: Global, root: &dyn Allocative) -> Result<String, Refusal> {
-    let mut builder = FlameGraphBuilder::new(alloc)?;
-    builder.visit_root(root)?;
-    let output = builder.finish()?;
+/// The text of an output, followed by its warnings.
+fn text_of(output: &FlameGraphOutput) -> Result<String, Refusal> {
     let mut text = output.flamegraph().write()?;
     text.push_str(output.warnings_text())?;
     Ok(text)
 }
 
-/// Fails if one visit of a value has another text, without the lines of unused capacity, or gives a warning.
-pub(crate) fn shows(alloc: Global, root: &dyn Allocative, want: &str) -> Result<(), Fail> {
-    let text = text_of(alloc, root)?;
+/// Fails if an output has another text, without the lines of unused capacity, or other warnings behind it.
+pub(crate) fn is_output(output: &FlameGraphOutput, want: &str) -> Result<(), Fail> {
+    let text = text_of(output)?;
     if text
         .lines()
         .filter(|line| !is_unused(line))
@@ -48,10 +47,22 @@ pub(crate) fn shows(alloc: Global, root: &dyn Allocative, want: &str) -> Result<
     Err(Fail::new(text.as_str()))
 }
 
+/// What one visit of a value shows.
+fn output_of(alloc: Global, root: &dyn Allocative) -> Result<FlameGraphOutput, Refusal> {
+    let mut builder = FlameGraphBuilder::new(alloc)?;
+    builder.visit_root(root)?;
+    builder.finish()
+}
+
+/// Fails if one visit of a value has another text, as `is_output` compares it.
+pub(crate) fn shows(alloc: Global, root: &dyn Allocative, want: &str) -> Result<(), Fail> {
+    is_output(&output_of(alloc, root)?, want)
+}
+
 /// A value and its text.
 pub(crate) type Row<'a> = (&'a dyn Allocative, &'a str);
 
-/// Fails if a value has another text, or gives a warning.
+/// Fails if one visit of one of some values has another text.
 pub(crate) fn show(alloc: Global, rows: &[Row<'_>]) -> Result<(), Fail> {
     for &(root, want) in rows {
         shows(alloc, root, want)?;
@@ -59,14 +70,28 @@ pub(crate) fn show(alloc: Global, rows: &[Row<'_>]) -> Result<(), Fail> {
     Ok(())
 }
 
-/// Fails if one visit of a value does not have exactly one line of unused capacity, or if it is another one.
-pub(crate) fn shows_room(
+/// Fails if a value was not made, or if it has another text.
+pub(crate) fn made<T: Allocative, E: Drop>(
     alloc: Global,
-    root: &dyn Allocative,
-    path: &str,
-    room: usize,
+    made: Result<T, E>,
+    want: &str,
 ) -> Result<(), Fail> {
-    let text = text_of(alloc, root)?;
+    let Ok(value) = made else {
+        return Err(Fail::new("no value"));
+    };
+    is_output(&profile_value(alloc, &value)?, want)
+}
+
+/// Fails if a value was not made, or does not have exactly one line of unused capacity, or if that is another one.
+pub(crate) fn has_room<T: Allocative, E: Drop>(
+    alloc: Global,
+    made: Result<(T, usize), E>,
+    path: &str,
+) -> Result<(), Fail> {
+    let Ok((value, room)) = made else {
+        return Err(Fail::new("no value"));
+    };
+    let text = text_of(&profile_value(alloc, &value)?)?;
     let line = format!(in alloc; "{path} {room}")?;
     if room > 0
         && text

@@ -1,7 +1,7 @@
 -- The error was hidden, or the closure returns Err.
 use Rattle.std.proofs.Common.{rules}
 use Rattle.test_calls.proofs.Refused.{closure_refuses, refused_in_silence}
-use Rattle.test_calls.proofs.bad.NeverAllocative.visit.Goals as goal
+use Rattle.test_calls.proofs.bad.BadAllocative.visit.Goals as goal
 
 pub returns-in-InSilence : goal.returns-in-InSilence
 returns-in-InSilence c = refused_in_silence c.refuse-told.ensures
