@@ -1,14 +1,13 @@
 -- Faults and their status.
 use Rattle.std.proofs.Common.{◌≡◌, inl, inr, ℕ, ◌^◌, ◌<◌, ◌≤◌, ◌==◌, ◌&&◌, Bool, true, false, IsTrue, List, [], ◌∷◌}
-use Rattle.std.proofs.Common.{cond, subst, Option, None, Some, Ok, Err, Result, refl, arith, IfSome, IfErr, IsErrOf, IsErrAnd}
-use Rattle.allocative_picture_filter.proofs.Common.{Graph, Fault, Text, Sourced, StopsAddingUp}
+use Rattle.std.proofs.Common.{Option, None, Some, Ok, Err, Result, refl, arith, IfSome, IfErr, IsErrOf}
+use Rattle.std.proofs.Common.{IsErrAnd}
+use Rattle.allocative_picture_filter.proofs.Common.{Graph, Fault, Text, Memory, Arguments, Writing, StopsAsking}
+use Rattle.allocative_picture_filter.proofs.Common.{fault_of}
+use Rattle.allocative_picture_filter.specs.Run.{Sourced, StopsAddingUp, StopsJoining, Stops}
 use Rattle.allocative_graph.specs.declared.refusal.Refusal as refusal
 use Rattle.allocative_graph.specs.declared.refusal.Refusal.TheVariants as refused
 use Rattle.allocative_picture_filter.specs.declared.arguments.Arguments as words
-use Rattle.allocative_picture_filter.specs.declared.fault.Fault.TheVariants.{Memory, Arguments, Writing}
-use Rattle.allocative_picture_filter.specs.Arguments.{StopsAsking}
-use Rattle.allocative_picture_filter.specs.Fault.{fault_of}
-use Rattle.allocative_picture_filter.specs.Run.{StopsJoining, Stops}
 
 -- Texts are added up without writing.
 added-unwritten : (g : Graph) (ts : List Sourced) → StopsAddingUp g ts Writing → ⊥
@@ -33,12 +32,6 @@ pub stops-joining : {T : Type 0} (bytes : ℕ) (r : refusal.Refusal) →
 stops-joining bytes refused.Memory h = tt
 stops-joining bytes refused.TooLarge h = h refl
 stops-joining bytes refused.Open h = tt
-
--- The same for the bytes of a change alone.
-pub stops-writing : {T : Type 0} (c change : Bool) (bytes : ℕ) (r : refusal.Refusal) → c ≡ change →
-    (IsErrOf {T = T} (Err r) refused.TooLarge → 2 ^ 64 ≤ cond c bytes 0) → StopsJoining (cond change bytes 0) (fault_of r)
-stops-writing c change bytes r same h =
-    subst (λ (b : Bool). StopsJoining (cond b bytes 0) (fault_of r)) same (stops-joining (cond c bytes 0) r h)
 
 -- What holds of each value holds of the one that there is.
 pub of_each : {A : Type 0} {Q : A → Type 0} (o : Option A) → ((a : A) → Q a) → IfSome o Q

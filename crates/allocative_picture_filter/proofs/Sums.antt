@@ -1,20 +1,17 @@
 -- The graphs of some texts, one added after another, and what stops that.
-use Rattle.std.proofs.Common.{◌≡◌, ℕ, zero, suc, ◌+◌, ◌<◌, ◌≤◌, ◌==◌, ◌⊎◌, inl, inr, Bool, true, false, ◌&&◌, cond, List, []}
-use Rattle.std.proofs.Common.{◌∷◌, ◌++◌, map, take, length, get_or, refl, sym, ap, subst, ◌∙◌, arith}
-use Rattle.allocative_picture_filter.proofs.Common.{Graph, default, total, Options, Fault, Memory, Text, Sourced}
-use Rattle.allocative_picture_filter.proofs.Common.{sourced, AddUp, StopsAddingUp}
-use Rattle.std.proofs.lemmas.List.{map-append, take_more}
+use Rattle.std.proofs.Common.{◌≡◌, ℕ, zero, suc, ◌+◌, ◌<◌, ◌≤◌, ◌⊎◌, inl, inr, Bool, true, false, cond}
+use Rattle.std.proofs.Common.{List, [], ◌∷◌, ◌++◌, map, take, length, get_or, refl, sym, ap, subst, ◌∙◌, arith}
+use Rattle.std.proofs.Common.{MatchBool, nat_lt}
+use Rattle.allocative_picture_filter.proofs.Common.{Graph, default, Fault, Memory, Text, map-append, take_more}
+use Rattle.allocative_picture_filter.proofs.Common.{Input, IsReadingOf, text}
+use Rattle.allocative_picture.specs.declared.options.Options.{Options}
+use Rattle.allocative_picture_filter.specs.Run.{Sourced, sourced, AddUp, StopsAddingUp, without_mark, Adds, AddUpOnto}
+use Rattle.allocative_picture_filter.specs.Run.{StopsAdding, StopsProfile, IsShown, IsOptions, Writes}
+use Rattle.allocative_picture_filter.specs.Run.{is_outlined, limit_of}
 use Rattle.allocative_picture_filter.specs.declared.arguments.Arguments.{Arguments}
-use Rattle.allocative_picture_filter.specs.declared.fault.Source.TheVariants.{Input}
-use Rattle.allocative_picture_filter.specs.Fault.{IsReadingOf}
-use Rattle.allocative_picture_filter.proofs.Faults.{has-bytes}
-use Rattle.allocative_picture_filter.specs.Run.{without_mark, Adds, AddUpOnto, StopsAdding, StopsProfile, IsMade, IsShown}
-use Rattle.allocative_picture_filter.specs.Run.{IsOptions, Writes, guide_of, is_change, is_outlined, limit_of}
-use Rattle.allocative_graph.specs.Graph.{text}
 use Rattle.allocative_picture.specs.Picture.{change_drawing, profile_drawing}
 use Rattle.allocative_picture.specs.Table.{IsTable}
 use Rattle.allocative_picture.specs.Views.{IsOutline, by_last_key}
-use Rattle.std.specs.Prelude.{MatchBool, nat_lt}
 
 -- ---- one text after another
 -- One text more is added.
@@ -74,26 +71,6 @@ stops-unread xs b known g f e up (inl m) = stops-input xs b known g f e up (inl 
 stops-unread xs b known g f e up (inr r) = inr (g, up, e, r)
 
 -- ---- what is written
--- What is written of some graphs is what the arguments ask for.
-pub made-so : (asked : Arguments) (before : List Text) (after : List Sourced) (made : List ℕ) (g h x y u : Graph)
-    → AddUp (map sourced before) g → AddUp after h → (asked.not_empty && (total h == 0)) ≡ false
-    → (is_outlined asked ≡ true → u ≡ guide_of (is_change asked (length before)) g h)
-    → ((v : Graph) → (is_outlined asked ≡ true → u ≡ v) → IsShown asked v g x)
-    → ((v : Graph) → (is_outlined asked ≡ true → u ≡ v) → IsShown asked v h y)
-    → Writes asked (is_change asked (length before)) x y made → IsMade asked before after made
-made-so asked before after made g h x y u earlier later some guides one other is = record {
-  earlier = g;
-  later = h;
-  earlier_read = earlier;
-  later_read = later;
-  some = has-bytes asked.not_empty (total h) some;
-  shown_earlier = x;
-  shown_later = y;
-  earlier_shown = one (guide_of (is_change asked (length before)) g h) guides;
-  later_shown = other (guide_of (is_change asked (length before)) g h) guides;
-  is = is;
-}
-
 -- What is shown of a graph, from its outline.
 pub shown-so : (asked : Arguments) (v u g o made : Graph)
     → (is_outlined asked ≡ true → IsOutline (limit_of asked.depth) (limit_of asked.fold) v g o)

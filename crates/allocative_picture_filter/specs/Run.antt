@@ -99,19 +99,23 @@ Writes asked change g h made = MatchBool asked.as_text (made ≡ text h)
     (MatchBool (nat_lt 0 asked.top) (IsTable asked.top h made)
     ((o : Options) × IsOptions asked o × (made ≡ cond change (change_drawing o g h) (profile_drawing o h))))
 
--- What is written of these texts is what the arguments ask for, of what is shown of the graphs that they add up to. The
--- later graph has bytes if it is asked not to be empty.
+-- What is written of the graphs g and h is what the arguments ask for, of what is shown of them.
+pub record Shows (asked : Arguments) (change : Bool) (g h : Graph) (made : List ℕ) : Type 0 where
+  pub shown_earlier : Graph
+  pub shown_later : Graph
+  pub earlier_shown : IsShown asked (guide_of change g h) g shown_earlier
+  pub later_shown : IsShown asked (guide_of change g h) h shown_later
+  pub is : Writes asked change shown_earlier shown_later made
+
+-- What is written of these texts is what the arguments ask for, of the graphs that they add up to. The later graph has
+-- bytes if it is asked not to be empty.
 pub record IsMade (asked : Arguments) (before : List Text) (after : List Sourced) (made : List ℕ) : Type 0 where
   pub earlier : Graph
   pub later : Graph
   pub earlier_read : AddUp (map sourced before) earlier
   pub later_read : AddUp after later
   pub some : IsTrue asked.not_empty → 0 < total later
-  pub shown_earlier : Graph
-  pub shown_later : Graph
-  pub earlier_shown : IsShown asked (guide_of (is_change asked (length before)) earlier later) earlier shown_earlier
-  pub later_shown : IsShown asked (guide_of (is_change asked (length before)) earlier later) later shown_later
-  pub is : Writes asked (is_change asked (length before)) shown_earlier shown_later made
+  pub shows : Shows asked (is_change asked (length before)) earlier later made
 
 -- ---- what stops a run
 -- Why no graph is read of a text: memory runs out; it is not UTF-8; it is in the differential form; or it is not, and a

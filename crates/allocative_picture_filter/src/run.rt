@@ -4,7 +4,7 @@ ghost use Rattle.std.specs.Io.KnownBytes.{Appends};
 ghost use Rattle.allocative_graph.specs.Graph.{Graph, default, total};
 ghost use Rattle.allocative_io.specs.Streams.{AppendsBeginning};
 ghost use Rattle.allocative_picture_filter.specs.Fault.{IsReadingOf};
-ghost use Rattle.allocative_picture_filter.specs.Run.{sourced, without_mark, later_texts, Reads, Adds, AddUp, StopsReading, StopsAdding, StopsAddingUp, StopsProfile, Stops, IsMade, IsShown, Writes, guide_of, is_change, is_outlined, limit_of};
+ghost use Rattle.allocative_picture_filter.specs.Run.{sourced, without_mark, later_texts, Reads, Adds, AddUp, StopsReading, StopsAdding, StopsAddingUp, StopsProfile, Stops, IsMade, IsShown, Shows, Writes, guide_of, is_change, is_outlined, limit_of};
 ghost use Rattle.allocative_picture.specs.Views.{IsOutline};
 
 use crate::arguments::Arguments;
@@ -274,6 +274,24 @@ fn written(
     }
 }
 
+// Makes what the arguments ask for of the graphs of the earlier texts and of the others.
+fn made_of(
+    alloc: Global,
+    asked: &Arguments<'_>,
+    change: bool,
+    earlier: FlameGraph,
+    later: FlameGraph,
+) -> Result<String, Refusal>
+    ensures ok { IfOk result (λ made. Shows asked.now change earlier later (string_bytes made)) }
+    ensures too_large { IsErrOf result Refusal.TooLarge
+        → 2 ^ 64 ≤ cond change (total earlier + total later) 0 }
+{
+    let guide = guide_of(alloc, asked, change, &earlier, &later)?;
+    let shown_earlier = shown(alloc, asked, &guide, earlier)?;
+    let shown_later = shown(alloc, asked, &guide, later)?;
+    written(alloc, asked, change, &shown_earlier, &shown_later)
+}
+
 // Makes what the arguments ask for.
 fn make<'a, R: Read>(
     alloc: Global,
@@ -293,10 +311,7 @@ fn make<'a, R: Read>(
         return Err(Fault::Empty);
     }
     let change = is_change(asked, before.len());
-    let guide = guide_of(alloc, asked, change, &earlier, &later)?;
-    let shown_earlier = shown(alloc, asked, &guide, earlier)?;
-    let shown_later = shown(alloc, asked, &guide, later)?;
-    Ok(written(alloc, asked, change, &shown_earlier, &shown_later)?)
+    Ok(made_of(alloc, asked, change, earlier, later)?)
 }
 
 /// Runs the program but for reading its arguments and files.

@@ -1,9 +1,8 @@
 -- What clap finds asks for this, or for nothing.
-use Rattle.std.proofs.Common.{◌≡◌, ◌∙◌, ℕ, List, Bor, ◌||◌, ◌==◌, map, ap, ap₂, sym, subst₂, arith, length, nat_lt, inl, inr}
-use Rattle.std.proofs.lemmas.List.{length-map}
-use Rattle.std.specs.Prelude.{codes, filter, count_by, not}
+use Rattle.std.proofs.Common.{◌≡◌, ◌∙◌, ℕ, List, Bor, ◌||◌, ◌==◌, map, ap, ap₂, sym, subst₂, arith, length, nat_lt, inl}
+use Rattle.std.proofs.Common.{inr, codes, filter, count_by, not}
+use Rattle.allocative_picture_filter.proofs.Common.{length-map, Disagree, is_input, value_in, values_in}
 use Rattle.clap.specs.Words.{found_of, rows_of}
-use Rattle.allocative_picture_filter.specs.Arguments.{Disagree, is_input, value_in, values_in}
 use Rattle.allocative_picture_filter.proofs.Faults.{because, holds-of}
 use Rattle.allocative_picture_filter.proofs.arguments.asked_by.Goals as goal
 

@@ -1,7 +1,6 @@
 -- The command has the arguments that clap is to read.
-use Rattle.std.proofs.Common.{◌≡◌, ◌∙◌, ap, ap₂, rules, true, false}
-use Rattle.std.specs.Prelude.{codes}
-use Rattle.std.proofs.lemmas.Result.{IfOk-weaker}
+use Rattle.std.proofs.Common.{◌≡◌, ◌∙◌, ap, ap₂, rules, true, false, codes}
+use Rattle.allocative_picture_filter.proofs.Common.{IfOk-weaker}
 use Rattle.clap.specs.Words.{AddsArg, App, Rule, app_of, new_app, rule_of, with_rule}
 use Rattle.clap.specs.Simple.{on_top, app_of_fields}
 use Rattle.clap.specs.declared.builder.arg.Arg.{Arg}

@@ -1,7 +1,6 @@
 -- of files_among: the invariant of its loop
-use Rattle.std.proofs.Common.{◌≡◌, map, not, take}
-use Rattle.std.specs.Prelude.{filter}
-use Rattle.allocative_picture_filter.specs.Arguments.{is_input}
+use Rattle.std.proofs.Common.{◌≡◌, map, not, take, filter}
+use Rattle.allocative_picture_filter.proofs.Common.{is_input}
 use Rattle.allocative_picture_filter.proofs.arguments.files_among.Given as goal
 
 -- The files among the names so far.

@@ -1,15 +1,14 @@
 -- What clap says of the words is what the arguments are read by.
 use Rattle.std.proofs.Common.{◌≡◌, ◌≢◌, List, [], Result, Ok, Err, IfOk, refl, true, subst, ⊎_elim, inl, inr}
-use Rattle.std.proofs.lemmas.Result.{IfErr-weaker}
-use Rattle.clap.specs.Words.{App, HasMatchesOf, Text, fault_of, found_of, is_simple, is_simple_and_free}
-use Rattle.clap.specs.Words.{Row, kind_of, matches_of, rows_of}
+use Rattle.allocative_picture_filter.proofs.Common.{IfErr-weaker, IsAsked, IsWrong, picture_app}
+use Rattle.clap.specs.Words.{App, HasMatchesOf, Text, fault_of, found_of, is_simple, is_simple_and_free, Row, kind_of}
+use Rattle.clap.specs.Words.{matches_of, rows_of}
 use Rattle.clap.specs.Kinds.{HasKind, IsAmong}
 use Rattle.clap.specs.declared.error.Error.{Error}
 use Rattle.clap.specs.declared.error.kind.ErrorKind.{ErrorKind}
 use Rattle.clap.specs.declared.error.kind.ErrorKind.TheVariants.{OutOfMemory}
 use Rattle.clap.specs.declared.parser.matches.ArgMatches.{ArgMatches}
 use Rattle.clap.proofs.OnLiterals.{clap_on_literals}
-use Rattle.allocative_picture_filter.specs.Arguments.{IsAsked, IsWrong, picture_app}
 use Rattle.allocative_picture_filter.proofs.Faults.{because}
 use Rattle.allocative_picture_filter.proofs.arguments.read_arguments.Goals as goal
 

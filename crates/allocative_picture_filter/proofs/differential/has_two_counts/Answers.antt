@@ -1,11 +1,8 @@
 -- of has_two_counts: a line that is cut at its last space, or at none
 use Rattle.std.proofs.Common.{List, ℕ, subst}
-use Rattle.std.specs.Str.Parse.{IsNumeral}
-use Rattle.allocative_graph.specs.Graph.{Lacks}
-use Rattle.allocative_graph.specs.Read.{IsCut}
+use Rattle.allocative_picture_filter.proofs.Common.{IsNumeral, Lacks, IsCut, HasTwoCounts}
 use Rattle.allocative_graph.proofs.Text.{lacks_not}
 use Rattle.allocative_graph.proofs.ReadBack.{no_space, cut_of, one_cut}
-use Rattle.allocative_picture_filter.specs.Differential.{HasTwoCounts}
 use Rattle.allocative_picture_filter.proofs.differential.has_two_counts.Goals as goal
 
 -- A line without a space is not cut.

@@ -1,12 +1,10 @@
 -- of is_differential: that its two passes tell such a text
-use Rattle.std.proofs.Common.{◌≡◌, ◌<◌, ◌⊎◌, inl, inr, Bool, true, false, ℕ, List, [], length, refl, rules, tests, arith}
-use Rattle.std.specs.Bool.{MatchBool}
-use Rattle.std.specs.List.{AllWithin, HoldsAt}
-use Rattle.std.specs.Str.Lines.{lines}
-use Rattle.std.proofs.lemmas.Iterator.{cases_from_all, cases_from_any}
+use Rattle.std.proofs.Common.{◌≡◌, ◌<◌, ◌⊎◌, inl, inr, Bool, true, false, ℕ, List, [], length, refl, rules, tests}
+use Rattle.std.proofs.Common.{arith, MatchBool, HoldsAt}
+use Rattle.allocative_picture_filter.proofs.Common.{AllWithin, lines, cases_from_all, cases_from_any, HasTwoCounts}
+use Rattle.allocative_picture_filter.proofs.Common.{IsDifferential}
 use Rattle.std.proofs.lemmas.Iterator.Splits.{YieldsList-from_lines}
 use Rattle.std.proofs.lemmas.List.Elements.{All-from_all_within}
-use Rattle.allocative_picture_filter.specs.Differential.{HasTwoCounts, IsDifferential}
 use Rattle.allocative_picture_filter.proofs.differential.is_differential.Goals as goal
 
 -- The line is blank or ends in two counts.

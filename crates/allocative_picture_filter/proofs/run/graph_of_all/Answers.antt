@@ -1,6 +1,7 @@
 -- of graph_of_all: the step of its loop, stops and ok
 use Rattle.std.proofs.Common.{List, map, subst, arith, take_all}
-use Rattle.allocative_picture_filter.proofs.Common.{default, Text, sourced, AddUp}
+use Rattle.allocative_picture_filter.proofs.Common.{default, Text}
+use Rattle.allocative_picture_filter.specs.Run.{sourced, AddUp}
 use Rattle.allocative_picture_filter.proofs.Faults.{holds-of}
 use Rattle.allocative_picture_filter.proofs.Sums.{add-more, stops-at}
 use Rattle.allocative_picture_filter.proofs.run.graph_of_all.Goals as goal

@@ -1,11 +1,9 @@
 -- of later_graph: stops and ok
 use Rattle.std.proofs.Common.{map}
-use Rattle.allocative_picture_filter.proofs.Common.{default, sourced}
-use Rattle.std.proofs.lemmas.Option.{IfSome_then}
+use Rattle.allocative_picture_filter.proofs.Common.{default, IfSome_then, Input}
+use Rattle.allocative_picture_filter.specs.Run.{sourced, without_mark}
 use Rattle.allocative_picture_filter.proofs.Faults.{of_each, holds-of}
 use Rattle.allocative_picture_filter.proofs.Sums.{add-push, stops-files, stops-input, stops-unread}
-use Rattle.allocative_picture_filter.specs.Run.{without_mark}
-use Rattle.allocative_picture_filter.specs.declared.fault.Source.TheVariants.{Input}
 use Rattle.allocative_picture_filter.proofs.run.later_graph.Goals as goal
 
 -- What stops the files stops the profile.

@@ -1,5 +1,5 @@
 -- of run: unwritten and stopped
-use Rattle.std.proofs.lemmas.Option.{IfSome_then}
+use Rattle.allocative_picture_filter.proofs.Common.{IfSome_then}
 use Rattle.allocative_picture_filter.proofs.Faults.{holds-of, made-unwritten}
 use Rattle.allocative_picture_filter.proofs.run.run.Goals as goal
 

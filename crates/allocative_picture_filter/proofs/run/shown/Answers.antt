@@ -1,6 +1,6 @@
 -- of shown: shown
 use Rattle.std.proofs.Common.{refl}
-use Rattle.std.proofs.lemmas.Result.{IfOk-weaker}
+use Rattle.allocative_picture_filter.proofs.Common.{IfOk-weaker}
 use Rattle.allocative_picture_filter.proofs.Sums.{shown-so}
 use Rattle.allocative_picture_filter.proofs.run.shown.Goals as goal
 

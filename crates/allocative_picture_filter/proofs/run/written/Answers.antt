@@ -1,6 +1,6 @@
 -- of written: the pictures
 use Rattle.std.proofs.Common.{refl, arith, string_bytes}
-use Rattle.std.proofs.lemmas.Result.{IfOk-weaker}
+use Rattle.allocative_picture_filter.proofs.Common.{IfOk-weaker}
 use Rattle.allocative_picture_filter.proofs.Sums.{writes-picture}
 use Rattle.allocative_picture_filter.proofs.run.written.Goals as goal
 
