@@ -107,7 +107,9 @@ pub fn print_table(names: &Names) {
     println!("\n| call | bytes of the stack for each level | levels in 8 MiB |\n|---|---:|---:|");
     let deep = names.clone();
     print_rows(CALLS, move |levels| ours::deep(&deep, levels));
-    let names = names.clone();
+    let linked = names.clone();
     let links = &["the visit of a chain of links, a link"];
-    print_rows(links, move |levels| ours::links(&names, levels));
+    print_rows(links, move |levels| ours::links(&linked, levels));
+    let compared = names.clone();
+    print_rows(&["`compare`"], move |levels| ours::chains(&compared, levels));
 }
