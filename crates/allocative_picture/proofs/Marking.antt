@@ -69,14 +69,8 @@ none_counted : (ws : List Warned) (p : Path) → (warnings_at ws p == 0) ≡ not
 none_counted [] p = refl
 none_counted (w ∷ ws) p = rw (warnings_at-cons w ws p, same_path_symm w.path p) (grind (arith, none_counted ws p))
 
--- If a is the opposite of b, `Plain` for a and else `Warned` is `Warned` for b and else `Plain`.
-chosen : (a b : Bool) → a ≡ not b → cond a Plain mark.Warned ≡ cond b mark.Warned Plain
-chosen a true e = ap (λ c. cond c Plain mark.Warned) e
-chosen a false e = ap (λ c. cond c Plain mark.Warned) e
-
 -- The mark of a path with so many bytes as it has warnings is that of a path with a warning, or none.
 pub mark_counted : (ws : List Warned) (p : Path) (n : ℕ) → n ≡ warnings_at ws p →
     cond (n == 0) Plain mark.Warned ≡ warned_mark ws p
 unfolding is_warned
-mark_counted ws p n e = chosen (n == 0) (list_any (λ w. is_same_path w.path p) ws)
-    (ap (λ m. m == 0) e ∙ none_counted ws p)
+mark_counted ws p n e = grind (arith, none_counted ws p)

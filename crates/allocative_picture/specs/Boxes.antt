@@ -1,10 +1,8 @@
 -- Figures as texts, and the box of a frame: its place and its element.
 use Rattle.std.specs.Prelude.{ℕ, ◌+◌, ◌-◌, ◌*◌, ◌/◌, ◌%◌, ◌==◌, ◌&&◌, Bool, not, cond, nat_lt, max, length, List, []}
-use Rattle.std.specs.Prelude.{◌∷◌, ◌++◌, codes, decimal}
+use Rattle.std.specs.Prelude.{◌∷◌, ◌++◌, codes, decimal, bytes_eq}
 use Rattle.std.specs.List.{concat}
-use Rattle.std.specs.Str.{bytes_eq}
-use Rattle.allocative_graph.specs.Path.{Key}
-use Rattle.allocative_graph.specs.Path.{fnv}
+use Rattle.allocative_graph.specs.Path.{Key, fnv}
 use Rattle.allocative_picture.specs.Escape.{escaped}
 use Rattle.allocative_picture.specs.Frames.{FrameData}
 use Rattle.allocative_picture.specs.declared.frame.Mark.{Mark}

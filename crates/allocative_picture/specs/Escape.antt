@@ -1,8 +1,7 @@
 -- Text as markup: how each character is written.
 use Rattle.std.specs.Prelude.{◌≢◌, ℕ, ◌==◌, ◌||◌, ◌≤◌, Bool, cond, nat_lt, List, [], ◌∷◌, flat_map, ◌++◌, codes}
-use Rattle.std.specs.Prelude.{encode_utf8}
+use Rattle.std.specs.Prelude.{encode_utf8, chars}
 use Rattle.std.specs.List.{AllByRecursion}
-use Rattle.std.specs.Str.{chars}
 
 -- Whether a character is an ASCII control, U+FFFE or U+FFFF. Of these XML 1.0 allows only tab, line feed, carriage
 -- return and delete.

@@ -15,9 +15,7 @@ fn bytes_alone(alloc: Global, bytes: usize) -> Result<FlameGraph, AllocError>
     ensures { IfOk result (λ graph. graph ≡ bytes_alone bytes) }
 {
     let mut graph = FlameGraph::default(alloc);
-    if graph.add_self(bytes).is_err() {
-        return Err(AllocError);
-    }
+    graph.add_self(bytes).map_err(|_| AllocError)?;
     Ok(graph)
 }
 
@@ -26,10 +24,7 @@ fn bytes_alone(alloc: Global, bytes: usize) -> Result<FlameGraph, AllocError>
 fn put(view: &mut FlameGraph, key: Key, graph: FlameGraph) -> Result<(), AllocError>
     ensures { OnOk result (view.new ≡ sum_of view.old (under key graph)) }
 {
-    if view.add_child(key, graph).is_err() {
-        return Err(AllocError);
-    }
-    Ok(())
+    view.add_child(key, graph).map_err(|_| AllocError)
 }
 
 /// The graphs of some children, added up.
@@ -39,9 +34,7 @@ fn joined(alloc: Global, children: &[Child]) -> Result<FlameGraph, AllocError>
 {
     let mut graph = FlameGraph::default(alloc);
     for child in children {
-        if graph.add(child.graph.clone()?).is_err() {
-            return Err(AllocError);
-        }
+        graph.add(child.graph.clone()?).map_err(|_| AllocError)?;
     }
     Ok(graph)
 }
