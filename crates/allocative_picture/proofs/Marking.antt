@@ -1,6 +1,6 @@
 -- Marks by the bytes of another graph, and the graph of the paths that have a warning.
-use Rattle.std.proofs.Common.{◌≡◌, ℕ, ◌≤◌, Bor, IfSome, IfNone, option_copied, false, cond, [], ◌∷◌, Option, Some, None}
-use Rattle.std.proofs.Common.{is_some, refl, sym, unwrap_or, arith, ◌+◌, ◌==◌, Bool, true, not, List, ◌++◌, ap, ◌∙◌}
+use Rattle.std.proofs.Common.{◌≡◌, ℕ, ◌≤◌, Bor, IfSome, IfNone, option_copied, cond, [], ◌∷◌, Option, Some, None}
+use Rattle.std.proofs.Common.{refl, sym, unwrap_or, arith, ◌+◌, ◌==◌, not, List, ◌++◌, ap}
 use Rattle.std.proofs.Common.{count_by}
 use Rattle.allocative_picture.proofs.Common.{entries, Path, Graph, total_at, is_same_path, sum_by-le-sum_by}
 use Rattle.allocative_picture.proofs.Common.{sum_by-cons, sum_by_push, Key, size_at, begins, IsBehind, HasNothing}
@@ -22,16 +22,11 @@ fewer : (p q : Path) (k : Key) (n : ℕ) → cond (begins (k ∷ p) q) n 0 ≤ c
 fewer p [] k n = omega arith
 fewer p (l ∷ q) k n = grind arith
 
--- A size that is missing counts as 0.
-nothing : (o : Option ℕ) → is_some o ≡ false → unwrap_or o 0 ≡ 0
-nothing None h = refl
-nothing (Some n) h = absurd (cc)
-
 -- If g has nothing behind a key, it marks each path below the key as one with 0 bytes.
 pub marks_missing : (m : Marks) (g : Graph) (k : Key) → HasNothing g (k ∷ []) → (p : Path) →
     mark_by m g (k ∷ p) ≡ mark_with m 0 0
 marks_missing m g k h p =
-    let size : size_at g (k ∷ p) ≡ 0 = nothing _ (h.below p) in
+    let size : size_at g (k ∷ p) ≡ 0 = grind (arith, h.below p) in
     let le : total_at g (k ∷ p) ≤ total_at g (k ∷ []) =
     sum_by-le-sum_by (λ e. cond (begins (k ∷ p) e.0) e.1 0) (λ e. cond (begins (k ∷ []) e.0) e.1 0) (entries g)
     (λ e. fewer p e.0 k e.1) in

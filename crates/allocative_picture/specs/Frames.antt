@@ -1,5 +1,6 @@
 -- What a frame shows, and the frames of a flame graph.
 use Rattle.std.specs.Prelude.{ℕ, ◌+◌, Bool, cond, length, List, [], ◌∷◌, map, sum_by, codes, ◌==◌, Option, None, Some}
+use Rattle.std.specs.Prelude.{◌-◌, unwrap_or, slice_get}
 use Rattle.std.specs.List.{list_any}
 use Rattle.std.specs.Ordering.{is_lt}
 use Rattle.std.specs.FinMap.{entries}
@@ -28,9 +29,7 @@ frame_data r = record { depth = r.depth; key = r.key.now; own = r.own; whole = r
 
 -- The key that a picture shows for a path: the last one, and `all` for the root.
 abbrev pub shown_key : Path → Key
-shown_key [] = codes "all"
-shown_key (k ∷ []) = k
-shown_key (k ∷ l ∷ p) = shown_key (l ∷ p)
+shown_key p = unwrap_or (slice_get p (length p - 1)) (codes "all")
 
 -- The bytes of all entries whose path comes before p.
 abbrev pub before_in : List (Path × ℕ) → Path → ℕ
