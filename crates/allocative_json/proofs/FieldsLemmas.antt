@@ -1,7 +1,7 @@
 -- The graphs of fields: their totals, why they are refused, the documents of a text, and what a run makes of them.
 use Rattle.std.proofs.Common.{◌≡◌, ℕ, ◌+◌, ◌^◌, ◌<◌, ◌≤◌, ◌==◌, Bool, true, false, List, [], ◌∷◌, ◌++◌, length, get_or}
 use Rattle.std.proofs.Common.{take, drop, map, Bor, Option, None, Some, Result, Ok, Err, IfErr, IfSome, IsErrAnd, inl}
-use Rattle.std.proofs.Common.{inr, MatchResult, unwrap_or, refl, sym, ap, subst, subst₂, ◌∙◌, not, cond, arith}
+use Rattle.std.proofs.Common.{inr, MatchResult, unwrap_or, refl, sym, ap, subst, subst₂, ◌∙◌, arith}
 use Rattle.std.proofs.Common.{append-nil, take-append-drop}
 use Rattle.allocative_json.proofs.Common.{drop_more, length-map, fold-map, Graph, default, add_self, total, sum_of_all}
 use Rattle.allocative_json.proofs.Common.{Child, total-add_at, total-default, total-all, view, Value, Fault, fault_of}
@@ -64,23 +64,15 @@ passed_on y g (Ok z) r is h = absurd is
 passed_on y g (Err q) r is h = subst (RefusesGraph g) (sym is) h
 
 -- ---- documents
--- The lines that are not blank, with one line more.
-filled_push : (ls : List (List ℕ)) (l : List ℕ) (blank : Bool) → blank ≡ is_blank l →
-    filled (ls ++ l ∷ []) ≡ filled ls ++ cond (not blank) (l ∷ []) []
-filled_push ls l blank e = filter-append (λ l. not (is_blank l)) ls (l ∷ [])
-    ∙ ap (λ (b : Bool). filled ls ++ cond (not b) (l ∷ []) []) (sym e)
-
 -- A blank line leaves the documents as they are.
 pub documents_skip : (ls : List (List ℕ)) (l : List ℕ) (vs : List Value) → true ≡ is_blank l →
     AreDocuments (filled ls) vs → AreDocuments (filled (ls ++ l ∷ [])) vs
-documents_skip ls l vs e h = subst (λ (ts : List (List ℕ)). AreDocuments ts vs)
-    (sym (filled_push ls l true e ∙ append-nil (filled ls))) h
+documents_skip ls l vs e h = rw (filter-append, ← e, append-nil) h
 
 -- A line that is read is one document more.
 pub documents_more : (ls : List (List ℕ)) (l : List ℕ) (vs more : List Value) → false ≡ is_blank l →
     AreDocuments (filled ls) vs → AppendsDocument l vs more → AreDocuments (filled (ls ++ l ∷ [])) more
-documents_more ls l vs more e h p = subst₂ (λ (ts : List (List ℕ)) (ws : List Value). AreDocuments ts ws)
-    (sym (filled_push ls l false e)) (sym p.follows)
+documents_more ls l vs more e h p = rw (filter-append, ← e, p.follows)
     (all_zipped_more (λ t v. IsDocument t (view v)) (filled ls) vs l p.document h p.is_read)
 
 -- An input has at most one line more than bytes.

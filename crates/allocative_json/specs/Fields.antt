@@ -1,12 +1,11 @@
 -- The fields of JSON documents: a graph with the bytes that the values at each path declare, and what a run writes.
 use Rattle.std.specs.Prelude.{◌≡◌, ℕ, ◌+◌, ◌-◌, ◌*◌, ◌^◌, ◌<◌, ◌≤◌, ◌==◌, ⊤, ◌⊎◌, Bool, true, false, ◌&&◌, not, cond}
 use Rattle.std.specs.Prelude.{List, [], ◌∷◌, ◌++◌, map, filter, flat_map, length, Option, None, Some, IfSome, Result}
-use Rattle.std.specs.Prelude.{MatchResult, codes, decimal, encode_utf8, String, string_bytes, string_capacity, vec_capacity}
-use Rattle.std.specs.Prelude.{bytes_eq}
+use Rattle.std.specs.Prelude.{MatchResult, codes, decimal, encode_utf8, String, string_bytes, string_capacity}
+use Rattle.std.specs.Prelude.{vec_capacity, bytes_eq, chars}
 use Rattle.std.specs.Char.{is_ascii_whitespace}
 use Rattle.std.specs.Fmt.InlineText.{inline_text}
 use Rattle.std.specs.List.{AllZip, list_all, slice_split}
-use Rattle.std.specs.Str.{chars}
 use Rattle.std.specs.Io.KnownBytes.{Appends}
 use Rattle.std.specs.declared.alloc.Global.{Global}
 use Rattle.serde_json.specs.Data.{Data}
@@ -17,16 +16,16 @@ use Rattle.allocative_graph.specs.Graph.{Graph, default, add_self, text, total}
 use Rattle.allocative_graph.specs.Rows.{sum_of_all}
 use Rattle.allocative_graph.specs.declared.flamegraph.Child.{Child}
 use Rattle.allocative_graph.specs.declared.refusal.Refusal.{Refusal}
-use Rattle.allocative_graph.specs.declared.refusal.Refusal.TheVariants as refused
-use Rattle.allocative_io.specs.Lines as Lines
 use Rattle.allocative_io.specs.Streams.{AppendsBeginning}
 use Rattle.allocative_json.specs.declared.fault.Fault.{Fault}
 use Rattle.allocative_json.specs.declared.fault.Fault.TheVariants.{Memory, TooLarge, Reading, Writing}
-use Rattle.allocative_json.specs.declared.fault.Fault.TheVariants as fault
 use Rattle.allocative_json.specs.declared.fields.FieldsFault.{FieldsFault}
 use Rattle.allocative_json.specs.declared.fields.FieldsFault.TheVariants.{NotJson, Other}
 use Rattle.allocative_json.specs.Fault.{status_of, line_of}
 use Rattle.allocative_json.specs.Roots.{IsDocument}
+use Rattle.allocative_graph.specs.declared.refusal.Refusal.TheVariants as refused
+use Rattle.allocative_io.specs.Lines as Lines
+use Rattle.allocative_json.specs.declared.fault.Fault.TheVariants as fault
 
 -- ---- keys
 -- A character of a name in a key: `%`, `;`, `[`, a line feed and a carriage return by `%` and two digits, and any other

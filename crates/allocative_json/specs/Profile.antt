@@ -1,14 +1,13 @@
 -- What the roots of a document show, the lines that `exact` drops, and which reports are right.
-use Rattle.std.specs.Prelude.{◌≡◌, ℕ, ℤ, ◌<◌, ⊤, cond, Bool, true, false, List, [], ◌∷◌, ◌++◌, length, Option, Some, codes}
-use Rattle.std.specs.Prelude.{string_bytes}
+use Rattle.std.specs.Prelude.{◌≡◌, ℕ, ℤ, ◌<◌, ⊤, cond, Bool, true, false, List, [], ◌∷◌, ◌++◌, length, Option, Some}
+use Rattle.std.specs.Prelude.{codes, string_bytes}
 use Rattle.std.specs.BTreeSet.{BTreeSet}
 use Rattle.std.specs.Ordering.{eq_by_cmp}
 use Rattle.serde_json.specs.Data.{Data}
 use Rattle.serde_json.specs.View.{view}
 use Rattle.serde_json.specs.declared.value.Value.{Value}
-use Rattle.allocative.specs.Graph.{text}
+use Rattle.allocative.specs.Graph.{text, last_key, without_lines}
 use Rattle.allocative.specs.Path.{key_cmp}
-use Rattle.allocative.specs.Graph.{last_key, without_lines}
 use Rattle.allocative.specs.Shows.{Showing, Nothing, Both, Inside, Field, each_shows}
 use Rattle.allocative.specs.Visits.{Profile, IsProfileOf}
 use Rattle.allocative.specs.Collector.{OfGraph, begin, no_entries}

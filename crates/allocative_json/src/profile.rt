@@ -1,8 +1,7 @@
 //! Makes the report of a document.
 #![tactic(auto, using(allocative::proofs::Parts::parts))]
 
-ghost use Rattle.std.specs.Prelude.{true, IfOk, IfErr};
-ghost use Rattle.std.specs.Option.{option_copied};
+ghost use Rattle.std.specs.Prelude.{true, IfOk, IfErr, option_copied};
 ghost use Rattle.allocative.specs.Strict.{MayRefuseProfile};
 ghost use Rattle.allocative.specs.Visits.{IsProfileOf};
 ghost use Rattle.allocative_json.specs.Profile.{roots_show, IsReportOf, IsRightReport, RefusesRoots, RefusesReport};

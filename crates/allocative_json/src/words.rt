@@ -19,12 +19,7 @@ pub struct Words {
 fn has(words: &[String], word: &str) -> bool
     ensures { IsTrue result ↔ Contains (words_of words.now) word.now }
 {
-    for other in words {
-        if other.as_str() == word {
-            return true;
-        }
-    }
-    false
+    words.iter().any(|other| other.as_str() == word)
 }
 
 // Whether a word is one of the three, and not among those before it.

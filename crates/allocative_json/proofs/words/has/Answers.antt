@@ -1,32 +1,28 @@
--- The word is found, not found here, or not there at all.
-use Rattle.std.proofs.Common.{◌≡◌, ◌+◌, ◌∷◌, inl, inr, take, drop, refl, sym, ◌∙◌, true≢false, string_bytes, arith}
-use Rattle.std.proofs.Common.{take_all}
-use Rattle.allocative_json.proofs.Common.{words_of, map-append, take_more}
-use Rattle.std.proofs.lemmas.List.Elements.{Contains-append_right, Contains-push_cases}
+-- of has: the result
+use Rattle.std.proofs.Common.{◌≡◌, ◌||◌, Bool, List, [], ◌∷◌, refl, ap, sym, ◌∙◌, String, Global, string_bytes, bytes_eq}
+use Rattle.std.proofs.Common.{rules, tests}
+use Rattle.std.specs.List.{list_any}
+use Rattle.std.proofs.lemmas.Bool.Decides.{Decides-by_or}
+use Rattle.std.proofs.lemmas.Iterator.{YieldsList-from_slice}
+use Rattle.std.proofs.lemmas.Iterator.Search.{any_from_yields_List}
+use Rattle.std.proofs.lemmas.List.Elements.{Decides-contains}
 use Rattle.std.proofs.lemmas.Slice.Eq.{bytes_eq-Decides}
-use Rattle.allocative_json.proofs.WordsLemmas.{at_word}
+use Rattle.allocative_json.proofs.Common.{Word, words_of}
 use Rattle.allocative_json.proofs.words.has.Goals as goal
 
--- A word that is equal is among the words.
-pub returns-then-eq : goal.returns-then-eq
-returns-then-eq c =
-    let texts = c.args.words.now in
-    let i = c.loop-other.other-index in
-    let other = c.other-item.result in
-    let same : string_bytes other ≡ c.args.word.now =
-    sym c.as_str.ensures.value ∙ (bytes_eq-Decides _ _).0 (sym c.eq.ensures ∙ c.if-eq.true) in
-    (λ _. rw (at_word texts i other c.loop-other-test.true c.other-item.is) (Contains-append_right (words_of (take i texts)) (string_bytes other ∷ words_of (drop (i + 1) texts)) _ (0, omega arith, same)), λ _. refl)
+-- A test of words is a test of their texts.
+list_any-words : (p : Word → Bool) (ts : List (String Global)) →
+    list_any p (words_of ts) ≡ list_any (λ t. p (string_bytes t)) ts
+list_any-words p [] = refl
+list_any-words p (t ∷ ts) = ap (λ b. p (string_bytes t) || b) (list_any-words p ts)
 
--- The word is not among one word more.
-pub loop-other-preserved : goal.loop-other-preserved
-loop-other-preserved c =
-    rw (take_more _ _ c.other-item.result c.loop-other-test.true, ← c.other-item.is, map-append)
-    (λ k. elim (Contains-push_cases (words_of (take c.loop-other.other-index c.args.words.now)) (string_bytes c.other-item.result) c.args.word.now k) [
-      | inl d ↦ c.loop-other.invariant d
-      | inr e ↦ true≢false (sym ((bytes_eq-Decides _ _).1 (c.as_str.ensures.value ∙ e)) ∙ sym c.eq.ensures
-          ∙ c.if-eq.false)
-    ])
-
--- If none was equal, the word is not among the words.
+-- The word is found exactly if it is among the words.
 pub returns : goal.returns
-returns c = ((λ t. absurd (true≢false (sym t))), λ k. absurd (c.loop-other.invariant (rw (take_all c.loop-other.other-index c.args.words.now (omega arith)) k)))
+returns c =
+    let word = c.args.word.now in
+    let same : Word → Bool = λ w. bytes_eq w word in
+    let found = any_from_yields_List (λ (t : String Global). same (string_bytes t)) _ _ c.any.result c.any.ensures.ran
+    (YieldsList-from_slice c.args.words.now cc) (λ x b q k. search (rules, tests)) in
+    Decides-contains (words_of c.args.words.now) word c.any.result
+    (rw (found ∙ sym (list_any-words same c.args.words.now)) (Decides-by_or same (λ w. w ≡ word) (list_any same)
+    (λ w. bytes_eq-Decides w word) refl (λ x xs. refl) (words_of c.args.words.now)))
