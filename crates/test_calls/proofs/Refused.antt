@@ -1,5 +1,5 @@
 -- What visits do that return an error of their own, or hide an error.
-use Rattle.std.proofs.Common.{◌≡◌, ◌∙◌, ℕ, Bool, true, false, Result, Ok, Err, MutBor, Some}
+use Rattle.std.proofs.Common.{◌≡◌, ◌∙◌, ℕ, true, false, Result, Ok, Err, MutBor, Some}
 use Rattle.std.specs.Fn.{Once, FnOnceReturnsAtMut}
 use Rattle.allocative.specs.Refusal.{Refusal}
 use Rattle.allocative.specs.Path.{Key}
@@ -12,7 +12,6 @@ use Rattle.allocative.specs.Visited.{Visited, AnyEffect, Entered, Refused, Means
 use Rattle.allocative.proofs.Strict.{not_strict}
 use Rattle.allocative.proofs.Meaning.{visited, entered_refused}
 use Rattle.allocative.proofs.Showing.{not_entered, adds_weaker, adds_hidden, adds_refused, adds_refused_err}
-use Rattle.allocative.proofs.Showing.{adds_both_err, adds_err}
 
 -- An error that is returned by hand.
 pub refused_by_hand : {p : Showing} {q e : Refusal} {a b : Visitor} → Refused q a b e →

@@ -1,20 +1,39 @@
-//! Texts and numbers that no clause gives: of refusals, of faults and of a key.
+//! Texts and numbers that no clause gives: of refusals, of faults, of a cache's errors and of a key.
 use crate::texts::is_text;
 use allocative::{Key, LineFault, ReadFault, Refusal};
+use allocative_service::cache::CacheError;
+use allocative_service::ledger::Rejection;
+use std::alloc::Global;
+use std::fmt::Display;
 use std::test::Fail;
 
+/// Fails if a value prints another text.
+fn says<D: Display + Drop>(alloc: Global, told: D, want: &str) -> Result<(), Fail> {
+    is_text(format!(in alloc; "{told}")?.as_str(), want)
+}
+
 #[test]
-fn refusals_have_their_numbers_and_texts(rt: HostRuntime) -> Result<(), Fail> {
-    for (refusal, number, text) in [
-        (Refusal::Memory, 1, "out of memory"),
-        (Refusal::TooLarge, 2, "sizes do not fit"),
-        (Refusal::Open, 3, "a visitor was forgotten"),
-    ] {
-        let shown = format!(in rt.alloc(); "{refusal}")?;
-        assert!(rt; refusal as u8 == number);
-        is_text(shown.as_str(), text)?;
-    }
-    Ok(())
+fn refusals_and_errors_have_their_texts(rt: HostRuntime) -> Result<(), Fail> {
+    let alloc = rt.alloc();
+    says(alloc, Refusal::Memory, "out of memory")?;
+    says(alloc, Refusal::TooLarge, "sizes do not fit")?;
+    says(alloc, Refusal::Open, "a visitor was forgotten")?;
+    let numbers = [
+        Refusal::Memory as u8,
+        Refusal::TooLarge as u8,
+        Refusal::Open as u8,
+    ];
+    assert!(rt; numbers == [1, 2, 3]);
+    let rejection = Rejection::NotMeasured(Refusal::TooLarge);
+    says(alloc, rejection, "not measured: sizes do not fit")?;
+    let error = CacheError::NotMeasured(Refusal::Open);
+    says(alloc, error, "not measured: a visitor was forgotten")?;
+    let (bytes, bound) = (88, 48);
+    let error = CacheError::TooLarge { bytes, bound };
+    says(alloc, error, "88 bytes do not fit a bound of 48")?;
+    says(alloc, CacheError::Memory, "out of memory")?;
+    let key = Key::new("count");
+    says(alloc, format_args!("{key:?}"), "\"count\"")
 }
 
 #[test]
@@ -37,10 +56,4 @@ fn faults_say_why(rt: HostRuntime) -> Result<(), Fail> {
         is_text(shown.strip_prefix(said).unwrap_or("no line"), text)?;
     }
     Ok(())
-}
-
-#[test]
-fn a_key_is_shown_as_its_text(rt: HostRuntime) -> Result<(), Fail> {
-    let shown = format!(in rt.alloc(); "{:?}", Key::new("count"))?;
-    is_text(shown.as_str(), "\"count\"")
 }

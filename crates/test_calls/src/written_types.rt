@@ -1,5 +1,5 @@
 //! The text of types by hand, of `example_types`, and of those whose implementations `bin/implement` wrote.
-use crate::texts::{is_text, show, shows};
+use crate::texts::{is_output, is_text, made, show, shows};
 use allocative::{Key, Named as Root, Refusal, profile_values};
 use bytes::Bytes;
 use example_types::enums::Request;
@@ -50,43 +50,6 @@ fn types_in_place(rt: HostRuntime) -> Result<(), Fail> {
     )
 }
 
-fn received(alloc: Global) -> Result<Received, Fail> {
-    let Ok(callback) = Url::parse(alloc, "http://a/") else {
-        return Err(Fail::new("no link"));
-    };
-    Ok(Received {
-        id: Uuid::nil(),
-        callback,
-        body: Bytes::from_static(b"abcd"),
-        peer: SocketAddr::new(IpAddr::V4(Ipv4Addr::new(127, 0, 0, 1)), 80),
-        file: PathBuf::from_str(alloc, "a/b")?,
-        tried: None,
-    })
-}
-
-#[test]
-fn fields_without_an_implementation(rt: HostRuntime) -> Result<(), Fail> {
-    let text =
-        "Received 7\nReceived;body;Bytes 24\nReceived;body;Bytes;ptr 8\nReceived;body;Bytes;ptr;u8 4\nReceived;callback;Url 80\nReceived;callback;Url;ptr 8\nReceived;callback;Url;ptr;u8 9\nReceived;file;PathBuf 16\nReceived;file;PathBuf;ptr 8\nReceived;file;PathBuf;ptr;u8 3\nReceived;id;Uuid 16\nReceived;peer;SocketAddr 32\nReceived;tried;Option 17\n";
-    shows(rt.alloc(), &received(rt.alloc())?, text)
-}
-
-#[test]
-fn parts_behind_locks_are_one_graph(rt: HostRuntime) -> Result<(), Fail> {
-    let store = Store {
-        orders: Mutex::new(Vec::new(rt.alloc())),
-        limit: RwLock::new(5),
-    };
-    let all = store.profile(rt.alloc())?;
-    is_text(
-        all.flamegraph().write()?.as_str(),
-        "limit;u32 4\norders;Vec 24\n",
-    )?;
-    let _held = store.orders.try_lock().ok_or("a new lock is free")?;
-    let free = store.profile(rt.alloc())?;
-    is_text(free.flamegraph().write()?.as_str(), "limit;u32 4\n")
-}
-
 fn named(alloc: Global) -> Result<Named<Option<u16>>, AllocError> {
     Ok(Named {
         name: String::from_str(alloc, "ab")?,
@@ -101,28 +64,6 @@ fn document(alloc: Global) -> Result<Document, AllocError> {
         path: PathBuf::from_str(alloc, "a/b")?,
         pages: 3,
     })
-}
-
-fn sale(alloc: Global) -> Sale {
-    Sale {
-        name: String::new(alloc),
-        number: 7,
-        amount: 2,
-    }
-}
-
-#[test]
-fn structs(rt: HostRuntime) -> Result<(), Fail> {
-    let alloc = rt.alloc();
-    let text =
-        "Named 35\nNamed;is_read;bool 1\nNamed;name;String 16\nNamed;name;String;ptr 8\nNamed;name;String;ptr;capacity;u8 2\nNamed;value;Option 2\nNamed;value;Option;Some;u16 2\n";
-    shows(alloc, &named(alloc)?, text)?;
-    let text =
-        "Document 36\nDocument;pages;u32 4\nDocument;title;String 16\nDocument;title;String;ptr 8\n";
-    shows(alloc, &document(alloc)?, text)?;
-    let text =
-        "Sale 4\nSale;amount;u32 4\nSale;name;String 16\nSale;name;String;ptr 8\nSale;number;u64 8\n";
-    shows(alloc, &sale(alloc), text)
 }
 
 fn node(alloc: Global) -> Result<Node, AllocError> {
@@ -143,14 +84,44 @@ fn tree(alloc: Global) -> Result<Tree, AllocError> {
 }
 
 #[test]
-fn types_that_hold_themselves(rt: HostRuntime) -> Result<(), Fail> {
+fn types_by_hand(rt: HostRuntime) -> Result<(), Fail> {
     let alloc = rt.alloc();
     let text =
+        "Named 35\nNamed;is_read;bool 1\nNamed;name;String 16\nNamed;name;String;ptr 8\nNamed;name;String;ptr;capacity;u8 2\nNamed;value;Option 2\nNamed;value;Option;Some;u16 2\n";
+    made(alloc, named(alloc), text)?;
+    let text =
+        "Document 36\nDocument;pages;u32 4\nDocument;title;String 16\nDocument;title;String;ptr 8\n";
+    made(alloc, document(alloc), text)?;
+    let sale = Sale {
+        name: String::new(alloc),
+        number: 7,
+        amount: 2,
+    };
+    let text =
+        "Sale 4\nSale;amount;u32 4\nSale;name;String 16\nSale;name;String;ptr 8\nSale;number;u64 8\n";
+    made(alloc, Ok::<_, AllocError>(sale), text)?;
+    let text =
         "Node 4\nNode;children;Vec 16\nNode;children;Vec;ptr 8\nNode;children;Vec;ptr;Node 4\nNode;children;Vec;ptr;Node;children;Vec 24\nNode;children;Vec;ptr;Node;label;u32 4\nNode;label;u32 4\n";
-    shows(alloc, &node(alloc)?, text)?;
+    made(alloc, node(alloc), text)?;
     let text =
         "Tree 8\nTree;left;Box;ptr 8\nTree;left;Box;ptr;Tree 16\nTree;left;Box;ptr;Tree;Leaf;u64 8\nTree;right;Box;ptr 8\nTree;right;Box;ptr;Tree 16\nTree;right;Box;ptr;Tree;Leaf;u64 8\n";
-    shows(alloc, &tree(alloc)?, text)
+    made(alloc, tree(alloc), text)
+}
+
+/// Fails if the profile of a store has another text.
+fn is_store(alloc: Global, store: &Store, want: &str) -> Result<(), Fail> {
+    is_output(&store.profile(alloc)?, want)
+}
+
+#[test]
+fn parts_behind_locks_are_one_graph(rt: HostRuntime) -> Result<(), Fail> {
+    let store = Store {
+        orders: Mutex::new(Vec::new(rt.alloc())),
+        limit: RwLock::new(5),
+    };
+    is_store(rt.alloc(), &store, "limit;u32 4\norders;Vec 24\n")?;
+    let _held = store.orders.try_lock().ok_or("a new lock is free")?;
+    is_store(rt.alloc(), &store, "limit;u32 4\n")
 }
 
 /// The text of two pointers to one page.
@@ -180,6 +151,27 @@ fn roots_of_one_type(rt: HostRuntime) -> Result<(), Fail> {
     is_text(text_of_links(rt.alloc())?.as_str(), text)?;
     let text = "door;Sensor;count;u64 8\nwall;Sensor;count;u64 8\n";
     is_text(text_of_sensors(rt.alloc())?.as_str(), text)
+}
+
+fn received(alloc: Global) -> Result<Received, Fail> {
+    let Ok(callback) = Url::parse(alloc, "http://a/") else {
+        return Err(Fail::new("no link"));
+    };
+    Ok(Received {
+        id: Uuid::nil(),
+        callback,
+        body: Bytes::from_static(b"abcd"),
+        peer: SocketAddr::new(IpAddr::V4(Ipv4Addr::new(127, 0, 0, 1)), 80),
+        file: PathBuf::from_str(alloc, "a/b")?,
+        tried: None,
+    })
+}
+
+#[test]
+fn fields_without_an_implementation(rt: HostRuntime) -> Result<(), Fail> {
+    let text =
+        "Received 7\nReceived;body;Bytes 24\nReceived;body;Bytes;ptr 8\nReceived;body;Bytes;ptr;u8 4\nReceived;callback;Url 80\nReceived;callback;Url;ptr 8\nReceived;callback;Url;ptr;u8 9\nReceived;file;PathBuf 16\nReceived;file;PathBuf;ptr 8\nReceived;file;PathBuf;ptr;u8 3\nReceived;id;Uuid 16\nReceived;peer;SocketAddr 32\nReceived;tried;Option 17\n";
+    shows(rt.alloc(), &received(rt.alloc())?, text)
 }
 
 fn event(alloc: Global) -> Result<Event, AllocError> {

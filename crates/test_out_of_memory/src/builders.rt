@@ -31,69 +31,46 @@ fn enter_last(visitor: &mut Visitor<'_>, key: &'static str, size: usize) -> Resu
     entered
 }
 
-/// Enters `unique ptr 8 {u8 3}`.
-fn enter_pointer(outer: &mut Visitor<'_>) -> Result<(), Refusal> {
+/// Enters `T 8 {unique ptr 8 {u8 3}}`.
+fn enter_owner(root: &mut Visitor<'_>) -> Result<(), Refusal> {
+    let mut outer = root.enter(Key::new("T"), 8)?;
     let mut pointer = outer.enter_unique(Key::new("ptr"), 8)?;
     enter_last(&mut pointer, "u8", 3)
 }
 
-/// Enters `T 8 {unique ptr 8 {u8 3}}`.
-fn enter_owner(root: &mut Visitor<'_>) -> Result<(), Refusal> {
-    let mut outer = root.enter(Key::new("T"), 8)?;
-    enter_pointer(&mut outer)
-}
-
-/// Enters `shared p 6 #1 {Shared 13}`.
-fn enter_shared_pointer(outer: &mut Visitor<'_>) -> Result<(), Refusal> {
+/// Enters `Struct 10 {a 3, shared p 6 #1 {Shared 13}}`.
+fn enter_sharer(root: &mut Visitor<'_>) -> Result<(), Refusal> {
+    let mut outer = root.enter(Key::new("Struct"), 10)?;
+    enter_last(&mut outer, "a", 3)?;
     match outer.enter_shared(Key::new("p"), 6, Identity::from(1))? {
         Some(mut content) => enter_last(&mut content, "Shared", 13),
         None => Ok(()),
     }
 }
 
-/// Enters `a 3, shared p 6 #1 {Shared 13}`.
-fn enter_fields(outer: &mut Visitor<'_>) -> Result<(), Refusal> {
-    enter_last(outer, "a", 3)?;
-    enter_shared_pointer(outer)
-}
-
-/// Enters `Struct 10 {a 3, shared p 6 #1 {Shared 13}}`.
-fn enter_sharer(root: &mut Visitor<'_>) -> Result<(), Refusal> {
-    let mut outer = root.enter(Key::new("Struct"), 10)?;
-    enter_fields(&mut outer)
-}
-
-/// What a test enters at a root visitor.
-#[derive(Clone, Copy)]
-enum Entries {
-    Owner,
-    Sharer,
-}
-
-fn enter(builder: &mut FlameGraphBuilder, entries: Entries) -> Result<(), Refusal> {
-    let mut root = builder.root_visitor()?;
-    match entries {
-        Entries::Owner => enter_owner(&mut root),
-        Entries::Sharer => enter_sharer(&mut root),
-    }
-}
-
 /// Enters the same at each of several root visitors.
-fn enter_times(
+fn enter_times<F: Fn(&mut Visitor<'_>) -> Result<(), Refusal>>(
     builder: &mut FlameGraphBuilder,
-    entries: Entries,
     times: usize,
-) -> Result<(), Refusal> {
+    enter: F,
+) -> Result<(), Refusal>
+    requires { F.IsAlwaysCallable enter }
+{
     for _ in 0..times {
-        enter(builder, entries)?;
+        let mut root = builder.root_visitor()?;
+        enter(&mut root)?;
     }
     Ok(())
 }
 
 /// Asserts what a builder is after entries: the text of its graph, or that it has failed.
-fn assert_entered(rt: &(impl Abort + AllocGlobal), entries: Entries, times: usize, text: &str) {
-    let mut builder = new_builder(rt);
-    match enter_times(&mut builder, entries, times) {
+fn assert_entered(
+    rt: &impl Abort,
+    builder: FlameGraphBuilder,
+    entered: Result<(), Refusal>,
+    text: &str,
+) {
+    match entered {
         Ok(()) => assert_output(rt, builder.finish(), text, ""),
         Err(refusal) => has_failed(rt, builder, refusal),
     }
@@ -101,13 +78,17 @@ fn assert_entered(rt: &(impl Abort + AllocGlobal), entries: Entries, times: usiz
 
 #[test]
 fn entries_are_refused(rt: HostRuntime) {
-    assert_entered(&rt, Entries::Owner, 1, "T;ptr 8\nT;ptr;u8 3\n");
+    let mut builder = new_builder(&rt);
+    let entered = enter_times(&mut builder, 1, enter_owner);
+    assert_entered(&rt, builder, entered, "T;ptr 8\nT;ptr;u8 3\n");
 }
 
 #[test]
 fn shared_entries_are_refused(rt: HostRuntime) {
+    let mut builder = new_builder(&rt);
+    let entered = enter_times(&mut builder, 2, enter_sharer);
     let text = "Shared 13\nStruct 2\nStruct;a 6\nStruct;p 12\n";
-    assert_entered(&rt, Entries::Sharer, 2, text);
+    assert_entered(&rt, builder, entered, text);
 }
 
 /// Asserts the text of what a builder wrote, or that it was refused.

@@ -11,7 +11,6 @@ use allocative::{
     profile_in_two, profile_roots,
 };
 use std::alloc::AllocGlobal;
-use std::cell::Cell;
 use std::collections::BTreeMap;
 use std::process::Abort;
 use std::rc::Rc;
@@ -99,19 +98,13 @@ fn two_collections_are_refused(rt: HostRuntime) {
     }
 }
 
-/// Shows nothing, and counts its drops.
-struct Counted {
-    drops: Rc<Cell<u8>>,
+/// Shows nothing, and owns a mark.
+#[derive(Drop)]
+struct Marked {
+    _mark: Rc<()>,
 }
 
-impl Drop for Counted {
-    fn drop(self) {
-        let Counted { drops } = self;
-        drops.set(drops.get().wrapping_add(1));
-    }
-}
-
-impl Allocative for Counted {
+impl Allocative for Marked {
     ghost may_show = { λ _. shows.Nothing };
 
     fn visit(&self, visitor: &mut Visitor<'_>) -> Result<(), Refusal> {
@@ -119,39 +112,40 @@ impl Allocative for Counted {
     }
 }
 
-/// A counter, and a value that counts its drops there.
-fn with_counter(rt: &(impl Abort + AllocGlobal)) -> (Rc<Cell<u8>>, Counted) {
-    let drops = match Rc::new(rt.alloc(), Cell::new(0)) {
+/// A mark with one owner.
+fn new_mark(rt: &(impl Abort + AllocGlobal)) -> Rc<()> {
+    match Rc::new(rt.alloc(), ()) {
         Ok(made) => made,
-        Err(refused) => Rc::new(rt.alloc(), refused.value).expect(rt, "a counter"),
-    };
-    let value = Counted {
-        drops: drops.clone().expect(rt, "one more pointer"),
-    };
-    (drops, value)
+        Err(_) => Rc::new(rt.alloc(), ()).expect(rt, "a mark"),
+    }
 }
 
-/// Asserts that a counted value is kept or, if the call that took it was refused, was dropped once.
-fn assert_kept_or_dropped<T>(rt: &impl Abort, drops: &Cell<u8>, taken: &Result<T, Refusal>) {
-    match taken {
-        Ok(_) => assert_eq!(rt; drops.get(), 0),
+/// A value that owns the mark too.
+fn with_mark(rt: &impl Abort, mark: &Rc<()>) -> Marked {
+    Marked {
+        _mark: mark.clone().expect(rt, "one more owner"),
+    }
+}
+
+/// Asserts that a value is kept or, if the call that took it was refused, was dropped.
+fn assert_kept_or_dropped<T: Drop>(rt: &impl Abort, mark: &Rc<()>, taken: Result<T, Refusal>) {
+    match &taken {
+        Ok(_) => assert_count(rt, Rc::strong_count(mark), 2),
         Err(refusal) => {
             assert_refused(rt, *refusal);
-            assert_eq!(rt; drops.get(), 1);
+            assert_count(rt, Rc::strong_count(mark), 1);
         }
     }
 }
 
 #[test]
 fn refused_values_are_dropped(rt: HostRuntime) {
-    let (drops, value) = with_counter(&rt);
-    let shared = IdRc::new(rt.alloc(), value, Identity::from(1));
-    assert_kept_or_dropped(&rt, &drops, &shared);
-    let (drops, value) = with_counter(&rt);
-    let shared = IdArc::new(rt.alloc(), value, Identity::from(2));
-    assert_kept_or_dropped(&rt, &drops, &shared);
-    let (drops, value) = with_counter(&rt);
+    let mark = new_mark(&rt);
+    let shared = IdRc::new(rt.alloc(), with_mark(&rt, &mark), Identity::from(1));
+    assert_kept_or_dropped(&rt, &mark, shared);
+    let shared = IdArc::new(rt.alloc(), with_mark(&rt, &mark), Identity::from(2));
+    assert_kept_or_dropped(&rt, &mark, shared);
     let mut registry = Registry::new(rt.alloc());
-    let added = registry.add_root(boxed(&rt, value));
-    assert_kept_or_dropped(&rt, &drops, &added);
+    let added = registry.add_root(boxed(&rt, with_mark(&rt, &mark)));
+    assert_kept_or_dropped(&rt, &mark, added);
 }
