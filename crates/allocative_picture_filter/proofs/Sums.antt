@@ -1,6 +1,6 @@
 -- The graphs of some texts, one added after another, and what stops that.
 use Rattle.std.proofs.Common.{◌≡◌, ℕ, zero, suc, ◌+◌, ◌<◌, ◌≤◌, ◌⊎◌, inl, inr, Bool, true, false, cond}
-use Rattle.std.proofs.Common.{List, [], ◌∷◌, ◌++◌, map, take, length, get_or, refl, sym, ap, subst, ◌∙◌, arith}
+use Rattle.std.proofs.Common.{List, [], ◌∷◌, ◌++◌, map, take, length, get_or, refl, sym, ap, subst, arith}
 use Rattle.std.proofs.Common.{MatchBool, nat_lt}
 use Rattle.allocative_picture_filter.proofs.Common.{Graph, default, Fault, Memory, Text, map-append, take_more}
 use Rattle.allocative_picture_filter.proofs.Common.{Input, IsReadingOf, text}
@@ -24,10 +24,7 @@ add-push f (s ∷ ts) t g h (next, first, up) adds = (next, first, add-push next
 pub add-more : (xs : List Text) (i : ℕ) (d : Text) (g h : Graph) → i < length xs → AddUp (map sourced (take i xs)) g →
     Adds g (sourced (get_or xs i d)) h
     → AddUp (map sourced (take (i + 1) xs)) h
-add-more xs i d g h within up adds =
-    let more : map sourced (take (i + 1) xs) ≡ map sourced (take i xs) ++ sourced (get_or xs i d) ∷ [] =
-    ap (map sourced) (take_more xs i d within) ∙ map-append sourced (take i xs) (get_or xs i d ∷ []) in
-    subst (λ (ts : List Sourced). AddUp ts h) (sym more)
+add-more xs i d g h within up adds = rw (take_more xs i d within, map-append)
     (add-push default (map sourced (take i xs)) (sourced (get_or xs i d)) g h up adds)
 
 -- What stops a text, once those before it are added, stops them all.

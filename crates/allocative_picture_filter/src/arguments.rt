@@ -1,7 +1,6 @@
 //! The arguments of the program.
-ghost use Rattle.std.specs.Prelude.{◌≡◌, ◌≢◌, ⊤, [], ◌||◌, ◌==◌, IfOk, IfErr, IfSome, IfNone, false, map, not, nat_lt, filter, count_by, length};
+ghost use Rattle.std.specs.Prelude.{◌≡◌, ◌≢◌, ⊤, [], ◌||◌, ◌==◌, IfOk, IfErr, IfSome, IfNone, false, map, not, nat_lt, filter, count_by, length, SomeIff};
 ghost use Rattle.std.specs.Str.Parse.{digits_value};
-ghost use Rattle.std.specs.Option.{SomeIff};
 ghost use Rattle.clap.specs.Words.{app_of, fault_of, kind_of, found_of, rows_of, rule_of, matches_of};
 ghost use Rattle.allocative_picture_filter.specs.Arguments.{Disagree, IsAsked, IsFlag, IsNumber, IsNumberIn, IsRefused, IsWrong, StopsAsking, is_input, named, picture_app, title_of, valued, value_in, values_in, words_of};
 

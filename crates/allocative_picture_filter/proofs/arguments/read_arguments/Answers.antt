@@ -1,5 +1,5 @@
 -- What clap says of the words is what the arguments are read by.
-use Rattle.std.proofs.Common.{◌≡◌, ◌≢◌, List, [], Result, Ok, Err, IfOk, refl, true, subst, ⊎_elim, inl, inr}
+use Rattle.std.proofs.Common.{◌≡◌, ◌≢◌, List, [], IfOk, refl, true, subst, ⊎_elim, inl, inr}
 use Rattle.allocative_picture_filter.proofs.Common.{IfErr-weaker, IsAsked, IsWrong, picture_app}
 use Rattle.clap.specs.Words.{App, HasMatchesOf, Text, fault_of, found_of, is_simple, is_simple_and_free, Row, kind_of}
 use Rattle.clap.specs.Words.{matches_of, rows_of}
@@ -8,6 +8,7 @@ use Rattle.clap.specs.declared.error.Error.{Error}
 use Rattle.clap.specs.declared.error.kind.ErrorKind.{ErrorKind}
 use Rattle.clap.specs.declared.error.kind.ErrorKind.TheVariants.{OutOfMemory}
 use Rattle.clap.specs.declared.parser.matches.ArgMatches.{ArgMatches}
+use Rattle.clap.proofs.BuiltLemmas.{on_ok_always}
 use Rattle.clap.proofs.OnLiterals.{clap_on_literals}
 use Rattle.allocative_picture_filter.proofs.Faults.{because}
 use Rattle.allocative_picture_filter.proofs.arguments.read_arguments.Goals as goal
@@ -32,14 +33,9 @@ taken : (app : App) (words : List Text) → app ≡ picture_app →
     (is_simple_and_free app ≡ true → fault_of app words ≡ []) → fault_of picture_app words ≡ []
 taken app words is none = let h = rw is at none in h free
 
--- What holds anyhow holds after Ok.
-anyhow : {X E : Type 0} (r : Result X E) (P : Type 0) → P → IfOk r (λ x. P)
-anyhow (Ok x) P p = p
-anyhow (Err e) P p = tt
-
 pub returns-in-Ok-clause-taken : goal.returns-in-Ok-clause-taken
 returns-in-Ok-clause-taken c =
-    anyhow c.asked_by.result _ (taken _ _ c.in_ok-command.ensures c.in-Ok.ensures.kinds)
+    on_ok_always c.asked_by.result (taken _ _ c.in_ok-command.ensures c.in-Ok.ensures.kinds)
 
 pub returns-in-Ok-clause-err : goal.returns-in-Ok-clause-err
 returns-in-Ok-clause-err c =
