@@ -52,10 +52,8 @@ total-outline (suc l) n u g h (us, cs, a, b, inr (few, ds, step, e)) =
 -- The graphs of the children up to a place, and of the child there, are added up.
 pub joined_more : (cs : List Child) (i : ℕ) (c : Child) → i < length cs → c ≡ get_or cs i c →
     sum_of (joined (take i cs)) c.graph ≡ joined (take (i + 1) cs)
-joined_more cs i c within at =
-    ap (λ (x : Child). sum_of (joined (take i cs)) x.graph) at
-    ∙ sym (ap joined (take_more cs i c within)
-    ∙ fold-append (λ (g : Graph) (x : Child). sum_of g x.graph) default (take i cs) (get_or cs i c ∷ []))
+joined_more cs i c within at = rw (take_more cs i c within, ← at)
+    (sym (fold-append (λ (g : Graph) (x : Child). sum_of g x.graph) default (take i cs) (c ∷ [])))
 
 -- What is below no key adds to the root.
 pub outline-root : (d n : ℕ) (u g h : Graph) → d < 1 → h ≡ bytes_alone (total g) → IsOutline d n u g h
