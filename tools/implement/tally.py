@@ -187,7 +187,7 @@ class Tally:
         return (
             f"{writer.head('Tallied', 'Tallied')}    type Tally = {kind};\n\n"
             f"    ghost shape = {{ λ t n. {self.shape(self.root, 'n')[1:-1]} }};\n\n"
-            f"    ghost bounded = {{ λ t n. le_refl _ }};\n\n"
+            f"    ghost whole = {{ is_whole }};\n\n"
             f"    fn none_counted() -> Self::Tally {{\n{self.none()}    }}\n\n"
             f"    fn show(tally: &Self::Tally, count: usize, visitor: &mut Visitor<'_>) -> Result<(), Refusal> {{\n"
             f"{self.entering()}    }}\n\n"
@@ -267,11 +267,13 @@ class Tally:
     def counted(self) -> list[tuple[str, str]]:
         """The proofs of what is counted, each with the name of its goal."""
         if not self.definition.is_enum:
-            return [("returns", self.whole("next_whole", fields(self.root.inside, "")))]
+            found = [("returns", self.whole("next_whole", fields(self.root.inside, "")))]
+            return found + self.refused(self.root.inside, "", 1, "cannot_field {}", "(cannot_field {})")
         found = []
         for (variant, part), fact in zip(self.arms, self.writer.facts):
             arm = f"-in-{variant.name}" if self.arms[1:] else ""
             proof, last = "nothing_counted", f"-{variant.name}"
+            found += self.refused_arm(part, arm, fact) if part else []
             if part and part.is_own:
                 proof, last = f"(own_counted c.in_ok-count_own{arm}.ensures)", f"_ok-count_own{arm}"
             elif part and part.bytes is not None:
@@ -281,10 +283,43 @@ class Tally:
                 # The first step that is named `tally` is that which adds to the number of the variant.
                 proof = f"({case}\n    {fields(part.inside, arm, 2)}\n    {self.room})"
                 last = f"_ok-tally{arm}{ordinal(len([each for each in part.inside if each.kind]) + 1)}"
-            proof = placed(paired([*self.root.inside], lambda one, later: [one, later], None), part, proof) if part else proof
+            proof = placed(self.root.inside, part, proof, "({}_counted {})") if part else proof
             goal = f"returns-in{last}" if arm else "returns"
-            found.append((goal, f"next_as (λ f. rw {fact} (λ x. x))\n    ({self.whole('next_case', proof)})"))
+            found.append((goal, f"next_as (rw {fact} as_itself)\n    ({self.whole('next_case', proof)})"))
         return found
+
+    def refused(self, parts: tuple[Part, ...], arm: str, start: int, whole: str, value: str) -> list[tuple[str, str]]:
+        """The proofs for fields that cannot be counted, in an arm, by steps that are numbered from a start."""
+        found = []
+        for number, part in enumerate((each for each in parts if each.kind), start):
+            step = f"tally{arm}{ordinal(number)}"
+            lemma = f"({value.split('_')[0][1:]}_{{}} {{}})"
+            fact = "e" if "λ e." in whole else f"c.in_err-{step}.ensures"
+            place = placed(parts, part, value.format(fact), lemma)
+            found.append((f"returns-in_err-{step}", stopped(step, whole.format(place, step=step))))
+        return found
+
+    def refused_arm(self, part: Part, arm: str, fact: str) -> list[tuple[str, str]]:
+        """The proofs for the part of a variant that cannot be counted."""
+        place = placed(self.root.inside, part, "{}", "(exceeds_{} {})", ("left", "right"))
+        whole = f"rw {fact}\n    (cannot_case {place})"
+        # The value of an only variant is known by an equation of the whole, which rewrites what is known of it too.
+        alone = f"from_fact c.in_err-{{step}}.ensures\n    (rw {fact}\n    (λ e. cannot_case {place}))"
+        valued = whole if arm else alone
+        if part.is_own:
+            step = f"count_own{arm}"
+            known = f"(c.in_err-{step}.ensures.next _)" if arm else "(e.next _)"
+            return [(f"returns-in_err-{step}", stopped(step, valued.format(known, step=step)))]
+        step = f"tally{arm}"
+        if part.bytes is not None:
+            return [(f"returns-in_err-{step}", stopped(step, whole.format("(exceeds_sum false _ (omega arith))")))]
+        full = whole.format(f"(exceeds_full c.in_err-{step}.ensures)")
+        found = [(f"returns-in_err-{step}", stopped(step, full))]
+        declared = f"declared{arm or '-2'}"
+        missing = whole.format(f"(exceeds_missing c.in_err-{declared}.ensures)")
+        found.append((f"returns-in_err-{declared}", stopped(declared, missing)))
+        inside = valued.format("(exceeds_field {})", step="{step}")
+        return found + self.refused(part.inside, arm, 2, inside, "(exceeds_field ({}.next _))")
 
     def whole(self, lemma: str, inside: str) -> str:
         """The proof for the entry of a value, from that for what is inside it."""
@@ -309,9 +344,21 @@ def fields(parts: tuple[Part, ...], arm: str, start: int = 1) -> str:
     return paired(steps, "(next_both\n    {}\n    {})".format, "next_nothing")
 
 
-def placed(tree: Any, part: Part, proof: str) -> str:
-    """The proof for a part, from its place among others."""
-    if tree is part:
-        return proof
-    pairs = zip(("first", "second"), tree if isinstance(tree, list) else ())
-    return "".join(f"({word}_counted {inner})" for word, each in pairs if (inner := placed(each, part, proof)))
+def placed(
+    parts: tuple[Part, ...], part: Part, proof: str, lemma: str, words: tuple[str, str] = ("first", "second")
+) -> str:
+    """The proof for a part, from its place among others, by lemmas whose names have these words."""
+
+    def within(tree: Any) -> str:
+        if tree is part:
+            return proof
+        pairs = zip(words, tree if isinstance(tree, list) else ())
+        return "".join(lemma.format(word, inner) for word, each in pairs if (inner := within(each)))
+
+    return within(paired([*parts], lambda one, later: [one, later], None))
+
+
+def stopped(step: str, proof: str) -> str:
+    """The proof at the exit of a `?`, from that for the error."""
+    residual = f"c.from_residual-in_err-{step}"
+    return f"stops {residual}.result _ _ {residual}.ensures.0\n    ({proof})"

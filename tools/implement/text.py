@@ -53,7 +53,7 @@ LEVEL = re.compile(rf'(?<![\w."<])(?:{"|".join(sorted(LEVELS))})(?![\w.>"])|(?<=
 CLAUSE_WORDS = {"codes", "true", "false", "elim", "where", "deriving", "record", "data", "open", "let", "in"}
 # What answers cite, by its module.
 LEMMAS = {
-    "std.proofs.Common": "ap arith refl rules ◌≡◌ ◌∙◌",
+    "std.proofs.Common": "ap arith false refl rules ◌≡◌ ◌∙◌",
     "allocative.proofs.ByHand": "visited_at",
     "allocative.proofs.ContainerMeaning": "means_buffer",
     "allocative.proofs.Levels": "means_opened means_recursive",
@@ -63,6 +63,9 @@ LEMMAS = {
     "allocative_tally.proofs.Fields": "case_counted fixed_counted holding next_as next_both next_case next_field next_fixed "
     "next_nothing next_whole nothing_counted own_counted starting",
     "allocative_tally.proofs.Sizes": "holds_bytes",
+    "allocative_tally.proofs.Weighing": "cannot_case cannot_field cannot_first cannot_second exceeds_field "
+    "exceeds_first exceeds_full exceeds_left exceeds_missing exceeds_right exceeds_second exceeds_sum from_fact stops",
+    "allocative_tally.specs.Whole": "as_itself",
 }
 DESCRIBED = {"align": "usize", "needs_drop": "bool", "size": "Option<usize>"}
 

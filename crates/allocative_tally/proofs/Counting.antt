@@ -1,17 +1,20 @@
 -- How what was counted composes as what is shown does.
-use Rattle.std.proofs.Common.{◌≡◌, ◌≤◌, ◌<◌, ◌+◌, ◌^◌, ℕ, Bool, true, false, List, [], ◌∷◌, ◌++◌, Option, Some, None}
-use Rattle.std.proofs.Common.{refl, sym, subst, ◌∙◌, arith}
+use Rattle.std.proofs.Common.{◌≡◌, ◌≤◌, ◌<◌, ◌+◌, ◌^◌, ℕ, Bool, true, false, List, ◌∷◌, ◌++◌, Option, Some, None, []}
+use Rattle.std.proofs.Common.{refl, sym, subst, ap, ◌∙◌, arith}
 use Rattle.std.proofs.lemmas.Bool.{false≢true}
 use Rattle.allocative.proofs.Common.{Key, Forest, Empty, followed_by, entry_of, Showing, Nothing, Both, InsideAs}
-use Rattle.allocative.proofs.Common.{Inside, Field, sized, each_shows}
+use Rattle.allocative.proofs.Common.{Inside, Field, each_shows}
 use Rattle.allocative_graph.specs.Owned.{direct}
 use Rattle.allocative_graph.proofs.Owned.{direct-following}
-use Rattle.allocative.proofs.Strict.{followed_by-empty, followed_by_assoc, each_append, each_one}
+use Rattle.allocative.proofs.Strict.{followed_by-empty, followed_by_assoc}
 use Rattle.allocative_tally.specs.Shapes.{IsPlain, Merged, Width, Unique, Wide, Narrow, is_unique, HasWidth, Shape}
 use Rattle.allocative_tally.specs.Shapes.{NoEntry, Beside, EntryAt, forest_of, Holds, IsRight, entry_counted, top_bytes}
+use Rattle.allocative_tally.specs.Shapes.{is_there, weight, ShownAs}
 use Rattle.allocative_tally.specs.Tallies.{Tallies, IsWithin, AddsEntry, both_bounds}
 use Rattle.allocative_tally.specs.declared.tally.Sum.{Sum}
 use Rattle.allocative_tally.proofs.Sizes.{HoldsBound, holds_nothing}
+use Rattle.allocative_tally.specs.Whole.{weight_entry}
+use Rattle.allocative_tally.proofs.Weighing.{both_weight, field_as, each_as}
 use Rattle.allocative_tally.proofs.Merging.{plain_parts, plain_inside, merged_same, merged_then, merged_both}
 use Rattle.allocative_tally.proofs.Merging.{merged_crossed, merged_entry, merged_inside, KeepsOwned, direct_entry}
 
@@ -27,12 +30,18 @@ tallies_none {w} {s = s} x = record {
   allowed = x;
   within = zero_within w;
   merged = λ r room. (rw (followed_by-empty (forest_of s)) (merged_same (forest_of s) r.0), r.1);
+  weighs = λ f x. omega arith;
 }
 
--- What was counted as p was counted as q, if each forest of p is one of q.
-pub tallies_as : {w : Option ℕ} {p q : Showing} {s t : Shape} → ((h : Forest) → p h → q h) → Tallies w p s t →
-    Tallies w q s t
-tallies_as up t = record { counted = t.counted; allowed = up t.counted t.allowed; within = t.within; merged = t.merged }
+-- What was counted as p was counted as q, if p is shown as q.
+pub tallies_as : {w : Option ℕ} {p q : Showing} {s t : Shape} → ShownAs p q → Tallies w p s t → Tallies w q s t
+tallies_as a t = record {
+  counted = t.counted;
+  allowed = a.up t.counted t.allowed;
+  within = t.within;
+  merged = t.merged;
+  weighs = λ f x. let l = a.down f x in omega (arith, t.weighs l.0 l.1, l.2);
+}
 
 -- Two forests are within the bounds of both if each is within its own.
 both_within : (m n : Option ℕ) (f g : Forest) → IsWithin (direct f) m → IsWithin (direct g) n →
@@ -54,6 +63,7 @@ tallies_then {w} {v} {s = s} {t = t} {u = u} a b = record {
       let more = plain_parts (forest_of t) b.counted l.0.plain in
       let all = merged_then (merged_both m.0 (merged_same b.counted more.1)) l.0 in
       (subst (λ (h : Forest). Merged h (forest_of u)) (followed_by_assoc (forest_of s) a.counted b.counted) all, l.1);
+  weighs = λ f x. omega (arith, a.weighs x.0 x.2, b.weighs x.1 x.3, both_weight x);
 }
 
 -- Two values were counted, each into a tally of its own.
@@ -73,6 +83,7 @@ tallies_both {m} {n} {s = s} {u = u} a b = record {
       let y = plain_parts (forest_of u) b.counted l.0.plain in
       let crossed = merged_crossed (forest_of s) (forest_of u) a.counted b.counted x.0 y.0 x.1 y.1 in
       (merged_then crossed (merged_both m.0 l.0), (m.1, l.1));
+  weighs = λ f x. omega (arith, a.weighs x.0 x.2, b.weighs x.1 x.3, both_weight x);
 }
 
 -- A value was counted into the first of two shapes.
@@ -88,6 +99,7 @@ first_counted {s = s} {t} {u} c =
       merged = λ r room. subst (λ (h : Forest). Merged (followed_by (forest_of (Beside s u)) h) (forest_of
           (Beside t u)) × Holds (Beside t u))
           same (all.merged r (subst (λ (h : Forest). direct (forest_of (Beside s u)) + direct h < 2 ^ 64) (sym same) room));
+      weighs = λ f x. omega (arith, c.weighs f x);
     }
 
 -- A value was counted into the second of two shapes.
@@ -95,7 +107,13 @@ pub second_counted : {w : Option ℕ} {p : Showing} {s t u : Shape} → Tallies 
 unfolding tallies_both tallies_none
 second_counted {u = u} c =
     let all = tallies_both {p = Nothing} (tallies_none {w = None} {s = u} refl) c in
-    record { counted = c.counted; allowed = c.allowed; within = c.within; merged = all.merged }
+    record {
+      counted = c.counted;
+      allowed = c.allowed;
+      within = c.within;
+      merged = all.merged;
+      weighs = λ f x. omega (arith, c.weighs f x);
+    }
 
 -- Entries of one kind keep what they own when they are merged.
 keeps_owned : (x : Width) (m n : ℕ) (f h : Forest) → HasWidth x m f → HasWidth x n h → KeepsOwned (is_unique x) m n f h
@@ -134,7 +152,8 @@ tallies_entry {w} {p} x k n {old} {new} {s} {t} more c keeps inside = record {
   counted = entry_of (is_unique x) k n c.counted;
   allowed = (c.counted, c.allowed, refl);
   within = omega (arith, direct_entry (is_unique x) k n c.counted);
-  merged = λ r room. rw more.is_there (one_more old.is_there r room);
+  merged = λ r room. rw more.is_there (one_more (is_there old) r room);
+  weighs = λ f y. omega (arith, more.weighs, c.weighs y.0 y.1, ap weight y.2, weight_entry (is_unique x) k n y.0);
 }
   where
     one_more : (b : Bool) → IsPlain (entry_counted b (is_unique x) k old.bytes (forest_of s)) ×
@@ -207,19 +226,18 @@ counted_leaf more = counted_inline more (tallies_none {w = Some 0} refl) (holds_
 -- An entry of a declared size was counted.
 pub counted_field : {k : Key} {size : Option ℕ} {n : ℕ} {p : Showing} {s t : Shape} → size ≡ Some n →
     Tallies (Some n) (Inside k n p) s t → Tallies size (Field k size p) s t
-counted_field {k = k} {p = p} {s} {t} e c = rw e (tallies_as (λ h x. sized x) c)
+counted_field e c = rw e (tallies_as field_as c)
 
 -- One more item was counted.
 pub tallies_more : {T : Type 0} {v w : Option ℕ} (p : T → Showing) (xs : List T) (x : T) {s t u : Shape} →
     Tallies v (each_shows p xs) s t → Tallies w (p x) t u →
     Tallies (both_bounds v w) (each_shows p (xs ++ x ∷ [])) s u
-tallies_more p xs x a b =
-    tallies_as (λ h (y, z, v, w, e). each_append p xs (x ∷ []) h (y, z, v, each_one p x z w, e)) (tallies_then a b)
+tallies_more p xs x a b = tallies_as (each_as p xs x) (tallies_then a b)
 
 -- ---- the bytes at the top of a shape
 -- An entry has at most the bytes of its sum.
 pub entry_direct : (x : Width) (k : Key) (sum : Sum) (s : Shape) → direct (forest_of (EntryAt x k sum s)) ≤ sum.bytes
-entry_direct x k sum s = by_test x sum.is_there
+entry_direct x k sum s = by_test x (is_there sum)
   where
     by_test : (x : Width) (b : Bool) → direct (entry_counted b (is_unique x) k sum.bytes (forest_of s)) ≤ sum.bytes
     by_test Unique true = omega arith

@@ -1,6 +1,6 @@
 -- What was entered as the merged forest was entered as the forests that it merges.
 use Rattle.std.proofs.Common.{◌≡◌, ℕ, Bool, true, false, Result, Ok, refl, sym, ap, subst, ◌∙◌, arith, Option, Some}
-use Rattle.std.proofs.Common.{◌<◌, ◌≤◌, ◌^◌, List, [], ◌∷◌, ◌++◌, length, get_or, take, drop}
+use Rattle.std.proofs.Common.{◌<◌, ◌≤◌, ◌^◌, List, ◌∷◌, ◌++◌, length, get_or, take, drop, []}
 use Rattle.std.proofs.lemmas.List.{take-append-drop}
 use Rattle.allocative_graph.specs.Owned.{direct}
 use Rattle.allocative_graph.specs.Sums.{bytes_entered}
@@ -14,7 +14,7 @@ use Rattle.allocative.proofs.Meaning.{entered_as, entered_none, means_same}
 use Rattle.allocative.proofs.Strict.{may_refuse, declared_first, declared_append, each_append, each_one}
 use Rattle.allocative.proofs.Strict.{bytes_entered-plus}
 use Rattle.allocative_tally.specs.Shapes.{IsPlain, Merged, Width, is_unique, Shape, NoEntry, Beside, EntryAt, forest_of}
-use Rattle.allocative_tally.specs.Shapes.{IsNothing, entry_counted, shape_shows, is_shape}
+use Rattle.allocative_tally.specs.Shapes.{IsNothing, entry_counted, shape_shows, is_shape, is_there}
 use Rattle.allocative_tally.specs.Tallies.{Tallies, EntersShape, IsWithin}
 use Rattle.allocative_tally.specs.declared.tally.Sum.{Sum}
 use Rattle.allocative_tally.proofs.Merging.{plain_taken, plain_shows}
@@ -112,9 +112,10 @@ pub means_no_entry : Means true Nothing (shape_shows NoEntry)
 means_no_entry = record { means = λ h a. is_shape a; declared = λ i (h, a, c). (h, shown_alone a, c) }
 
 -- The entry of a sum that is there is an entry, with the shape inside it.
-pub means_there : (x : Width) {k : Key} {sum : Sum} {s : Shape} → sum.is_there ≡ true →
+pub means_there : (x : Width) {k : Key} {sum : Sum} {s : Shape} → 0 < sum.count →
     Means true (InsideAs (is_unique x) k sum.bytes (shape_shows s)) (shape_shows (EntryAt x k sum s))
-means_there x {k} {sum} {s} b =
+means_there x {k} {sum} {s} some =
+    let b : is_there sum ≡ true = grind (arith, some) in
     let e = ap (λ (y : Bool). entry_counted y (is_unique x) k sum.bytes (forest_of s)) b in
     record {
       means = λ h (g, a, i). is_shape (i ∙ ap (entry_of (is_unique x) k sum.bytes) (shown_alone a) ∙ sym e);
@@ -122,9 +123,10 @@ means_there x {k} {sum} {s} b =
     }
 
 -- The entry of a sum that is not there is no entry.
-pub means_not_there : (x : Width) {k : Key} {sum : Sum} {s : Shape} → sum.is_there ≡ false →
+pub means_not_there : (x : Width) {k : Key} {sum : Sum} {s : Shape} → sum.count ≡ 0 →
     Means true Nothing (shape_shows (EntryAt x k sum s))
-means_not_there x {k} {sum} {s} b =
+means_not_there x {k} {sum} {s} none =
+    let b : is_there sum ≡ false = rw none refl in
     let e = ap (λ (y : Bool). entry_counted y (is_unique x) k sum.bytes (forest_of s)) b in
     record { means = λ h a. is_shape (a ∙ sym e); declared = λ j d. (Empty, refl, tt) }
 
@@ -142,7 +144,7 @@ enters_same e h = enters_shape h.entered (record {
 })
 
 -- A call that enters nothing and returns Ok has entered the entry of a sum that is not there.
-pub enters_none : (x : Width) {k : Key} {sum : Sum} {s : Shape} (a : _) → sum.is_there ≡ false →
+pub enters_none : (x : Width) {k : Key} {sum : Sum} {s : Shape} (a : _) → sum.count ≡ 0 →
     EntersShape (EntryAt x k sum s) a a (Ok tt)
 enters_none x a b = record { entered = entered_none a (means_not_there x b) }
 

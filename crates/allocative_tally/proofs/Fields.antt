@@ -9,6 +9,7 @@ use Rattle.allocative_tally.specs.Tallies.{Tallies, TalliesNext, TalliesFields, 
 use Rattle.allocative_tally.specs.Tallies.{both_bounds}
 use Rattle.allocative_tally.proofs.Counting.{counted_leaf, counted_field, counted_inline, tallies_both, tallies_none}
 use Rattle.allocative_tally.proofs.Counting.{tallies_as}
+use Rattle.allocative_tally.specs.Shapes.{ShownAs}
 use Rattle.allocative_tally.proofs.Sizes.{HoldsBound, holds_up, holds_both, holds_first, holds_second, holds_first_of}
 use Rattle.allocative_tally.proofs.Sizes.{holds_second_of, holds_itself, holds_bytes, holds_nothing, holds_grouped}
 
@@ -19,25 +20,26 @@ if_ok r h up = MatchResult-weaker r h up (λ _ _. tt)
 
 -- ---- sums
 -- Entries have more bytes.
-pub adds_of : (n m : ℕ) {a b c : ℕ} → 0 < m → c ≡ a + b → AddsEntry b (sum_of n a) (sum_of m c)
-adds_of n m some e = record { is_there = grind (arith, some); bytes = λ room. e }
+pub adds_of : (n m : ℕ) {a b c : ℕ} → 0 < m → m ≤ n + 1 → c ≡ a + b → AddsEntry b (sum_of n a) (sum_of m c)
+adds_of n m some one e = record { is_there = grind (arith, some); bytes = λ room. e; weighs = omega arith }
 
 -- Entries have the bytes of more values of a declared size.
-pub adds_times : (size : Option ℕ) (n m a b c : ℕ) {z : ℕ} → 0 < m → size ≡ Some z → c ≡ a + b →
+pub adds_times : (size : Option ℕ) (n m a b c : ℕ) {z : ℕ} → 0 < m → m ≤ n + 1 → size ≡ Some z → c ≡ a + b →
     AddsEntry (z * b) (sum_of n (bytes_times size a)) (sum_of m (bytes_times size c))
-adds_times None n m a b c some e i = absurd (cc)
-adds_times (Some s) n m a b c {z} some e i =
+adds_times None n m a b c some one e i = absurd (cc)
+adds_times (Some s) n m a b c {z} some one e i =
     let same : s * b ≡ z * b = ap (λ (y : ℕ). y * b) (cc) in
     let all : s * c ≡ s * a + s * b = ap (λ (y : ℕ). s * y) i ∙ mul-add s a b in record {
       is_there = grind (arith, some);
       bytes = λ room. omega (arith, room, same, all);
+      weighs = omega (arith, one, same, all);
     }
 
 -- One more value of a declared size is one more entry.
 pub one_more : (size : Option ℕ) (n m : ℕ) {z : ℕ} → size ≡ Some z → m ≡ n + 1 →
     AddsEntry z (sum_times size n) (sum_times size m)
 one_more size n m {z} e i = subst (λ (b : ℕ). AddsEntry b (sum_times size n) (sum_times size m)) (omega arith)
-    (adds_times size n m n 1 m (omega (arith, i)) e i)
+    (adds_times size n m n 1 m (omega (arith, i)) (omega (arith, i)) e i)
 
 -- No entry of no values.
 times_none : (size : Option ℕ) → bytes_times size 0 ≡ 0
@@ -68,7 +70,14 @@ pub ruleset starting = (starts_entry, starts_both)
 pub tallies_within : {w : Option ℕ} {p : Showing} {s t : Shape} (v : Option ℕ) → HoldsBound v w → Tallies w p s t →
     Tallies v p s t
 tallies_within v h t =
-    record { counted = t.counted; allowed = t.allowed; within = h.room _ t.within; merged = t.merged }
+    record {
+      counted = t.counted;
+      allowed = t.allowed;
+      within = h.room _ t.within;
+      merged = t.merged;
+      weighs =
+          t.weighs;
+    }
 
 -- A value is its own entry with its fields inside it.
 whole_counted : (n m : ℕ) {b : ℕ} {size w : Option ℕ} {k : Key} {p : Showing} {s t : Shape} → size ≡ Some b → m ≡ n + 1 →
@@ -116,10 +125,10 @@ pub next_whole : {size w : Option ℕ} {k : Key} {p : Showing} {s t : ℕ → Sh
     TalliesNext size (Field k size p) (λ n. entries k size n (s n)) (λ n. entries k size n (t n))
 next_whole d fields holds = record { declared = d; next = λ n. whole_counted n (n + 1) d.sized refl (fields.next n) holds }
 
--- What was counted as p was counted as q, if each forest of p is one of q.
-pub next_as : {w : Option ℕ} {p q : Showing} {s t : ℕ → Shape} → ((f : Forest) → p f → q f) → TalliesNext w p s t →
+-- What was counted as p was counted as q, if p is shown as q.
+pub next_as : {w : Option ℕ} {p q : Showing} {s t : ℕ → Shape} → ShownAs p q → TalliesNext w p s t →
     TalliesNext w q s t
-next_as up a = record { declared = a.declared; next = λ n. tallies_as up (a.next n) }
+next_as a t = record { declared = t.declared; next = λ n. tallies_as a (t.next n) }
 
 -- ---- cases
 -- A value is its own entry, with what its case shows inside it, whatever the number of the values.
@@ -128,9 +137,9 @@ pub next_case : {size w : Option ℕ} {k : Key} {p : Showing} {s t : Shape} → 
 next_case d inside holds = next_whole d (record { next = λ n. inside }) holds
 
 -- A value that may show an entry with nothing inside it is that entry.
-pub next_leaf : {size : Option ℕ} {k : Key} {p : Showing} → ((f : Forest) → Field k size Nothing f → p f) →
-    IsDeclared size → TalliesNext size p (λ n. entries k size n NoEntry) (λ n. entries k size n NoEntry)
-next_leaf {size} up d = next_as up (next_case d nothing_counted (holds_nothing size))
+pub next_leaf : {size : Option ℕ} {k : Key} {p : Showing} → ShownAs (Field k size Nothing) p → IsDeclared size →
+    TalliesNext size p (λ n. entries k size n NoEntry) (λ n. entries k size n NoEntry)
+next_leaf {size} a d = next_as a (next_case d nothing_counted (holds_nothing size))
 
 -- A case of several fields is its entry, with the fields inside it.
 pub case_counted : {v w : Option ℕ} {k : Key} {p : Showing} {n m : ℕ} {s t : ℕ → Shape} → IsDeclared v → m ≡ n + 1 →

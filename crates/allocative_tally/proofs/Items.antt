@@ -1,15 +1,15 @@
 -- How texts, buffers and items are counted, and those of arrays, boxes, maps and the packs.
-use Rattle.std.proofs.Common.{◌≡◌, ◌≤◌, ◌<◌, ◌+◌, ◌-◌, ◌*◌, ◌^◌, mul-add, ℕ, Bool, true, false, codes, max, List, ◌++◌}
-use Rattle.std.proofs.Common.{length, length-append, Option, Some, None, refl, sym, ap, subst, ◌∙◌, arith, [], ◌∷◌, inl}
-use Rattle.std.proofs.Common.{inr, le_refl, Result, mul-suc}
-use Rattle.allocative_described.specs.Sizes.{checked, size_product, IsRawTableSize, size_sum, size_max, size_up}
+use Rattle.std.proofs.Common.{◌≡◌, ◌≤◌, ◌<◌, ◌+◌, ◌-◌, ◌*◌, ◌^◌, mul-add, ℕ, Bool, true, false, codes, List, ◌++◌}
+use Rattle.std.proofs.Common.{length, length-append, Option, Some, None, refl, sym, ap, subst, ◌∙◌, arith, ◌∷◌, inl}
+use Rattle.std.proofs.Common.{le_refl, Result, mul-suc, []}
+use Rattle.allocative_described.specs.Sizes.{checked, size_product, IsRawTableSize, size_sum, size_up}
 use Rattle.allocative_graph.specs.Owned.{direct}
 use Rattle.allocative_graph.proofs.Owned.{direct-following}
 use Rattle.allocative.proofs.Common.{Key, Showing, Nothing, Both, Inside, InsideAs, Field, slice_shows, buffer_shows}
-use Rattle.allocative.proofs.Common.{with_room, without_room, without_size, Forest, sized, each_shows, table_shows}
+use Rattle.allocative.proofs.Common.{without_room, without_size, Forest, sized, each_shows, table_shows}
 use Rattle.allocative.proofs.Common.{Refusal, Entered, Empty}
 use Rattle.allocative.proofs.ContainerMeaning.{checked_fits}
-use Rattle.allocative.specs.Bodies.{cut_shows, is_cut, text_shows, is_text, are_shown_each, bytes_shown, data_shows}
+use Rattle.allocative.specs.Bodies.{cut_shows, text_shows, are_shown_each, bytes_shown, data_shows}
 use Rattle.allocative_tally.specs.Shapes.{Shape, Unique, Wide, NoEntry, Beside, EntryAt, forest_of, sum_of, sum_times}
 use Rattle.allocative_tally.specs.Shapes.{entries, bytes_times, top_bytes, items_shape, buffer_shape, unused_shape}
 use Rattle.allocative_tally.specs.Shapes.{pairs_shape, Narrow, table_shape, shape_shows, IsNothing}
@@ -18,18 +18,24 @@ use Rattle.allocative_tally.specs.Tallies.{CountsRoom, no_bytes, no_room, is_roo
 use Rattle.allocative_tally.specs.Tallies.{IsDeclared, IsWithin, both_bounds, TalliesFields, HoldsOfRun, EntersShape}
 use Rattle.allocative_tally.specs.declared.places.Places.{Places}
 use Rattle.allocative_tally.proofs.Counting.{counted_field, counted_inline, counted_unique, counted_leaf, tallies_both}
+use Rattle.allocative_tally.specs.Shapes.{ShownAs}
+use Rattle.allocative_tally.specs.Tallies.{AddsItems, AddsIndex, CannotAddIndex, no_room_for_both, HasBuffer}
+use Rattle.allocative_tally.specs.Tallies.{without_bytes, without_items, with_buffer}
+use Rattle.allocative_tally.proofs.Exceeding.{text_as, slice_as, slice_one_as, cut_as, buffer_as, inline_as, spilled_as}
+use Rattle.allocative_tally.proofs.Exceeding.{index_data_as, table_as, item_cannot, small_vec_size}
+use Rattle.allocative_tally.specs.Tallies.{HoldsOfEveryRun, CannotTally, CannotAdd, CannotCountRoom, no_place}
+use Rattle.std.specs.Iterator.{Yields, AlwaysYields}
+use Rattle.std.proofs.Common.{map}
 use Rattle.allocative_tally.proofs.Counting.{tallies_as, tallies_then, tallies_none, entry_direct, shape_direct}
 use Rattle.allocative_tally.proofs.Counting.{counted_narrow, first_counted, second_counted, tallies_more}
 use Rattle.allocative_tally.proofs.Sizes.{holds_bytes, room_checked, not_greater, checked_is, HoldsBound, holds_up}
 use Rattle.allocative_tally.proofs.Sizes.{holds_second, holds_first_of, holds_second_of, holds_both, holds_itself}
-use Rattle.allocative_tally.proofs.Fields.{adds_of, adds_times, one_more, next_case, tallies_within, starts_both}
+use Rattle.allocative_tally.proofs.Fields.{adds_of, one_more, next_case, tallies_within, starts_both}
 use Rattle.allocative_tally.proofs.Fields.{starts_entry, next_value, next_field}
-use Rattle.std.proofs.lemmas.List.Sorted.{IsPermutation-refl}
 use Rattle.std.proofs.lemmas.Nat.{mul-le}
 use Rattle.smallvec.specs.SmallVec.{SmallVec, IsSpilled}
 use Rattle.allocative.specs.Runs.{field_of, pair_shows}
-use Rattle.allocative.specs.StdShows.{in_any_order}
-use Rattle.allocative.specs.PackShows.{index_data_shows, is_index_data, small_vec_inside, lies_inline, is_spilled}
+use Rattle.allocative.specs.PackShows.{index_data_shows, small_vec_inside}
 use Rattle.allocative.specs.declared.visitor.Visitor.{Visitor}
 use Rattle.allocative_tally.proofs.Entering.{entered_counted, counts}
 use Rattle.std.proofs.lemmas.Iterator.{YieldsList, items_from_drains}
@@ -47,14 +53,15 @@ pub text_counted : {l c a b u a' b' u' : ℕ} → l ≤ c → a' ≡ a + c → b
 text_counted {l} {c} {a} {b} {u} {a'} {b'} {u'} room capacity used unused fits = record {
   declared = record { bytes = 24; sized = refl; fits = omega arith };
   next = λ n.
-      let inside = counted_inline {k = codes "capacity"} (adds_of n (n + 1) (omega arith) capacity)
-      (tallies_both (counted_leaf {k = codes "u8"} (adds_of n (n + 1) (omega arith) used))
-      (counted_leaf {k = codes "unused_capacity"} (adds_of n (n + 1) (omega arith) unused))) (holds_bytes (omega (arith, room))) in
+      let inside = counted_inline {k = codes "capacity"} (adds_of n (n + 1) (omega arith) (omega arith) capacity)
+      (tallies_both (counted_leaf {k = codes "u8"} (adds_of n (n + 1) (omega arith) (omega arith) used))
+      (counted_leaf {k = codes "unused_capacity"} (adds_of n (n + 1) (omega arith) (omega arith) unused)))
+      (holds_bytes (omega (arith, room))) in
       let before = entry_direct Wide (codes "capacity") (sum_of n a)
       (Beside (EntryAt Wide (codes "u8") (sum_of n b) NoEntry) (unused_shape n u)) in
       let pointer = counted_unique {k = codes "ptr"} (one_more (Some 8) n (n + 1) refl refl) inside
       (λ r. omega (arith, before, inside.within, capacity, fits)) in
-      counted_field refl (counted_inline (one_more (Some 24) n (n + 1) refl refl) (tallies_as (λ h x. is_text x) pointer)
+      counted_field refl (counted_inline (one_more (Some 24) n (n + 1) refl refl) (tallies_as text_as pointer)
       (holds_bytes (omega arith)));
 }
 
@@ -94,6 +101,12 @@ places_fit {l = l} {u} {old} {new} a =
     let unused = ap (λ (i : ℕ). z * i) a.unused ∙ mul-add z old.unused u in
     omega (arith, a.room.fits, mul-add z new.items new.unused, items, unused)
 
+-- The bytes of the items before and of those that were added fit a word.
+pub items_fit : {size : Option ℕ} {l : ℕ} {old new : Places} → (a : AddsItems size l old new) →
+    a.room.bytes * old.items + a.room.bytes * l < 2 ^ 64
+items_fit {l = l} {old} a =
+    let z = a.room.bytes in omega (arith, a.room.fits, ap (λ (i : ℕ). z * i) a.items ∙ mul-add z old.items l)
+
 -- What was counted of so many values of a size is within the bytes of all.
 pub times_counted : {size : Option ℕ} {z : ℕ} (l : ℕ) {p : Showing} {s t : Shape} → size ≡ Some z →
     Tallies (size_times size l) p s t → Tallies (Some (z * l)) p s t
@@ -105,34 +118,30 @@ pub most_direct : {size : Option ℕ} {z : ℕ} (n : ℕ) (s : Shape) → size �
 most_direct {size} n s e most = omega (arith, shape_direct s, most, times_most size n e)
 
 -- A pointer is counted with the items in its buffer.
-pub pointer_counted : {size : Option ℕ} {l u : ℕ} {old new : Places} (k : Key) {p : Showing} {s t : Shape} →
-    (a : AddsPlaces size l u old new) → direct (forest_of s) ≤ a.room.bytes * old.items → Tallies (Some (a.room.bytes * l)) p s t →
+pub pointer_counted : {size : Option ℕ} {l : ℕ} {old new : Places} (k : Key) {p : Showing} {s t : Shape} →
+    (a : AddsItems size l old new) → direct (forest_of s) ≤ a.room.bytes * old.items → Tallies
+    (Some (a.room.bytes * l)) p s t →
     Tallies (Some 8) (InsideAs true k 8 p) (EntryAt Unique k (sum_times (Some 8) old.buffers) s)
     (EntryAt Unique k (sum_times (Some 8) new.buffers) t)
 pointer_counted {old = old} {new} k a before items =
     counted_unique {k = k} (one_more (Some 8) old.buffers new.buffers refl a.buffers) items
-    (λ r. omega (arith, before, items.within, places_fit a))
+    (λ r. omega (arith, before, items.within, items_fit a))
 
--- A buffer is counted with its items and its unused places.
-pub places_counted : {size : Option ℕ} {l u : ℕ} {old new : Places} (k : Key) {p : Showing} {s t : Shape} →
-    (a : AddsPlaces size l u old new) → direct (forest_of s) ≤ a.room.bytes * old.items → Tallies (Some (a.room.bytes * l)) p s t →
+-- A buffer is counted with its items and the bytes of its unused places.
+pub places_counted : {size : Option ℕ} {y m n n' b b' : ℕ} (k : Key) (u : ℕ) {p : Showing} {s t : Shape} → n' ≡ n + 1 →
+    size ≡ Some y → b' ≡ b + y * u → Tallies (Some m) p s t → direct (forest_of s) + b + (m + y * u) < 2 ^ 64 →
     Tallies (Some 8) (InsideAs true k 8 (Both p (bytes_shown (codes "unused_capacity") size u)))
-    (buffer_shape k old.buffers s (bytes_times size old.unused))
-    (buffer_shape k new.buffers t (bytes_times size new.unused))
-places_counted {size} {l} {u} {old} {new} k {s = s} a before items =
-    let fits = places_fit a in
-    let bytes : size_product size (Some u) ≡ Some (a.room.bytes * u) =
-    ap (λ v. size_product v (Some u)) a.room.sized ∙ checked_fits (a.room.bytes * u) (omega (arith, fits)) in
+    (buffer_shape k n s b) (buffer_shape k n' t b')
+places_counted {size} {y} {m} {n} {n'} {b} {b'} k u {s = s} more is unused items room =
+    let bytes : size_product size (Some u) ≡ Some (y * u) =
+    ap (λ v. size_product v (Some u)) is ∙ checked_fits (y * u) (omega (arith, room)) in
     let left = counted_field {k = codes "unused_capacity"} bytes
-    (counted_leaf (adds_times size old.buffers new.buffers old.unused u new.unused (omega (arith, a.buffers)) a.room.sized
-    a.unused)) in
+    (counted_leaf (adds_of n n' (omega (arith, more)) (omega (arith, more)) unused)) in
     let inside = tallies_both items left in
-    let top = direct-following (forest_of s) (forest_of (unused_shape old.buffers (bytes_times size old.unused))) in
-    let unused = entry_direct Wide (codes "unused_capacity") (sum_of old.buffers (bytes_times size old.unused)) NoEntry in
-    let most = times_most size old.unused a.room.sized in
-    let within : direct inside.counted ≤ a.room.bytes * l + a.room.bytes * u = grind (arith, inside.within, bytes) in
-    counted_unique {k = k} (one_more (Some 8) old.buffers new.buffers refl a.buffers) inside
-    (λ r. omega (arith, before, top, unused, most, within, fits))
+    let top = direct-following (forest_of s) (forest_of (unused_shape n b)) in
+    let spare = entry_direct Wide (codes "unused_capacity") (sum_of n b) NoEntry in
+    let within : direct inside.counted ≤ m + y * u = grind (arith, inside.within, bytes) in
+    counted_unique {k = k} (one_more (Some 8) n n' refl more) inside (λ r. omega (arith, top, spare, within, room))
 
 -- ---- slices
 -- A slice of items that are shown one by one is what each item shows.
@@ -141,7 +150,7 @@ pub slice_each : {T : Type 0} (name : Key) (size : Option ℕ) (needs_drop : Boo
     TalliesSlice size (length xs) needs_drop name (slice_shows name size needs_drop p xs) s t
 slice_each name None needs_drop p xs is c = absurd (cc)
 slice_each name (Some y) needs_drop p xs is c = record {
-  next = λ z n m i j e some more. rw is (tallies_as (λ h x. rw (is, slice_shows) x)
+  next = λ z n m i j e some one more. rw is (tallies_as (slice_as name (Some y) needs_drop p xs is)
       (times_counted (length xs) e (c.items.next i j more)));
 }
 
@@ -149,13 +158,14 @@ slice_each name (Some y) needs_drop p xs is c = record {
 pub slice_one : {T : Type 0} (name : Key) (size : Option ℕ) (needs_drop : Bool) (p : T → Showing) (xs : List T)
     (s : ℕ → Shape) → are_shown_each needs_drop size ≡ false →
     TalliesSlice size (length xs) needs_drop name (slice_shows name size needs_drop p xs) s s
-slice_one name None needs_drop p xs s is = record { next = λ z n m i j e some more. absurd (cc) }
+slice_one name None needs_drop p xs s is = record { next = λ z n m i j e some one more. absurd (cc) }
 slice_one name (Some y) needs_drop p xs s is = record {
-  next = λ z n m i j e some more.
-      let same : z ≡ y = cc in
+  next = λ z n m i j e some one more.
+      let same : y ≡ z = cc in
       let all : z * j ≡ z * i + z * length xs = ap (λ (v : ℕ). z * v) more ∙ mul-add z i (length xs) in
-      rw is (tallies_as (λ h x. rw (is, slice_shows) (subst (λ (v : ℕ). Inside name (v * length xs) Nothing h) same x))
-      (counted_leaf (adds_of n m some all)));
+      rw is (tallies_as (subst (λ (v : ℕ). ShownAs (Inside name (v * length xs) Nothing)
+      (slice_shows name (Some y) needs_drop p xs)) same (slice_one_as name y needs_drop p xs is))
+      (counted_leaf (adds_of n m some one all)));
 }
 
 -- A list in two slices is the first slice and then the second.
@@ -165,35 +175,46 @@ pub cut_counted : {T : Type 0} (name : Key) (size : Option ℕ) (needs_drop : Bo
     TalliesSlice size (length ys) needs_drop name (slice_shows name size needs_drop p ys) t u →
     TalliesSlice size (length zs) needs_drop name (cut_shows name size needs_drop p zs) s u
 cut_counted name size needs_drop p xs ys zs e a b = record {
-  next = λ z n m i j is some more.
+  next = λ z n m i j is some one more.
       let count : length zs ≡ length xs + length ys = ap length (sym e) ∙ length-append xs ys in
       let bytes : z * length xs + z * length ys ≡ z * length zs =
       sym (ap (λ (v : ℕ). z * v) count ∙ mul-add z (length xs) (length ys)) in
-      rw (← bytes) (tallies_as (λ h x. is_cut xs ys e x)
-      (tallies_then (a.next z n m i (i + length xs) is some refl)
-      (b.next z m m (i + length xs) j is some (omega (arith, more, count)))));
+      rw (← bytes) (tallies_as (cut_as name size needs_drop p xs ys zs e)
+      (tallies_then (a.next z n m i (i + length xs) is some one refl)
+      (b.next z m m (i + length xs) j is some (omega arith) (omega (arith, more, count)))));
 }
 
 -- ---- buffers
--- There is no buffer for items without bytes.
-pub no_bytes_counted : {size : Option ℕ} {n capacity : ℕ} {a : Places} → Some 0 ≡ size →
-    CountsRoom size n capacity a a false
-no_bytes_counted e = no_bytes (sym e) refl
+-- If there is no buffer, nothing is counted of its places.
+pub room_missing : {size : Option ℕ} {r : Bool} {n c : ℕ} {a : Places} → HasBuffer size n c r → r ≡ false →
+    CountsRoom size n c a a false
+room_missing (without_bytes e) is = no_bytes e refl
+room_missing (without_items {item} e x y) is = no_room item e x y refl
+room_missing (with_buffer e some room) is = absurd (cc)
 
--- There is no buffer for no items without room for one.
-pub no_room_counted : {size : Option ℕ} {b n capacity : ℕ} {a : Places} → Some b ≡ size → max n capacity ≡ 0 →
-    CountsRoom size n capacity a a false
-no_room_counted {b = b} e none = no_room b (sym e) (omega (arith, none)) (omega (arith, none)) refl
+-- If there is a buffer, it was added.
+pub room_added : {size : Option ℕ} {r : Bool} {n c left : ℕ} {old new : Places} → HasBuffer size n c r → r ≡ true →
+    left ≡ c - n → AddsPlaces size n left old new → CountsRoom size n c old new true
+room_added (without_bytes e) is i a = absurd (cc)
+room_added (without_items e x y) is i a = absurd (cc)
+room_added (with_buffer e some room) is i a = is_room e some room (rw i at a)
 
--- There is a buffer for items with bytes, or for room for one.
-pub room_counted : {size : Option ℕ} {b n capacity left : ℕ} {a a' : Places} → Some b ≡ size → 0 < b →
-    0 < max n capacity → left ≡ capacity - n → AddsPlaces (Some b) n left a a' → CountsRoom size n capacity a a' true
-room_counted {b = b} {n} {capacity} {a = a} {a'} e some room places adds =
-    is_room (sym e) some (omega (arith, room)) (subst (λ (w : Option ℕ). AddsPlaces w n (capacity - n) a a') e
-    (subst (λ (m : ℕ). AddsPlaces (Some b) n m a a') places adds))
+-- If there is a buffer, it could not be added.
+pub room_cannot : {size : Option ℕ} {r : Bool} {n c left : ℕ} {old : Places} → HasBuffer size n c r → r ≡ true →
+    left ≡ c - n → CannotAdd size n left old → CannotCountRoom size n c old
+room_cannot (without_bytes e) is i a = absurd (cc)
+room_cannot (without_items e x y) is i a = absurd (cc)
+room_cannot (with_buffer e some room) is i a = no_place e some room (rw i at a)
 
--- The lemmas for whether there is a buffer.
-pub ruleset rooms = (no_bytes_counted, no_room_counted, room_counted)
+-- If there is a buffer, its places were counted.
+pub room_there : {size : Option ℕ} {r q : Bool} {n m c d : ℕ} {old new : Places} → HasBuffer size n c r → r ≡ true →
+    CountsRoom size m d old new q → n ≡ m → c ≡ d → q ≡ true
+room_there (without_bytes e) is a i j = cc
+room_there (without_items e x y) is a i j = cc
+room_there (with_buffer {item} e some room) is (no_bytes v w) i j = let none : item ≡ 0 = cc in absurd
+    (omega (arith, none, some))
+room_there (with_buffer e some room) is (no_room item v x y w) i j = absurd (omega (arith, room, x, y, i, j))
+room_there (with_buffer e some room) is (is_room v x y w) i j = refl
 
 -- If there is no buffer, nothing is left to count.
 pub buffer_missing : {size : Option ℕ} {r : Bool} {n m c d : ℕ} {old new : Places} (name : Key) (needs_drop : Bool)
@@ -226,13 +247,20 @@ buffer_counted {size} {n = n} {m} {c} {old = old} {new} name needs_drop {p} {s} 
     let first = times_is size old.items a.room.sized (omega (arith, fits)) in
     let last = times_is size new.items a.room.sized (omega (arith, fits, all)) in
     let more : new.items ≡ old.items + m = omega (arith, a.items, i) in
-    let slice = items.next a.room.bytes old.buffers new.buffers old.items new.items a.room.sized (omega (arith, a.buffers)) more in
+    let slice = items.next a.room.bytes old.buffers new.buffers old.items new.items a.room.sized
+    (omega (arith, a.buffers)) (omega (arith, a.buffers)) more in
     let top = items_direct (are_shown_each needs_drop size) name old.buffers (a.room.bytes * old.items) (s old.items)
     (most_direct old.items (s old.items) a.room.sized (most old.items)) in
+    let z = a.room.bytes in
+    let unused = ap (λ (v : ℕ). z * v) a.unused ∙ mul-add z old.unused (c - n) in
+    let before = times_is size old.unused a.room.sized (omega (arith, fits)) in
+    let spare : bytes_times size new.unused ≡ bytes_times size old.unused + z * (c - n) =
+    times_is size new.unused a.room.sized (omega (arith, fits, unused)) ∙ omega (arith, unused, before) in
     let whole : Tallies (Some 8) (buffer_shows size p n c) (buffer_of name size needs_drop old s)
     (buffer_of name size needs_drop new t) =
-    rw (first, last) (tallies_as (λ h x. with_room e some room x)
-    (places_counted (codes "ptr") a top (rw (← i) at slice))) in
+    rw (first, last) (tallies_as (buffer_as e some room)
+    (places_counted (codes "ptr") (c - n) a.buffers a.room.sized spare (rw (← i) at slice)
+    (omega (arith, top, before, fits)))) in
     rw (i, j) at whole
 
 -- ---- one by one
@@ -280,10 +308,43 @@ pub of_run : {S A B : Type 0} {steps : S → Option A → S → Type 0} {s : S} 
 of_run {r = r} y o =
     let d = o.drained in subst r (items_from_drains o.given (d.1.0, d.1.1, λ _. (d.0, d.1.2)) y) o.holds
 
--- What holds of the items of a run holds if it follows from what does.
+-- What holds of the items of a run holds of every list that every run gives, and so does what follows from it.
+pub every_run : {S A B : Type 0} {steps : S → Option A → S → Type 0} {s : S} {v : A → B} {q r : List B → Type 0} →
+    HoldsOfRun steps s v q → ((xs : List B) → q xs → r xs) → HoldsOfEveryRun steps s v r
+every_run o up = record { along = λ xs y. up xs (of_run (record { runs = y }) o) }
+
+-- What holds of every list that every run gives holds of such a list.
+pub of_every : {S A B : Type 0} {steps : S → Option A → S → Type 0} {s : S} {v : A → B} {r : List B → Type 0}
+    {all : List B} → YieldsList steps v s all → HoldsOfEveryRun steps s v r → r all
+of_every {all = all} y o = o.along all y.runs
+
+-- What follows from what holds of every list that every run gives holds of it.
 pub run_as : {S A B : Type 0} {steps : S → Option A → S → Type 0} {s : S} {v : A → B} {q r : List B → Type 0} →
-    HoldsOfRun steps s v q → ((xs : List B) → q xs → r xs) → HoldsOfRun steps s v r
-run_as o up = record { given = o.given; drained = o.drained; holds = up _ o.holds }
+    HoldsOfEveryRun steps s v q → ((xs : List B) → q xs → r xs) → HoldsOfEveryRun steps s v r
+run_as o up = record { along = λ xs y. up xs (o.along xs y) }
+
+-- The items so far and the next one begin each list that every run gives.
+begins : {S A B : Type 0} (steps : S → Option A → S → Type 0) (v : A → B) (s : S) {u : S} (t : S) {x : A} (xs : List A)
+    (ys : List B) → Yields steps s xs t → steps t (Some x) u → AlwaysYields steps v s ys →
+    (rest : List B) × (map v xs ++ v x ∷ rest ≡ ys)
+begins steps v s {u = u} t {x = x} [] [] e g y = absurd (y x u (subst (λ z. steps z (Some x) u) (sym e) g))
+begins steps v s {u = u} t {x = x} [] (z ∷ zs) e g y =
+    (zs, ap (λ w. w ∷ zs) (y.1 x u (subst (λ w. steps w (Some x) u) (sym e) g)).0)
+begins steps v s t (w ∷ xs) [] h g y = absurd (y w h.0 h.1)
+begins steps v s t (w ∷ xs) (z ∷ zs) h g y =
+    let next = y.1 w h.0 h.1 in
+    let more = begins steps v h.0 t xs zs h.2 g next.1 in
+    (more.0, (λ i. next.0 i ∷ more.1 i))
+
+-- If an item of a run cannot be counted, once those before it were, no list that every run gives can.
+pub run_cannot : {S A B : Type 0} {w : Option ℕ} (steps : S → Option A → S → Type 0) {s u : S} (t : S) {v : A → B}
+    {p : B → Showing} {x : A} (xs : List A) {a b : ℕ → Shape} → Yields steps s xs t → steps t (Some x) u →
+    TalliesMany w (length (map v xs)) (each_shows p (map v xs)) a b → CannotTally (p (v x)) b →
+    HoldsOfEveryRun steps s v (λ ys. CannotTally (each_shows p ys) a)
+run_cannot steps {s = s} t {v} {p} {x} xs {a} g n c e = record {
+  along = λ ys y. let split = begins steps v s t xs ys g n y in
+      subst (λ zs. CannotTally (each_shows p zs) a) split.1 (item_cannot p (map v xs) (v x) split.0 c e);
+}
 
 -- ---- arrays
 -- A size that has room for n items has room for at most n items.
@@ -310,7 +371,7 @@ array_counted {w = w} n xs {i} {j} count declared more each =
 
 -- ---- boxes
 -- A box's pointer is counted with the value inside it.
-pub box_counted : {size : Option ℕ} {old new : Places} {p : Showing} {s t : ℕ → Shape} → AddsPlaces size 1 0 old new →
+pub box_counted : {size : Option ℕ} {old new : Places} {p : Showing} {s t : ℕ → Shape} → AddsItems size 1 old new →
     ((i : ℕ) → top_bytes (s i) ≤ bytes_times size i) → TalliesNext size p s t →
     Tallies (Some 8) (InsideAs true (codes "ptr") 8 p)
     (EntryAt Unique (codes "ptr") (sum_times (Some 8) old.buffers) (s old.items))
@@ -322,10 +383,6 @@ box_counted {size} {old} {new} {p} {s} {t} a most value =
     pointer_counted (codes "ptr") a (most_direct old.items (s old.items) a.room.sized (most old.items)) one
 
 -- ---- small vectors
--- The size of a small vector with n places.
-abbrev pub small_vec_size : ℕ → Option ℕ → ℕ → Option ℕ
-small_vec_size n w align = size_up (size_sum (Some 8) (size_max (Some 16) (size_product (Some n) w))) align
-
 -- A small vector whose items are in place has a field for each item inside its entry.
 pub inline_counted : {T : Type 0} {w : Option ℕ} {k : Key} {p : T → Showing} (n align : ℕ) (xs : SmallVec T)
     {i j : ℕ} {s t : ℕ → Shape} {r : Shape} → ¬ IsSpilled n xs → length xs.items ≤ n →
@@ -334,7 +391,7 @@ pub inline_counted : {T : Type 0} {w : Option ℕ} {k : Key} {p : T → Showing}
     (λ m. entries k (small_vec_size n w align) m (Beside (entries (codes "data") w i (s i)) r))
     (λ m. entries k (small_vec_size n w align) m (Beside (entries (codes "data") w j (t j)) r))
 inline_counted {w = w} n align xs {i} {j} is room declared more each =
-    next_case declared (tallies_as (λ h x. lies_inline is x)
+    next_case declared (tallies_as (inline_as is)
     (first_counted ((each.fields (codes "data")).next i j more)))
     (holds_up _ align (holds_second (Some 8) _ (holds_second_of (Some 16) (size_product (Some n) w)
     (holds_items (length xs.items) n w room))))
@@ -342,7 +399,7 @@ inline_counted {w = w} n align xs {i} {j} is room declared more each =
 -- A small vector whose items are in an allocation has them inside a pointer.
 pub spilled_counted : {T : Type 0} {w : Option ℕ} {k : Key} {p : T → Showing} (n align : ℕ) (xs : SmallVec T)
     {old new : Places} {s t : ℕ → Shape} {r : Shape} {l : ℕ} → IsSpilled n xs →
-    IsDeclared (small_vec_size n w align) → l ≡ length xs.items → AddsPlaces w l 0 old new →
+    IsDeclared (small_vec_size n w align) → l ≡ length xs.items → AddsItems w l old new →
     TalliesEach w p xs.items s t →
     TalliesNext (small_vec_size n w align) (Field k (small_vec_size n w align) (small_vec_inside n w p xs))
     (λ m. entries k (small_vec_size n w align) m (Beside r (EntryAt Unique (codes "ptr") (sum_times (Some 8) old.buffers)
@@ -350,8 +407,8 @@ pub spilled_counted : {T : Type 0} {w : Option ℕ} {k : Key} {p : T → Showing
     (λ m. entries k (small_vec_size n w align) m (Beside r (EntryAt Unique (codes "ptr") (sum_times (Some 8) new.buffers)
     (entries (codes "data") w new.items (t new.items)))))
 spilled_counted {w = w} n align xs {old} {new} {s} {l = l} is declared count adds each =
-    let a : AddsPlaces w (length xs.items) 0 old new = rw count at adds in
-    next_case declared (tallies_as (λ h x. is_spilled is x) (second_counted (pointer_counted (codes "ptr") a
+    let a : AddsItems w (length xs.items) old new = rw count at adds in
+    next_case declared (tallies_as (spilled_as is) (second_counted (pointer_counted (codes "ptr") a
     (most_direct old.items (entries (codes "data") w old.items (s old.items)) a.room.sized (le_refl _))
     (times_counted (length xs.items) a.room.sized ((each.fields (codes "data")).next old.items new.items a.items)))))
     (holds_up _ align (holds_second (Some 8) _ (holds_first_of (Some 16) (size_product (Some n) w)
@@ -409,26 +466,34 @@ pairs_most {size} v w {z} i s t holds e =
     both (Some m) (Some n) y e = let same : (m + n) * i ≡ y * i = ap (λ (x : ℕ). x * i) (cc) in omega (arith, same)
 
 -- ---- the entry `data`
--- What is shown inside an entry of 8 bytes can be shown otherwise.
-pub inside_as : {k : Key} {p q : Showing} → ((f : Forest) → p f → q f) → (h : Forest) → Inside k 8 p h → Inside k 8 q h
-inside_as up h (f, x, e) = (f, up f x, e)
+-- An entry `data` of no items was counted.
+pub empty_counted : {T : Type 0} (p : T → Showing) (xs : List T) {old new : Places} (s : ℕ → Shape) {r : Shape} →
+    AddsItems (Some 0) 0 old new → 0 ≡ length xs → Tallies (Some 8) (Inside (codes "data") 8 (each_shows p xs))
+    (Beside (EntryAt Wide (codes "data") (sum_times (Some 8) old.buffers) (s old.items)) r)
+    (Beside (EntryAt Wide (codes "data") (sum_times (Some 8) new.buffers) (s new.items)) r)
+empty_counted p [] {old} {new} s a e =
+    let same : old.items ≡ new.items = omega (arith, a.items) in
+    first_counted (counted_inline (one_more (Some 8) old.buffers new.buffers refl a.buffers)
+    (subst (λ (i : ℕ). Tallies (Some 0) (each_shows p []) (s old.items) (s i)) same (tallies_none refl))
+    (holds_bytes (omega arith)))
+empty_counted p (x ∷ xs) s a e = absurd (omega (arith, e))
 
 -- An entry `data` of items that have at most 8 bytes was counted.
 pub small_counted : {found size w : Option ℕ} {m l : ℕ} {q : Showing} {old new : Places} {s t : ℕ → Shape} {r : Shape} →
-    HoldsBound size w → found ≡ size → bytes_times found m ≤ 8 → AddsPlaces found m 0 old new → m ≡ l →
+    HoldsBound size w → found ≡ size → bytes_times found m ≤ 8 → AddsItems found m old new → m ≡ l →
     TalliesMany w l q s t → Tallies (Some 8) (Inside (codes "data") 8 q)
     (Beside (EntryAt Wide (codes "data") (sum_times (Some 8) old.buffers) (s old.items)) r)
     (Beside (EntryAt Wide (codes "data") (sum_times (Some 8) new.buffers) (t new.items)) r)
 small_counted {found} {m = m} {l} {old = old} {new} holds e least a same items =
     let z = a.room.bytes in
-    let bytes = times_is found m a.room.sized (omega (arith, places_fit a)) in
+    let bytes = times_is found m a.room.sized (omega (arith, items_fit a)) in
     first_counted (counted_inline (one_more (Some 8) old.buffers new.buffers refl a.buffers)
     (items_within l holds (sym e ∙ a.room.sized) (items.next old.items new.items (omega (arith, a.items, same))))
     (holds_bytes (omega (arith, least, bytes, ap (λ (i : ℕ). z * i) same))))
 
 -- An entry `data` of items that have more than 8 bytes was counted.
 pub large_counted : {found size w : Option ℕ} {m l : ℕ} {q : Showing} {old new : Places} {s t : ℕ → Shape} {r : Shape} →
-    HoldsBound size w → found ≡ size → 8 < bytes_times found m → AddsPlaces found m 0 old new → m ≡ l →
+    HoldsBound size w → found ≡ size → 8 < bytes_times found m → AddsItems found m old new → m ≡ l →
     TalliesMany w l q s t → ((z i : ℕ) → size ≡ Some z → direct (forest_of (s i)) ≤ z * i) →
     ((z : ℕ) (f : Forest) → size ≡ Some z → q f → direct f ≡ z * l) → Tallies (Some 8) (Inside (codes "data") 8 q)
     (Beside r (EntryAt Narrow (codes "data") (sum_times (Some 8) old.buffers) (s old.items)))
@@ -437,15 +502,11 @@ large_counted {found} {m = m} {l} {old = old} {new} holds e least a same items m
     let z = a.room.bytes in
     let is_size = sym e ∙ a.room.sized in
     let all = items_within l holds is_size (items.next old.items new.items (omega (arith, a.items, same))) in
-    let bytes = times_is found m a.room.sized (omega (arith, places_fit a)) in
+    let bytes = times_is found m a.room.sized (omega (arith, items_fit a)) in
     let same_bytes = ap (λ (i : ℕ). z * i) same in
     second_counted (counted_narrow (one_more (Some 8) old.buffers new.buffers refl a.buffers) all
-    (λ r. omega (arith, most z old.items is_size, all.within, places_fit a, same_bytes))
+    (λ r. omega (arith, most z old.items is_size, all.within, items_fit a, same_bytes))
     (λ f x. omega (arith, least, bytes, same_bytes, direct_is z f is_size x)))
-
--- The pairs in their own order are the pairs in some order.
-pub own_order : {T : Type 0} (p : T → Showing) (xs : List T) (f : Forest) → each_shows p xs f → in_any_order p xs f
-own_order p xs f x = (xs, IsPermutation-refl xs, x)
 
 -- ---- containers in the order of insertion
 -- No items have no hash table.
@@ -456,27 +517,60 @@ no_table_counted e = tallies_none (inl (e, refl))
 pub table_counted : (a a' c c' : ℕ) {n b : ℕ} {bytes : Option ℕ} → 0 < n → IsRawTableSize (Some 8) n bytes → bytes ≡ Some b →
     a' ≡ a + 1 → c' ≡ c + b → c' < 2 ^ 64 → Tallies (Some 8) (table_shows n) (table_shape a c) (table_shape a' c')
 table_counted a a' c c' {b = b} {bytes} some is size more buckets fits =
-    let inside = counted_field {k = codes "alloc"} size (counted_leaf (adds_of a a' (omega (arith, more)) buckets)) in
+    let inside = counted_field {k = codes "alloc"} size (counted_leaf (adds_of a a' (omega (arith, more))
+    (omega (arith, more)) buckets)) in
     let before = entry_direct Wide (codes "alloc") (sum_of a c) NoEntry in
     let within : direct inside.counted ≤ b = subst (IsWithin (direct inside.counted)) size inside.within in
-    tallies_as (λ h x. inr (some, (bytes, is, x))) (counted_unique (one_more (Some 8) a a' refl more) inside
+    tallies_as (table_as some is) (counted_unique (one_more (Some 8) a a' refl more) inside
     (λ r. omega (arith, before, within, buckets, fits)))
 
+-- A buffer with unused places of another size was added.
+pub index_adds : {item place : Option ℕ} {l u b x after all : ℕ} {old new : Places} → AddsItems item l old new →
+    FitsWord place u → x ≡ bytes_times place u → after ≡ b + x → all ≡ bytes_times item new.items → all + after < 2 ^
+    64 →
+    AddsIndex item place l u old b new after
+index_adds {item} {place} {u = u} {new = new} a fits x e all room = record {
+  adds = a;
+  spare_room = fits;
+  unused = omega (arith, e, x, times_is place u fits.sized fits.fits);
+  room = omega (arith, room, all, times_is item new.items a.room.sized a.room.fits);
+}
+
+-- Such a buffer cannot be added, since the bytes of all exceed a word.
+pub index_cannot : {item place : Option ℕ} {l u b x after all : ℕ} {old new : Places} → AddsItems item l old new →
+    FitsWord place u → x ≡ bytes_times place u → after ≡ b + x → all ≡ bytes_times item new.items → 2 ^ 64 ≤ all +
+    after →
+    CannotAddIndex item place l u old b
+index_cannot {item} {place} {u = u} {new = new} a fits x e all over = no_room_for_both a.room.sized fits.sized
+    (omega (
+      arith,
+      over,
+      all,
+      e,
+      x,
+      times_is item new.items a.room.sized a.room.fits,
+      times_is place u fits.sized fits.fits,
+      ap (λ (i : ℕ). a.room.bytes * i) a.items,
+    ))
+
 -- A container in the order of insertion is its own entry, with its items, its unused places and its table inside it.
-pub index_counted : {found size w : Option ℕ} {m l u places n : ℕ} {k : Key} {p : Showing} {old new : Places}
-    {s t : ℕ → Shape} {r r' : Shape} → HoldsBound size w → found ≡ size → m ≡ l → u ≡ places → n ≡ l →
-    AddsPlaces found m u old new → TalliesMany w l p s t →
-    ((z i : ℕ) → size ≡ Some z → direct (forest_of (s i)) ≤ z * i) → Tallies (Some 8) (table_shows n) r r' →
+pub index_counted : {given item found size w : Option ℕ} {m l u places n unused unused' : ℕ} {k : Key} {p : Showing}
+    {old new : Places} {s t : ℕ → Shape} {r r' : Shape} → HoldsBound item w → given ≡ item → found ≡ size → m ≡ l →
+    u ≡ places → n ≡ l → AddsIndex given found m u old unused new unused' → TalliesMany w l p s t →
+    ((z i : ℕ) → item ≡ Some z → direct (forest_of (s i)) ≤ z * i) → Tallies (Some 8) (table_shows n) r r' →
     TalliesNext (Some 72) (Field k (Some 72) (Both (index_data_shows size p places) (table_shows l)))
-    (λ i. entries k (Some 72) i
-    (Beside (buffer_shape (codes "data") old.buffers (s old.items) (bytes_times size old.unused)) r))
-    (λ i. entries k (Some 72) i
-    (Beside (buffer_shape (codes "data") new.buffers (t new.items) (bytes_times size new.unused)) r'))
-index_counted {size = size} {l = l} {places = places} {old = old} {new} holds e same unused count adds items most table =
-    let a : AddsPlaces size l places old new = rw (e, same, unused) at adds in
-    next_container 72 (omega arith) (omega arith) (tallies_both (tallies_as (λ h x. is_index_data x)
-    (places_counted (codes "data") a (most a.room.bytes old.items a.room.sized)
-    (items_within l holds a.room.sized (items.next old.items new.items a.items)))) (rw count at table))
+    (λ i. entries k (Some 72) i (Beside (buffer_shape (codes "data") old.buffers (s old.items) unused) r))
+    (λ i. entries k (Some 72) i (Beside (buffer_shape (codes "data") new.buffers (t new.items) unused') r'))
+index_counted {item = item} {size = size} {l = l} {places = places} {unused = unused} {unused' = unused'} {old = old}
+    {new}
+    holds e i same spare count adds items most table =
+    let a : AddsIndex item size l places old unused new unused' = rw (e, i, same, spare) at adds in
+    let z = a.adds.room.bytes in
+    let all = ap (λ (i : ℕ). z * i) a.adds.items ∙ mul-add z old.items l in
+    next_container 72 (omega arith) (omega arith) (tallies_both (tallies_as index_data_as
+    (places_counted (codes "data") places a.adds.buffers a.spare_room.sized a.unused
+    (items_within l holds a.adds.room.sized (items.next old.items new.items a.adds.items))
+    (omega (arith, most z old.items a.adds.room.sized, a.room, all, a.unused)))) (rw count at table))
 
 -- ---- what is entered
 -- Items that were counted from nothing, and entered, were entered as each of them shows.
@@ -492,7 +586,7 @@ entered_all {size = size} {p = p} {xs} {n} {s} {t} none each room count entered 
 
 -- Pairs that were counted from nothing, and entered, were entered as each of them shows.
 pub entered_pairs : {x : Bool} {n l : ℕ} {q u : Showing} (v w : Option ℕ) (s s' t t' : ℕ → Shape) {a b : Visitor}
-    {r : Result (Unit {0}) Refusal} → ((f : Forest) → q f → u f) → IsNothing (s 0) → IsNothing (t 0) →
+    {r : Result (Unit {0}) Refusal} → ShownAs q u → IsNothing (s 0) → IsNothing (t 0) →
     FitsWord (size_sum v w) n → n ≡ l → TalliesMany (both_bounds v w) l q (pairs_shape v w s t) (pairs_shape v w s' t') →
     Entered true (shape_shows (pairs_shape v w s' t' n)) a b r → Entered x u a b r
 entered_pairs {n = n} {l} v w s s' t t' up none_s none_t room same items entered =

@@ -6,6 +6,7 @@ use Rattle.allocative_graph.specs.Path.{Key}
 use Rattle.allocative_graph.specs.Forest.{Forest, Empty, Inline, First, Again, followed_by, entry_of}
 use Rattle.allocative_graph.specs.Forest.{Unique as unique_entry}
 use Rattle.allocative_graph.specs.Owned.{direct}
+use Rattle.allocative_graph.specs.Shows.{Showing}
 use Rattle.allocative_graph.specs.Collector.{Kind, plus}
 use Rattle.allocative.specs.Strict.{FitsWords}
 use Rattle.allocative_tally.specs.declared.tally.Sum.{Sum}
@@ -27,6 +28,28 @@ pub record Merged (f g : Forest) : Type 0 where
   pub same : (b : Kind) → plus b f ≡ plus b g
   pub same_direct : direct f ≡ direct g
   pub fits : (open_visitors : ℕ) → FitsWords open_visitors f → FitsWords open_visitors g
+
+-- What a forest has to count: the bytes of all its entries, and the entries.
+abbrev pub weight : Forest → ℕ
+weight Empty = 0
+weight (Inline k n inside after) = n + 1 + weight inside + weight after
+weight (unique_entry k n inside after) = n + 1 + weight inside + weight after
+weight (First k n i inside after) = n + 1 + weight inside + weight after
+weight (Again k n i after) = n + 1 + weight after
+
+-- What a value of a declared size has to count at least: more than its bytes. No word has it if there is no size.
+abbrev pub least_weight : Option ℕ → ℕ
+least_weight None = 2 ^ 64
+least_weight (Some s) = s + 1
+
+-- A forest of p that has no more to count than f.
+abbrev pub Lighter : Showing → Forest → Type 0
+Lighter p f = (g : Forest) × p g × (weight g ≤ weight f)
+
+-- What p shows is shown as q, and q shows nothing that has less to count.
+pub record ShownAs (p q : Showing) : Type 0 where
+  pub up : (f : Forest) → p f → q f
+  pub down : (f : Forest) → q f → Lighter p f
 
 -- Each entry of one place is unique, or inline with at least the bytes directly inside it, or inline with at most
 -- those. Merging entries of one kind keeps what they own.
@@ -54,22 +77,26 @@ pub data Shape : Type 0 where
   Beside : Shape → Shape → Shape
   EntryAt : Width → Key → Sum → Shape → Shape
 
+-- Whether a sum has an entry.
+abbrev pub is_there : Sum → Bool
+is_there sum = not (sum.count == 0)
+
 -- The entry of what was counted at one place; none if nothing was.
 abbrev pub entry_counted : Bool → Bool → Key → ℕ → Forest → Forest
-entry_counted is_there unique k n f = cond is_there (entry_of unique k n f) Empty
+entry_counted there unique k n f = cond there (entry_of unique k n f) Empty
 
 -- The one forest of a shape.
 abbrev pub forest_of : Shape → Forest
 forest_of NoEntry = Empty
 forest_of (Beside s t) = followed_by (forest_of s) (forest_of t)
-forest_of (EntryAt width k sum s) = entry_counted sum.is_there (is_unique width) k sum.bytes (forest_of s)
+forest_of (EntryAt width k sum s) = entry_counted (is_there sum) (is_unique width) k sum.bytes (forest_of s)
 
 -- What holds of the numbers of a shape unless a count was given up: nothing is inside an entry that is not there, and
 -- each entry is of its kind.
 abbrev pub Holds : Shape → Type 0
 Holds NoEntry = ⊤
 Holds (Beside s t) = Holds s × Holds t
-Holds (EntryAt width k sum s) = Holds s × (sum.is_there ≡ false → (sum.bytes ≡ 0) × (forest_of s ≡ Empty))
+Holds (EntryAt width k sum s) = Holds s × (is_there sum ≡ false → (sum.bytes ≡ 0) × (forest_of s ≡ Empty))
     × HasWidth width sum.bytes (forest_of s)
 
 -- The shape has no shared entry, and what is to hold holds.
@@ -92,7 +119,7 @@ bytes_times (Some s) n = min (s * n) (2 ^ 64 - 1)
 
 -- So many entries with some bytes together.
 abbrev pub sum_of : ℕ → ℕ → Sum
-sum_of n bytes = record { is_there = not (n == 0); bytes = bytes }
+sum_of n bytes = record { count = n; bytes = bytes }
 
 -- So many entries of a declared size.
 abbrev pub sum_times : Option ℕ → ℕ → Sum
@@ -132,6 +159,12 @@ buffer_shape k n items unused = EntryAt Unique k (sum_times (Some 8) n) (Beside 
 abbrev pub table_shape : ℕ → ℕ → Shape
 table_shape n bytes = EntryAt Unique (codes "raw_table") (sum_times (Some 8) n)
     (EntryAt Wide (codes "alloc") (sum_of n bytes) NoEntry)
+
+-- The numbers of a shape: the counts and the bytes of all its sums.
+abbrev pub load : Shape → ℕ
+load NoEntry = 0
+load (Beside s t) = load s + load t
+load (EntryAt width k sum s) = sum.count + sum.bytes + load s
 
 -- The bytes of a shape's sums at its top.
 abbrev pub top_bytes : Shape → ℕ

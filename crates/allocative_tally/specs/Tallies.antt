@@ -2,18 +2,18 @@
 use Rattle.std.specs.Prelude.{◌≡◌, ◌≤◌, ◌<◌, ◌+◌, ◌-◌, ◌*◌, ◌^◌, ℕ, Bool, true, false, List, length, map, Option, None}
 use Rattle.std.specs.Prelude.{Some, Result, ⊤, codes}
 use Rattle.std.specs.Option.{ForSome}
-use Rattle.std.specs.Iterator.{Drains}
+use Rattle.std.specs.Iterator.{Drains, AlwaysYields}
 use Rattle.allocative_graph.specs.Path.{Key}
 use Rattle.allocative_graph.specs.Forest.{Forest, followed_by}
 use Rattle.allocative_graph.specs.Owned.{direct}
-use Rattle.allocative_graph.specs.Shows.{Showing, each_shows}
+use Rattle.allocative_graph.specs.Shows.{Showing, Field, each_shows}
 use Rattle.allocative_graph.specs.declared.refusal.Refusal.{Refusal}
 use Rattle.allocative.specs.Bodies.{are_shown_each}
 use Rattle.allocative.specs.Runs.{field_of}
 use Rattle.allocative.specs.Visited.{Entered}
 use Rattle.allocative.specs.declared.visitor.Visitor.{Visitor}
 use Rattle.allocative_tally.specs.Shapes.{Merged, Shape, forest_of, Holds, IsRight, shape_shows, entries, items_shape}
-use Rattle.allocative_tally.specs.Shapes.{buffer_shape, bytes_times}
+use Rattle.allocative_tally.specs.Shapes.{buffer_shape, bytes_times, is_there, load, weight, top_bytes}
 use Rattle.allocative_tally.specs.declared.tally.Sum.{Sum}
 use Rattle.allocative_tally.specs.declared.places.Places.{Places}
 
@@ -36,6 +36,11 @@ pub record Tallies (size : Option ℕ) (p : Showing) (s t : Shape) : Type 0 wher
   pub within : IsWithin (direct counted) size
   pub merged : IsRight s → direct (forest_of s) + direct counted < 2 ^ 64
       → Merged (followed_by (forest_of s) counted) (forest_of t) × Holds t
+  pub weighs : (f : Forest) → p f → load t ≤ load s + weight f
+
+-- No forest that p allows can be counted into a shape: what it has to count and the numbers of s exceed a word.
+pub record Exceeds (p : Showing) (s : Shape) : Type 0 where
+  pub most : (f : Forest) → p f → 2 ^ 64 ≤ load s + weight f
 
 -- A declared size is there, and fits a word.
 pub record IsDeclared (size : Option ℕ) : Type 0 where
@@ -49,7 +54,17 @@ pub record TalliesNext (size : Option ℕ) (p : Showing) (s t : ℕ → Shape) :
   pub declared : IsDeclared size
   pub next : (n : ℕ) → Tallies size p (s n) (t (n + 1))
 
--- The same, of a value's fields, which have no declared size of their own.
+-- A value cannot be counted, whatever the number of the values before it.
+pub record CannotTally (p : Showing) (s : ℕ → Shape) : Type 0 where
+  pub next : (n : ℕ) → Exceeds p (s n)
+
+-- So many values are entries of their declared size: they have at most its bytes at the top, and at least those
+-- numbers.
+pub record IsWhole {T : Type 0} (size : Option ℕ) (s : T → ℕ → Shape) : Type 0 where
+  pub most : (t : T) (n : ℕ) → top_bytes (s t n) ≤ bytes_times size n
+  pub least : (t : T) (n : ℕ) → n + bytes_times size n ≤ load (s t n)
+
+-- One more value's fields were counted, which have no declared size of their own.
 pub record TalliesFields (size : Option ℕ) (p : Showing) (s t : ℕ → Shape) : Type 0 where
   pub next : (n : ℕ) → Tallies size p (s n) (t (n + 1))
 
@@ -80,11 +95,15 @@ pub record TalliesOwn (size : Option ℕ) (p : Showing) (n : ℕ) (s : ℕ → S
   pub more : m ≡ n + 1
   pub value : TalliesNext size p s t
 
+-- A value of a number of its own cannot be counted, as one more entry of its declared size.
+pub record CannotTallyOwn (size : Option ℕ) (p : Showing) (n : ℕ) (s : ℕ → Shape) : Type 0 where
+  pub next : (k : Key) → Exceeds (Field k size p) (entries k size n (s n))
+
 -- What a slice of l items of a declared size shows was counted into the items of slices, which are shown one by one or
 -- as one entry: n and m are how many slices there were before and then, i and j how many items.
 pub record TalliesSlice (size : Option ℕ) (l : ℕ) (needs_drop : Bool) (name : Key) (p : Showing) (s t : ℕ → Shape)
     : Type 0 where
-  pub next : (z n m i j : ℕ) → size ≡ Some z → 0 < m → j ≡ i + l
+  pub next : (z n m i j : ℕ) → size ≡ Some z → 0 < m → m ≤ n + 1 → j ≡ i + l
       → Tallies (Some (z * l)) p (items_shape (are_shown_each needs_drop size) name n (z * i) (s i))
       (items_shape (are_shown_each needs_drop size) name m (z * j) (t j))
 
@@ -96,8 +115,9 @@ pub record FitsWord (size : Option ℕ) (n : ℕ) : Type 0 where
 
 -- One more entry of n bytes was added to a sum, if the bytes fit a word.
 pub record AddsEntry (n : ℕ) (old new : Sum) : Type 0 where
-  pub is_there : new.is_there ≡ true
+  pub is_there : is_there new ≡ true
   pub bytes : old.bytes + n < 2 ^ 64 → new.bytes ≡ old.bytes + n
+  pub weighs : new.count + new.bytes ≤ old.count + old.bytes + (n + 1)
 
 -- The shape was entered, exactly.
 pub record EntersShape (s : Shape) (old new : Visitor) (r : Result (Unit {0}) Refusal) : Type 0 where
@@ -127,9 +147,62 @@ pub data CannotAdd (size : Option ℕ) (used spare : ℕ) (old : Places) : Type 
   many_bytes : ForSome size (λ s. 2 ^ 64 ≤ s * (old.items + used + (old.unused + spare)))
       → CannotAdd size used spare old
 
+-- A buffer with so many items of a declared size was added, and no unused place, and the bytes of all items fit a word.
+pub record AddsItems (size : Option ℕ) (used : ℕ) (old new : Places) : Type 0 where
+  pub buffers : new.buffers ≡ old.buffers + 1
+  pub items : new.items ≡ old.items + used
+  pub room : FitsWord size new.items
+
+-- Such a buffer cannot be added: a number does not fit a word, or there is no size, or the bytes of all do not fit.
+pub data CannotAddItems (size : Option ℕ) (used : ℕ) (old : Places) : Type 0 where
+  too_many_buffers : 2 ^ 64 ≤ old.buffers + 1 → CannotAddItems size used old
+  too_many_items : 2 ^ 64 ≤ old.items + used → CannotAddItems size used old
+  too_many_bytes : ForSome size (λ s. 2 ^ 64 ≤ s * (old.items + used)) → CannotAddItems size used old
+
 -- A buffer of n items of a declared size, with room for so many, was added, if there is one; otherwise nothing.
 pub data CountsRoom (size : Option ℕ) (n capacity : ℕ) (old new : Places) : Bool → Type 0 where
   no_bytes : size ≡ Some 0 → new ≡ old → CountsRoom size n capacity old new false
   no_room : (item : ℕ) → size ≡ Some item → n ≡ 0 → capacity ≡ 0 → new ≡ old → CountsRoom size n capacity old new false
   is_room : {item : ℕ} → size ≡ Some item → 0 < item → 0 < n + capacity → AddsPlaces size n (capacity - n) old new
       → CountsRoom size n capacity old new true
+
+-- Whether n items of a declared size, with room for so many, have a buffer.
+pub data HasBuffer (size : Option ℕ) (n capacity : ℕ) : Bool → Type 0 where
+  without_bytes : size ≡ Some 0 → HasBuffer size n capacity false
+  without_items : {item : ℕ} → size ≡ Some item → n ≡ 0 → capacity ≡ 0 → HasBuffer size n capacity false
+  with_buffer : {item : ℕ} → size ≡ Some item → 0 < item → 0 < n + capacity → HasBuffer size n capacity true
+
+-- Such a buffer cannot be added: there is no size, or there is a buffer that cannot be added.
+pub data CannotCountRoom (size : Option ℕ) (n capacity : ℕ) (old : Places) : Type 0 where
+  no_size : size ≡ None → CannotCountRoom size n capacity old
+  no_place : {item : ℕ} → size ≡ Some item → 0 < item → 0 < n + capacity → CannotAdd size n (capacity - n) old
+      → CannotCountRoom size n capacity old
+
+-- A slice cannot be counted, and its items are shown one by one.
+pub record CannotTallySlice (size : Option ℕ) (needs_drop : Bool) (p : Showing) (s : ℕ → Shape) : Type 0 where
+  pub is_each : are_shown_each needs_drop size ≡ true
+  pub items : CannotTally p s
+
+-- r holds of each list that every run of an iterator that starts at s gives; v is what a contract sees of an item.
+pub record HoldsOfEveryRun {S A B : Type 0} (steps : S → Option A → S → Type 0) (s : S) (v : A → B)
+    (r : List B → Type 0) : Type 0 where
+  pub along : (xs : List B) → AlwaysYields steps v s xs → r xs
+
+-- A buffer with so many items of a declared size was added, and unused places of another: the bytes of the places
+-- before
+-- and then, and those of all items and places fit a word.
+pub record AddsIndex (item place : Option ℕ) (used spare : ℕ) (old : Places) (before : ℕ) (new : Places) (after : ℕ) :
+    Type 0
+  where
+    pub adds : AddsItems item used old new
+    pub spare_room : FitsWord place spare
+    pub unused : after ≡ before + spare_room.bytes * spare
+    pub room : adds.room.bytes * new.items + after < 2 ^ 64
+
+-- Such a buffer cannot be added.
+pub data CannotAddIndex (item place : Option ℕ) (used spare : ℕ) (old : Places) (before : ℕ) : Type 0 where
+  no_room_for_items : CannotAddItems item used old → CannotAddIndex item place used spare old before
+  no_room_for_places : ForSome place (λ s. 2 ^ 64 ≤ before + s * spare) → CannotAddIndex item place used spare old
+      before
+  no_room_for_both : {z s : ℕ} → item ≡ Some z → place ≡ Some s
+      → 2 ^ 64 ≤ z * (old.items + used) + (before + s * spare) → CannotAddIndex item place used spare old before

@@ -2,7 +2,7 @@
 #![tactic(auto, using(crate::proofs::Fields::starting))]
 
 ghost use Rattle.std.specs.Prelude.{codes};
-ghost use Rattle.std.proofs.Common.{le_refl};
+ghost use Rattle.allocative_tally.specs.Whole.{is_whole};
 ghost use Rattle.allocative_tally.specs.Shapes.{Beside, entries};
 
 use crate::field::{FieldMany, OwnTally, count_own};
@@ -16,7 +16,7 @@ impl<T: Tallied> Tallied for Option<T> {
     ghost shape = { λ t n. entries (codes "Option") ⟦<Option<T> as Described>⟧.size n
         (entries (codes "Some") T.size t.count (T.shape t.values t.count)) };
 
-    ghost bounded = { λ t n. le_refl _ };
+    ghost whole = { is_whole };
 
     fn none_counted() -> Self::Tally {
         OwnTally::none(T::none_counted())
@@ -51,7 +51,7 @@ impl<T: Tallied, E: Tallied> Tallied for Result<T, E> {
         (Beside (entries (codes "Ok") T.size t.first.count (T.shape t.first.values t.first.count))
         (entries (codes "Err") E.size t.second.count (E.shape t.second.values t.second.count))) };
 
-    ghost bounded = { λ t n. le_refl _ };
+    ghost whole = { is_whole };
 
     fn none_counted() -> Self::Tally {
         EitherTally {
@@ -84,7 +84,7 @@ impl<L: Tallied, R: Tallied> Tallied for Either<L, R> {
         (Beside (entries (codes "Left") L.size t.first.count (L.shape t.first.values t.first.count))
         (entries (codes "Right") R.size t.second.count (R.shape t.second.values t.second.count))) };
 
-    ghost bounded = { λ t n. le_refl _ };
+    ghost whole = { is_whole };
 
     fn none_counted() -> Self::Tally {
         EitherTally {

@@ -1,19 +1,21 @@
 //! Parts of values that are counted first.
 #![tactic(auto)]
 
-ghost use Rattle.std.specs.Prelude.{IfOk, length};
+ghost use Rattle.std.specs.Prelude.{IfOk, MatchResult, length};
 ghost use Rattle.std.specs.Iterator.{IsFinite};
 ghost use Rattle.std.specs.Map.Iter.{deref};
 ghost use Rattle.allocative_graph.specs.Shows.{each_shows};
 ghost use Rattle.allocative.specs.Visited.{Entered};
-ghost use Rattle.allocative_tally.specs.Tallies.{TalliesEach, HoldsOfRun, FitsWord};
+ghost use Rattle.allocative_tally.specs.Tallies.{TalliesEach, CannotTally, HoldsOfRun, HoldsOfEveryRun, FitsWord};
 
-use crate::tally::{CountError, Tallied, all_fit};
+use crate::tally::{CountError, Tallied, product};
 use allocative::{Allocative, Described, Part, Refusal, Visitor};
 
 /// Counts what each item shows. It returns `Err` as `Tallied::tally` does.
 pub fn count_each<T: Tallied>(items: &[T], tally: &mut T::Tally) -> Result<(), CountError>
-    ensures { IfOk result (λ _. TalliesEach T.size T.may_show items.now (T.shape tally.old) (T.shape tally.new)) }
+    ensures { MatchResult result
+        (λ _. TalliesEach T.size T.may_show items.now (T.shape tally.old) (T.shape tally.new))
+        (λ _. CannotTally (each_shows T.may_show items.now) (T.shape tally.old)) }
 {
     count_run(items.iter(), tally)
 }
@@ -25,8 +27,11 @@ pub fn count_run<'a, T: Tallied + 'a, I: Iterator<Item = &'a T> + Drop>(
 ) -> Result<(), CountError>
     requires can { I.can_next items }
     requires ends { IsFinite (I.remaining items) }
-    ensures { IfOk result (λ _. HoldsOfRun I.next_gives items deref
-        (λ xs. TalliesEach T.size T.may_show xs (T.shape tally.old) (T.shape tally.new))) }
+    ensures { MatchResult result
+        (λ _. HoldsOfRun I.next_gives items deref
+        (λ xs. TalliesEach T.size T.may_show xs (T.shape tally.old) (T.shape tally.new)))
+        (λ _. HoldsOfEveryRun I.next_gives items deref
+        (λ xs. CannotTally (each_shows T.may_show xs) (T.shape tally.old))) }
 {
     for item in items {
         item.tally(tally)?;
@@ -129,7 +134,7 @@ fn count_all<T: Tallied>(items: &[T], tally: &mut T::Tally) -> Result<(), CountE
     ensures each { IfOk result (λ _. TalliesEach T.size T.may_show items.now (T.shape tally.old) (T.shape tally.new)) }
     ensures fits { IfOk result (λ _. FitsWord T.size (length items.now)) }
 {
-    all_fit(T::size(), items.len())?;
+    product(T::size(), items.len())?;
     count_each(items, tally)
 }
 

@@ -1,9 +1,9 @@
 //! Entries of declared sizes, and values with a number of their own.
 #![tactic(auto)]
 
-ghost use Rattle.std.specs.Prelude.{◌≡◌, IfOk};
+ghost use Rattle.std.specs.Prelude.{◌≡◌, MatchResult};
 ghost use Rattle.allocative_tally.specs.Shapes.{entries};
-ghost use Rattle.allocative_tally.specs.Tallies.{TalliesOwn};
+ghost use Rattle.allocative_tally.specs.Tallies.{TalliesOwn, CannotTallyOwn};
 ghost use Rattle.allocative.specs.Shows as shows;
 
 use crate::counted::Counted;
@@ -54,8 +54,10 @@ impl<S: Drop> OwnTally<S> {
 /// Counts one more value of a number of its own. It returns `Err` as `Tallied::tally` does.
 #[inline(always)]
 pub fn count_own<T: Tallied>(own: &mut OwnTally<T::Tally>, value: &T) -> Result<(), CountError>
-    ensures { IfOk result (λ _. TalliesOwn T.size (T.may_show value.now)
-        own.old.count (T.shape own.old.values) own.new.count (T.shape own.new.values)) }
+    ensures { MatchResult result
+        (λ _. TalliesOwn T.size (T.may_show value.now)
+        own.old.count (T.shape own.old.values) own.new.count (T.shape own.new.values))
+        (λ _. CannotTallyOwn T.size (T.may_show value.now) own.old.count (T.shape own.old.values)) }
 {
     own.count = added(own.count, 1)?;
     value.tally(&mut own.values)

@@ -2,22 +2,23 @@
 //! of 8 bytes.
 #![tactic(auto)]
 
-ghost use Rattle.std.specs.Prelude.{◌≡◌, ◌&&◌, true, codes, IfOk, Some, length};
+ghost use Rattle.std.specs.Prelude.{◌≡◌, ◌&&◌, true, codes, IfOk, MatchResult, Some, length};
 ghost use Rattle.std.specs.Iterator.{IsFinite};
 ghost use Rattle.std.specs.Map.Iter.{deref, deref_pair};
-ghost use Rattle.std.proofs.Common.{le_refl};
+ghost use Rattle.allocative_tally.specs.Whole.{is_whole};
 ghost use Rattle.allocative_described.specs.Sizes.{size_sum};
 ghost use Rattle.allocative_graph.specs.Shows.{Inside as shows_inside, each_shows};
 ghost use Rattle.allocative.specs.Runs.{field_of, pair_shows};
 ghost use Rattle.allocative.specs.StdShows.{in_any_order};
 ghost use Rattle.allocative_tally.specs.Shapes.{Beside, EntryAt, Wide, Narrow, entries, pairs_shape, data_shape};
 ghost use Rattle.allocative_tally.specs.Shapes.{sum_times};
-ghost use Rattle.allocative_tally.specs.Tallies.{Tallies, TalliesMany, HoldsOfRun, FitsWord, both_bounds, no_places};
+ghost use Rattle.allocative_tally.specs.Tallies.{Tallies, TalliesMany, HoldsOfRun, HoldsOfEveryRun, FitsWord};
+ghost use Rattle.allocative_tally.specs.Tallies.{Exceeds, CannotTally, both_bounds, no_places};
 
 use crate::counted::count_run;
 use crate::field::FieldMany;
 use crate::places::Buffers;
-use crate::tally::{CountError, Entries, InlineSum, Sum, Tallied, all_fit, bytes_of};
+use crate::tally::{CountError, Entries, InlineSum, Sum, Tallied, bytes_of, product};
 use allocative::{Described, Pairs, Part, Refusal, Visitor};
 use std::collections::{BTreeMap, BTreeSet, HashMap, HashSet};
 use std::hash::Hash;
@@ -36,23 +37,22 @@ impl<'a, K: Tallied, V: Tallied> Entries for PairsMany<'a, K, V> {
     }
 }
 
-/// Counts each of so many pairs that an iterator gives. It returns `Err` as `Tallied::tally` does, and if the bytes of so
-/// many pairs do not fit a word.
+/// Counts each pair that an iterator gives. It returns `Err` as `Tallied::tally` does.
 pub fn count_pairs<'a, K: Tallied + 'a, V: Tallied + 'a, I: Iterator<Item = (&'a K, &'a V)> + Drop>(
     pairs: I,
-    count: usize,
     tally: &mut (K::Tally, V::Tally),
 ) -> Result<(), CountError>
     requires can { I.can_next pairs }
     requires ends { IsFinite (I.remaining pairs) }
-    ensures each { IfOk result (λ _. HoldsOfRun I.next_gives pairs deref_pair (λ es.
-        TalliesMany (both_bounds K.size V.size) (length es)
+    ensures { MatchResult result
+        (λ _. HoldsOfRun I.next_gives pairs deref_pair (λ es. TalliesMany (both_bounds K.size V.size) (length es)
         (each_shows (pair_shows K.size K.may_show V.size V.may_show) es)
         (pairs_shape K.size V.size (K.shape tally.old.0) (V.shape tally.old.1))
-        (pairs_shape K.size V.size (K.shape tally.new.0) (V.shape tally.new.1)))) }
-    ensures fits { IfOk result (λ _. FitsWord (size_sum K.size V.size) count) }
+        (pairs_shape K.size V.size (K.shape tally.new.0) (V.shape tally.new.1))))
+        (λ _. HoldsOfEveryRun I.next_gives pairs deref_pair (λ es. CannotTally
+        (each_shows (pair_shows K.size K.may_show V.size V.may_show) es)
+        (pairs_shape K.size V.size (K.shape tally.old.0) (V.shape tally.old.1)))) }
 {
-    all_fit(pair_size::<K, V>(), count)?;
     for pair in pairs {
         let (key, value) = pair;
         key.tally(&mut tally.0)?;
@@ -91,7 +91,7 @@ impl<S: Drop> DataTally<S> {
     }
 }
 
-// Counts the entry `data` of so many pairs that an iterator gives. It returns `Err` as `count_pairs` does.
+// Counts the entry `data` of so many pairs that an iterator gives. It returns `Err` as `Tallied::tally` does.
 fn count_map<'a, K: Tallied + 'a, V: Tallied + 'a, I: Iterator<Item = (&'a K, &'a V)> + Drop>(
     pairs: I,
     count: usize,
@@ -99,18 +99,25 @@ fn count_map<'a, K: Tallied + 'a, V: Tallied + 'a, I: Iterator<Item = (&'a K, &'
 ) -> Result<(), CountError>
     requires can { I.can_next pairs }
     requires ends { IsFinite (I.remaining pairs) }
-    ensures { IfOk result (λ _. HoldsOfRun I.next_gives pairs deref_pair (λ es. count ≡ length es → Tallies (Some 8)
+    ensures { MatchResult result
+        (λ _. HoldsOfEveryRun I.next_gives pairs deref_pair (λ es. count ≡ length es → Tallies (Some 8)
         (shows_inside (codes "data") 8 (each_shows (pair_shows K.size K.may_show V.size V.may_show) es))
         (data_shape tally.old (λ v. pairs_shape K.size V.size (K.shape v.0) (V.shape v.1)))
-        (data_shape tally.new (λ v. pairs_shape K.size V.size (K.shape v.0) (V.shape v.1))))) }
+        (data_shape tally.new (λ v. pairs_shape K.size V.size (K.shape v.0) (V.shape v.1)))))
+        (λ _. HoldsOfEveryRun I.next_gives pairs deref_pair (λ es. count ≡ length es → Exceeds
+        (shows_inside (codes "data") 8 (each_shows (pair_shows K.size K.may_show V.size V.may_show) es))
+        (data_shape tally.old (λ v. pairs_shape K.size V.size (K.shape v.0) (V.shape v.1))))) }
 {
+    if count == 0 {
+        return tally.small.places.add_full(Some(0), 0);
+    }
     let size = pair_size::<K, V>();
     if bytes_of(size, count) <= 8 {
-        tally.small.places.add(size, count, 0)?;
-        return count_pairs(pairs, count, &mut tally.small.values);
+        tally.small.places.add_full(size, count)?;
+        return count_pairs(pairs, &mut tally.small.values);
     }
-    tally.large.places.add(size, count, 0)?;
-    count_pairs(pairs, count, &mut tally.large.values)
+    tally.large.places.add_full(size, count)?;
+    count_pairs(pairs, &mut tally.large.values)
 }
 
 // Counts the entry `data` of so many keys that an iterator gives. It returns `Err` as `Tallied::tally` does.
@@ -121,17 +128,24 @@ fn count_set<'a, K: Tallied + 'a, I: Iterator<Item = &'a K> + Drop>(
 ) -> Result<(), CountError>
     requires can { I.can_next keys }
     requires ends { IsFinite (I.remaining keys) }
-    ensures { IfOk result (λ _. HoldsOfRun I.next_gives keys deref (λ ks. count ≡ length ks → Tallies (Some 8)
+    ensures { MatchResult result
+        (λ _. HoldsOfEveryRun I.next_gives keys deref (λ ks. count ≡ length ks → Tallies (Some 8)
         (shows_inside (codes "data") 8 (each_shows (field_of (codes "key") K.size K.may_show) ks))
         (data_shape tally.old (λ v i. entries (codes "key") K.size i (K.shape v i)))
-        (data_shape tally.new (λ v i. entries (codes "key") K.size i (K.shape v i))))) }
+        (data_shape tally.new (λ v i. entries (codes "key") K.size i (K.shape v i)))))
+        (λ _. HoldsOfEveryRun I.next_gives keys deref (λ ks. count ≡ length ks → Exceeds
+        (shows_inside (codes "data") 8 (each_shows (field_of (codes "key") K.size K.may_show) ks))
+        (data_shape tally.old (λ v i. entries (codes "key") K.size i (K.shape v i))))) }
 {
+    if count == 0 {
+        return tally.small.places.add_full(Some(0), 0);
+    }
     let size = K::size();
     if bytes_of(size, count) <= 8 {
-        tally.small.places.add(size, count, 0)?;
+        tally.small.places.add_full(size, count)?;
         return count_run(keys, &mut tally.small.values);
     }
-    tally.large.places.add(size, count, 0)?;
+    tally.large.places.add_full(size, count)?;
     count_run(keys, &mut tally.large.values)
 }
 
@@ -167,7 +181,7 @@ impl<K: Tallied + Eq + Hash, V: Tallied> Tallied for HashMap<K, V> {
     ghost shape = { λ t n. entries (codes "HashMap") (Some 48) n
         (data_shape t (λ v. pairs_shape K.size V.size (K.shape v.0) (V.shape v.1))) };
 
-    ghost bounded = { λ t n. le_refl _ };
+    ghost whole = { is_whole };
 
     fn none_counted() -> Self::Tally {
         let small = (K::none_counted(), V::none_counted());
@@ -193,7 +207,7 @@ impl<K: Tallied + Ord, V: Tallied> Tallied for BTreeMap<K, V> {
     ghost shape = { λ t n. entries (codes "BTreeMap") (Some 24) n
         (data_shape t (λ v. pairs_shape K.size V.size (K.shape v.0) (V.shape v.1))) };
 
-    ghost bounded = { λ t n. le_refl _ };
+    ghost whole = { is_whole };
 
     fn none_counted() -> Self::Tally {
         let small = (K::none_counted(), V::none_counted());
@@ -219,7 +233,7 @@ impl<K: Tallied + Eq + Hash> Tallied for HashSet<K> {
     ghost shape = { λ t n. entries (codes "HashSet") (Some 48) n
         (data_shape t (λ v i. entries (codes "key") K.size i (K.shape v i))) };
 
-    ghost bounded = { λ t n. le_refl _ };
+    ghost whole = { is_whole };
 
     fn none_counted() -> Self::Tally {
         DataTally::none(K::none_counted(), K::none_counted())
@@ -243,7 +257,7 @@ impl<K: Tallied + Ord> Tallied for BTreeSet<K> {
     ghost shape = { λ t n. entries (codes "BTreeSet") (Some 24) n
         (data_shape t (λ v i. entries (codes "key") K.size i (K.shape v i))) };
 
-    ghost bounded = { λ t n. le_refl _ };
+    ghost whole = { is_whole };
 
     fn none_counted() -> Self::Tally {
         DataTally::none(K::none_counted(), K::none_counted())
@@ -265,6 +279,25 @@ impl<K: Tallied + Ord> Tallied for BTreeSet<K> {
 #[derive(Drop)]
 pub struct CountedPairs<V>(pub V);
 
+// Counts each of so many pairs that an iterator gives, if their bytes fit a word.
+fn count_fitting<'a, K: Tallied + 'a, V: Tallied + 'a, I: Iterator<Item = (&'a K, &'a V)> + Drop>(
+    pairs: I,
+    count: usize,
+    tally: &mut (K::Tally, V::Tally),
+) -> Result<(), CountError>
+    requires can { I.can_next pairs }
+    requires ends { IsFinite (I.remaining pairs) }
+    ensures each { IfOk result (λ _. HoldsOfRun I.next_gives pairs deref_pair (λ es.
+        TalliesMany (both_bounds K.size V.size) (length es)
+        (each_shows (pair_shows K.size K.may_show V.size V.may_show) es)
+        (pairs_shape K.size V.size (K.shape tally.old.0) (V.shape tally.old.1))
+        (pairs_shape K.size V.size (K.shape tally.new.0) (V.shape tally.new.1)))) }
+    ensures fits { IfOk result (λ _. FitsWord (size_sum K.size V.size) count) }
+{
+    product(pair_size::<K, V>(), count)?;
+    count_pairs(pairs, tally)
+}
+
 impl<'a, K: Tallied + Ord, V: Tallied> Part for CountedPairs<&'a BTreeMap<K, V>> {
     ghost may_show = { λ m. each_shows (pair_shows K.size K.may_show V.size V.may_show) m.0.now.entries };
 
@@ -273,7 +306,7 @@ impl<'a, K: Tallied + Ord, V: Tallied> Part for CountedPairs<&'a BTreeMap<K, V>>
     fn enter(self, visitor: &mut Visitor<'_>) -> Result<(), Refusal> {
         let count = self.0.len();
         let mut tally = (K::none_counted(), V::none_counted());
-        match count_pairs(self.0.iter(), count, &mut tally) {
+        match count_fitting(self.0.iter(), count, &mut tally) {
             Ok(()) => PairsMany::<K, V>(&tally, count).enter(visitor),
             Err(_) => Pairs(self.0).enter(visitor),
         }
@@ -288,7 +321,7 @@ impl<'a, K: Tallied + Eq + Hash, V: Tallied> Part for CountedPairs<&'a HashMap<K
     fn enter(self, visitor: &mut Visitor<'_>) -> Result<(), Refusal> {
         let count = self.0.len();
         let mut tally = (K::none_counted(), V::none_counted());
-        match count_pairs(self.0.iter(), count, &mut tally) {
+        match count_fitting(self.0.iter(), count, &mut tally) {
             Ok(()) => PairsMany::<K, V>(&tally, count).enter(visitor),
             Err(_) => Pairs(self.0).enter(visitor),
         }

@@ -1,10 +1,9 @@
 //! Numbers, times and addresses, which show one entry each.
 #![tactic(auto, using(crate::proofs::Fields::starting))]
 
-ghost use Rattle.allocative_graph.specs.Forest.{Forest};
 ghost use Rattle.allocative_graph.specs.Shows.{Field, Nothing};
-ghost use Rattle.std.proofs.Common.{le_refl};
-ghost use Rattle.allocative_tally.specs.Shapes.{NoEntry, entries};
+ghost use Rattle.allocative_tally.specs.Whole.{as_itself, is_whole};
+ghost use Rattle.allocative_tally.specs.Shapes.{NoEntry, ShownAs, entries};
 
 use crate::tally::{CountError, Entries, InlineSum, Sum, Tallied, declared};
 use allocative::{Allocative, Described, Refusal, Visitor};
@@ -17,8 +16,8 @@ use std::time::{Duration, Instant, SystemTime};
 
 /// A type whose values show one entry of its name, with nothing inside it.
 pub trait Leaf: Allocative + Described {
-    // A value may show its entry.
-    ghost one_entry: { (x : Self) (f : Forest) → Field Self.name Self.size Nothing f → Self.may_show x f };
+    // A value shows its entry, and nothing else.
+    ghost one_entry: { (x : Self) → ShownAs (Field Self.name Self.size Nothing) (Self.may_show x) };
 }
 
 impl<T: Leaf> Tallied for T {
@@ -26,7 +25,7 @@ impl<T: Leaf> Tallied for T {
 
     ghost shape = { λ t n. entries T.name T.size n NoEntry };
 
-    ghost bounded = { λ t n. le_refl _ };
+    ghost whole = { is_whole };
 
     fn none_counted() -> () {}
 
@@ -41,133 +40,133 @@ impl<T: Leaf> Tallied for T {
 }
 
 impl Leaf for u8 {
-    ghost one_entry = { λ _ _ entry. entry };
+    ghost one_entry = { λ _. as_itself };
 }
 
 impl Leaf for u16 {
-    ghost one_entry = { λ _ _ entry. entry };
+    ghost one_entry = { λ _. as_itself };
 }
 
 impl Leaf for u32 {
-    ghost one_entry = { λ _ _ entry. entry };
+    ghost one_entry = { λ _. as_itself };
 }
 
 impl Leaf for u64 {
-    ghost one_entry = { λ _ _ entry. entry };
+    ghost one_entry = { λ _. as_itself };
 }
 
 impl Leaf for u128 {
-    ghost one_entry = { λ _ _ entry. entry };
+    ghost one_entry = { λ _. as_itself };
 }
 
 impl Leaf for usize {
-    ghost one_entry = { λ _ _ entry. entry };
+    ghost one_entry = { λ _. as_itself };
 }
 
 impl Leaf for i8 {
-    ghost one_entry = { λ _ _ entry. entry };
+    ghost one_entry = { λ _. as_itself };
 }
 
 impl Leaf for i16 {
-    ghost one_entry = { λ _ _ entry. entry };
+    ghost one_entry = { λ _. as_itself };
 }
 
 impl Leaf for i32 {
-    ghost one_entry = { λ _ _ entry. entry };
+    ghost one_entry = { λ _. as_itself };
 }
 
 impl Leaf for i64 {
-    ghost one_entry = { λ _ _ entry. entry };
+    ghost one_entry = { λ _. as_itself };
 }
 
 impl Leaf for i128 {
-    ghost one_entry = { λ _ _ entry. entry };
+    ghost one_entry = { λ _. as_itself };
 }
 
 impl Leaf for isize {
-    ghost one_entry = { λ _ _ entry. entry };
+    ghost one_entry = { λ _. as_itself };
 }
 
 impl Leaf for f32 {
-    ghost one_entry = { λ _ _ entry. entry };
+    ghost one_entry = { λ _. as_itself };
 }
 
 impl Leaf for f64 {
-    ghost one_entry = { λ _ _ entry. entry };
+    ghost one_entry = { λ _. as_itself };
 }
 
 impl Leaf for char {
-    ghost one_entry = { λ _ _ entry. entry };
+    ghost one_entry = { λ _. as_itself };
 }
 
 impl Leaf for bool {
-    ghost one_entry = { λ _ _ entry. entry };
+    ghost one_entry = { λ _. as_itself };
 }
 
 impl Leaf for () {
-    ghost one_entry = { λ _ _ entry. entry };
+    ghost one_entry = { λ _. as_itself };
 }
 
 impl Leaf for NonZeroU8 {
-    ghost one_entry = { λ _ _ entry. entry };
+    ghost one_entry = { λ _. as_itself };
 }
 
 impl Leaf for NonZeroU16 {
-    ghost one_entry = { λ _ _ entry. entry };
+    ghost one_entry = { λ _. as_itself };
 }
 
 impl Leaf for NonZeroU32 {
-    ghost one_entry = { λ _ _ entry. entry };
+    ghost one_entry = { λ _. as_itself };
 }
 
 impl Leaf for NonZeroU64 {
-    ghost one_entry = { λ _ _ entry. entry };
+    ghost one_entry = { λ _. as_itself };
 }
 
 impl Leaf for NonZeroUsize {
-    ghost one_entry = { λ _ _ entry. entry };
+    ghost one_entry = { λ _. as_itself };
 }
 
 impl Leaf for NonZeroI8 {
-    ghost one_entry = { λ _ _ entry. entry };
+    ghost one_entry = { λ _. as_itself };
 }
 
 impl Leaf for NonZeroI16 {
-    ghost one_entry = { λ _ _ entry. entry };
+    ghost one_entry = { λ _. as_itself };
 }
 
 impl Leaf for NonZeroI32 {
-    ghost one_entry = { λ _ _ entry. entry };
+    ghost one_entry = { λ _. as_itself };
 }
 
 impl Leaf for NonZeroI64 {
-    ghost one_entry = { λ _ _ entry. entry };
+    ghost one_entry = { λ _. as_itself };
 }
 
 impl Leaf for NonZeroIsize {
-    ghost one_entry = { λ _ _ entry. entry };
+    ghost one_entry = { λ _. as_itself };
 }
 
 impl Leaf for Instant {
-    ghost one_entry = { λ _ _ entry. entry };
+    ghost one_entry = { λ _. as_itself };
 }
 
 impl Leaf for SystemTime {
-    ghost one_entry = { λ _ _ entry. entry };
+    ghost one_entry = { λ _. as_itself };
 }
 
 impl Leaf for Duration {
-    ghost one_entry = { λ _ _ entry. entry };
+    ghost one_entry = { λ _. as_itself };
 }
 
 impl Leaf for IpAddr {
-    ghost one_entry = { λ _ _ entry. entry };
+    ghost one_entry = { λ _. as_itself };
 }
 
 impl Leaf for Ipv4Addr {
-    ghost one_entry = { λ _ _ entry. entry };
+    ghost one_entry = { λ _. as_itself };
 }
 
 impl Leaf for Ipv6Addr {
-    ghost one_entry = { λ _ _ entry. entry };
+    ghost one_entry = { λ _. as_itself };
 }

@@ -1,20 +1,23 @@
 //! `IndexMap`, `IndexSet`, `SmallVec` and `Slab`.
 #![tactic(auto)]
 
-ghost use Rattle.std.specs.Prelude.{codes, IfOk, Some};
-ghost use Rattle.std.proofs.Common.{le_refl};
+ghost use Rattle.std.specs.Prelude.{◌≡◌, codes, length, MatchResult, Some};
+ghost use Rattle.allocative_tally.specs.Whole.{is_whole};
+ghost use Rattle.slab.specs.Slab.{values};
+ghost use Rattle.allocative_graph.specs.Shows.{slice_shows};
 ghost use Rattle.allocative.specs.Bodies.{table_shows};
 ghost use Rattle.allocative_tally.specs.Shapes.{Unique as unique_width, EntryAt, Beside, NoEntry, entries, sum_times};
-ghost use Rattle.allocative_tally.specs.Shapes.{buffer_shape, bytes_times, pairs_shape, table_shape};
-ghost use Rattle.allocative_tally.specs.Tallies.{Tallies, buffer_of};
+ghost use Rattle.allocative_tally.specs.Shapes.{buffer_shape, pairs_shape, table_shape};
+ghost use Rattle.allocative_tally.specs.Tallies.{TalliesSlice, CannotTallySlice};
+ghost use Rattle.allocative_tally.specs.Tallies.{Tallies, Exceeds, AddsIndex, CannotAddIndex, buffer_of, no_places};
 
 use crate::counted::{count_each, count_run};
 use crate::field::{FieldMany, OwnTally};
-use crate::map::{PairsMany, count_pairs};
+use crate::map::{PairsMany, count_pairs, pair_size};
 use crate::places::{Buffers, Places};
-use crate::sequence::{BuffersMany, are_shown_each, count_room};
+use crate::sequence::{BuffersMany, are_shown_each, count_room, has_buffer};
 use crate::tally::{
-    CountError, Entries, InlineSum, Sum, Tallied, UniqueSum, added, bytes_of, declared,
+    CountError, Entries, InlineSum, Sum, Tallied, UniqueSum, added, bytes_of, declared, product,
 };
 use allocative::{Described, Refusal, Visitor, raw_table_alloc_size_for_len};
 use indexmap::{IndexMap, IndexSet};
@@ -22,28 +25,70 @@ use slab::Slab;
 use smallvec::SmallVec;
 use std::hash::Hash;
 
-/// Containers in the order of insertion, counted: their items, how many hash tables there are, and the bytes of their
-/// buckets.
+/// Containers in the order of insertion, counted: their items, the bytes of their unused places, how many hash tables
+/// there are, and the bytes of their buckets.
 #[derive(Drop)]
 pub struct IndexTally<S> {
     items: Buffers<S>,
+    unused: usize,
     tables: usize,
     buckets: usize,
 }
 
-/// What containers in the order of insertion show inside their entries: by their tally, the size of a place, and the
-/// entries of their items.
+impl<S: Drop> IndexTally<S> {
+    // No container, by a tally of nothing.
+    fn none(values: S) -> IndexTally<S>
+        ensures { result ≡ record {
+          items = record { places = no_places; values = values };
+          unused = 0;
+          tables = 0;
+          buckets = 0;
+        } }
+    {
+        IndexTally {
+            items: Buffers::none(values),
+            unused: 0,
+            tables: 0,
+            buckets: 0,
+        }
+    }
+}
+
+// Adds a buffer of so many items of a declared size, with unused places of another, whose bytes are added to those
+// before.
+// It returns `Err` exactly if a size is missing, or a number or the bytes of all do not fit a word.
+fn add_index(
+    places: &mut Places,
+    bytes: &mut usize,
+    sizes: (Option<usize>, Option<usize>),
+    items: usize,
+    unused: usize,
+) -> Result<(), CountError>
+    ensures { MatchResult result
+        (λ _. AddsIndex sizes.0 sizes.1 items unused places.old bytes.old places.new bytes.new)
+        (λ _. CannotAddIndex sizes.0 sizes.1 items unused places.old bytes.old) }
+{
+    let (item, place) = sizes;
+    places.add_full(item, items)?;
+    let spare = product(place, unused)?;
+    *bytes = added(*bytes, spare)?;
+    let all = bytes_of(item, places.items);
+    added(all, *bytes)?;
+    Ok(())
+}
+
+/// What containers in the order of insertion show inside their entries: by their tally, and the entries of their items.
 #[derive(Drop)]
-struct IndexMany<'a, S, P>(&'a IndexTally<S>, Option<usize>, P);
+struct IndexMany<'a, S, P>(&'a IndexTally<S>, P);
 
 impl<'a, S, P: Entries> Entries for IndexMany<'a, S, P> {
-    ghost shape = { λ e. Beside (buffer_shape (codes "data") e.0.now.items.places.buffers (P.shape e.2)
-        (bytes_times e.1 e.0.now.items.places.unused)) (table_shape e.0.now.tables e.0.now.buckets) };
+    ghost shape = { λ e. Beside (buffer_shape (codes "data") e.0.now.items.places.buffers (P.shape e.1)
+        e.0.now.unused) (table_shape e.0.now.tables e.0.now.buckets) };
 
     fn enter(self, visitor: &mut Visitor<'_>) -> Result<(), Refusal> {
-        let IndexMany(tally, size, items) = self;
+        let IndexMany(tally, items) = self;
         let places = tally.items.places;
-        let unused = Sum::of(places.buffers, bytes_of(size, places.unused));
+        let unused = Sum::of(places.buffers, tally.unused);
         let inside = (items, InlineSum("unused_capacity", unused, ()));
         let data = UniqueSum("data", Sum::times(Some(8), places.buffers), inside);
         let buckets = InlineSum("alloc", Sum::of(tally.tables, tally.buckets), ());
@@ -52,10 +97,12 @@ impl<'a, S, P: Entries> Entries for IndexMany<'a, S, P> {
     }
 }
 
-// Counts the hash table of `count` items. It returns `Err` if a number exceeds a word.
+// Counts the hash table of `count` items. It returns `Err` as `Tallied::tally` does.
 fn count_table(count: usize, tables: &mut usize, buckets: &mut usize) -> Result<(), CountError>
-    ensures { IfOk result (λ _. Tallies (Some 8) (table_shows count)
-        (table_shape tables.old buckets.old) (table_shape tables.new buckets.new)) }
+    ensures { MatchResult result
+        (λ _. Tallies (Some 8) (table_shows count)
+        (table_shape tables.old buckets.old) (table_shape tables.new buckets.new))
+        (λ _. Exceeds (table_shows count) (table_shape tables.old buckets.old)) }
 {
     if count == 0 {
         return Ok(());
@@ -73,29 +120,32 @@ impl<K: Tallied + Eq + Hash, V: Tallied> Tallied for IndexMap<K, V> {
 
     ghost shape = { λ t n. entries (codes "IndexMap") (Some 72) n (Beside (buffer_shape (codes "data") t.items.places.buffers
         (pairs_shape K.size V.size (K.shape t.items.values.0) (V.shape t.items.values.1) t.items.places.items)
-        (bytes_times ⟦<(K, V) as Described>⟧.size t.items.places.unused))
+        t.unused)
         (table_shape t.tables t.buckets)) };
 
-    ghost bounded = { λ t n. le_refl _ };
+    ghost whole = { is_whole };
 
     fn none_counted() -> Self::Tally {
-        IndexTally {
-            items: Buffers::none((K::none_counted(), V::none_counted())),
-            tables: 0,
-            buckets: 0,
-        }
+        IndexTally::none((K::none_counted(), V::none_counted()))
     }
 
     fn show(tally: &Self::Tally, count: usize, visitor: &mut Visitor<'_>) -> Result<(), Refusal> {
         let items = PairsMany::<K, V>(&tally.items.values, tally.items.places.items);
-        let inside = IndexMany(tally, <(K, V)>::size(), items);
+        let inside = IndexMany(tally, items);
         InlineSum("IndexMap", Sum::times(Some(72), count), inside).enter(visitor)
     }
 
     fn tally(&self, tally: &mut Self::Tally) -> Result<(), CountError> {
-        let (size, unused) = (<(K, V)>::size(), self.capacity() - self.len());
-        tally.items.places.add(size, self.len(), unused)?;
-        count_pairs(self.iter(), self.len(), &mut tally.items.values)?;
+        let unused = self.capacity() - self.len();
+        let sizes = (pair_size::<K, V>(), <(K, V)>::size());
+        add_index(
+            &mut tally.items.places,
+            &mut tally.unused,
+            sizes,
+            self.len(),
+            unused,
+        )?;
+        count_pairs(self.iter(), &mut tally.items.values)?;
         count_table(self.len(), &mut tally.tables, &mut tally.buckets)
     }
 }
@@ -105,28 +155,31 @@ impl<T: Tallied + Eq + Hash> Tallied for IndexSet<T> {
 
     ghost shape = { λ t n. entries (codes "IndexSet") (Some 72) n (Beside (buffer_shape (codes "data") t.items.places.buffers
         (entries (codes "value") T.size t.items.places.items (T.shape t.items.values t.items.places.items))
-        (bytes_times T.size t.items.places.unused))
+        t.unused)
         (table_shape t.tables t.buckets)) };
 
-    ghost bounded = { λ t n. le_refl _ };
+    ghost whole = { is_whole };
 
     fn none_counted() -> Self::Tally {
-        IndexTally {
-            items: Buffers::none(T::none_counted()),
-            tables: 0,
-            buckets: 0,
-        }
+        IndexTally::none(T::none_counted())
     }
 
     fn show(tally: &Self::Tally, count: usize, visitor: &mut Visitor<'_>) -> Result<(), Refusal> {
         let items = FieldMany::<T>("value", &tally.items.values, tally.items.places.items);
-        let inside = IndexMany(tally, T::size(), items);
+        let inside = IndexMany(tally, items);
         InlineSum("IndexSet", Sum::times(Some(72), count), inside).enter(visitor)
     }
 
     fn tally(&self, tally: &mut Self::Tally) -> Result<(), CountError> {
         let unused = self.capacity() - self.len();
-        tally.items.places.add(T::size(), self.len(), unused)?;
+        let sizes = (T::size(), T::size());
+        add_index(
+            &mut tally.items.places,
+            &mut tally.unused,
+            sizes,
+            self.len(),
+            unused,
+        )?;
         count_run(self.iter(), &mut tally.items.values)?;
         count_table(self.len(), &mut tally.tables, &mut tally.buckets)
     }
@@ -147,7 +200,7 @@ impl<T: Tallied, const N: usize> Tallied for SmallVec<T, N> {
         (EntryAt unique_width (codes "ptr") (sum_times (Some 8) t.spilled.places.buffers)
         (entries (codes "data") T.size t.spilled.places.items (T.shape t.spilled.values t.spilled.places.items)))) };
 
-    ghost bounded = { λ t n. le_refl _ };
+    ghost whole = { is_whole };
 
     fn none_counted() -> Self::Tally {
         SmallVecTally {
@@ -168,7 +221,7 @@ impl<T: Tallied, const N: usize> Tallied for SmallVec<T, N> {
     fn tally(&self, tally: &mut Self::Tally) -> Result<(), CountError> {
         declared::<SmallVec<T, N>>()?;
         if self.spilled() {
-            tally.spilled.places.add(T::size(), self.len(), 0)?;
+            tally.spilled.places.add_full(T::size(), self.len())?;
             return count_each(self.as_slice(), &mut tally.spilled.values);
         }
         // They have at most the bytes of the places, so they fit the entry.
@@ -179,13 +232,28 @@ impl<T: Tallied, const N: usize> Tallied for SmallVec<T, N> {
     }
 }
 
+// Counts the values of a slab. It returns `Err` as `Tallied::tally` does.
+#[inline(always)]
+fn count_values<T: Tallied>(slab: &Slab<T>, tally: &mut T::Tally) -> Result<(), CountError>
+    ensures { MatchResult result
+        (λ _. TalliesSlice T.size (length (values slab.now)) T.needs_drop T.name
+        (slice_shows T.name T.size T.needs_drop T.may_show (values slab.now)) (T.shape tally.old) (T.shape tally.new))
+        (λ _. CannotTallySlice T.size T.needs_drop
+        (slice_shows T.name T.size T.needs_drop T.may_show (values slab.now)) (T.shape tally.old)) }
+{
+    if are_shown_each::<T>() {
+        return count_run(slab.iter().map(|(_key, value)| value), tally);
+    }
+    Ok(())
+}
+
 impl<T: Tallied> Tallied for Slab<T> {
     type Tally = Buffers<T::Tally>;
 
     ghost shape = { λ t n. entries (codes "Slab") (Some 40) n
         (buffer_of T.name T.size T.needs_drop t.places (T.shape t.values)) };
 
-    ghost bounded = { λ t n. le_refl _ };
+    ghost whole = { is_whole };
 
     fn none_counted() -> Self::Tally {
         Buffers::none(T::none_counted())
@@ -197,13 +265,12 @@ impl<T: Tallied> Tallied for Slab<T> {
     }
 
     fn tally(&self, tally: &mut Self::Tally) -> Result<(), CountError> {
-        let is_there = count_room::<T>(self.len(), self.capacity(), &mut tally.places)?;
+        let is_there = has_buffer::<T>(self.len(), self.capacity())?;
         if !is_there {
             return Ok(());
         }
-        if are_shown_each::<T>() {
-            return count_run(self.iter().map(|(_key, value)| value), &mut tally.values);
-        }
+        count_values(self, &mut tally.values)?;
+        count_room::<T>(self.len(), self.capacity(), &mut tally.places)?;
         Ok(())
     }
 }

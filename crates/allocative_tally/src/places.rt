@@ -2,9 +2,9 @@
 #![tactic(auto)]
 
 ghost use Rattle.std.specs.Prelude.{◌≡◌, MatchResult};
-ghost use Rattle.allocative_tally.specs.Tallies.{no_places, AddsPlaces, CannotAdd};
+ghost use Rattle.allocative_tally.specs.Tallies.{no_places, AddsPlaces, AddsItems, CannotAdd, CannotAddItems};
 
-use crate::tally::{CountError, added, all_fit};
+use crate::tally::{CountError, added, product};
 
 /// How many buffers there are, how many items are in them, and how many places in them are unused.
 #[derive(Clone, Copy)]
@@ -41,12 +41,28 @@ impl Places {
         let buffers = added(self.buffers, 1)?;
         let items = added(self.items, items)?;
         let unused = added(self.unused, unused)?;
-        all_fit(size, added(items, unused)?)?;
+        product(size, added(items, unused)?)?;
         *self = Places {
             buffers,
             items,
             unused,
         };
+        Ok(())
+    }
+
+    /// Adds a buffer of so many items of a declared size, where no place is unused. It returns `Err` exactly if the
+    /// size
+    /// is missing, or a number or the bytes of all items do not fit a word.
+    #[inline(always)]
+    pub fn add_full(&mut self, size: Option<usize>, items: usize) -> Result<(), CountError>
+        ensures { MatchResult result (λ _. AddsItems size items self.old self.new)
+            (λ _. CannotAddItems size items self.old) }
+    {
+        let buffers = added(self.buffers, 1)?;
+        let items = added(self.items, items)?;
+        product(size, items)?;
+        self.buffers = buffers;
+        self.items = items;
         Ok(())
     }
 }

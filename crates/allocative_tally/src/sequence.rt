@@ -1,13 +1,13 @@
 //! Texts, boxes, vectors, deques and arrays.
 #![tactic(auto)]
 
-ghost use Rattle.std.specs.Prelude.{◌≡◌, ◌-◌, codes, IfOk, MatchResult, Some, length};
-ghost use Rattle.std.proofs.Common.{le_refl};
+ghost use Rattle.std.specs.Prelude.{◌≡◌, None, codes, MatchResult, Some, length};
+ghost use Rattle.allocative_tally.specs.Whole.{is_whole};
 ghost use Rattle.allocative_graph.specs.Shows.{slice_shows};
 ghost use Rattle.allocative.specs.Bodies.{are_shown_each as is_each};
 ghost use Rattle.allocative_tally.specs.Shapes.{Unique, Wide, EntryAt, Beside, NoEntry, entries, items_shape};
 ghost use Rattle.allocative_tally.specs.Shapes.{bytes_times, sum_of, sum_times, unused_shape};
-ghost use Rattle.allocative_tally.specs.Tallies.{buffer_of, CannotAdd, CountsRoom};
+ghost use Rattle.allocative_tally.specs.Tallies.{buffer_of, HasBuffer, CannotCountRoom, CountsRoom, CannotTallySlice};
 ghost use Rattle.allocative_tally.specs.Tallies.{TalliesSlice};
 
 use crate::counted::count_each;
@@ -34,7 +34,7 @@ impl Tallied for String {
         (EntryAt Wide (codes "capacity") (sum_of n t.capacity)
         (Beside (EntryAt Wide (codes "u8") (sum_of n t.used) NoEntry) (unused_shape n t.unused)))) };
 
-    ghost bounded = { λ t n. le_refl _ };
+    ghost whole = { is_whole };
 
     fn none_counted() -> TextTally {
         TextTally {
@@ -111,8 +111,11 @@ impl<'a, T: Tallied> Entries for BuffersMany<'a, T> {
 /// Counts the items of a slice. It returns `Err` as `Tallied::tally` does.
 #[inline(always)]
 pub fn count_slice<T: Tallied>(items: &[T], tally: &mut T::Tally) -> Result<(), CountError>
-    ensures { IfOk result (λ _. TalliesSlice T.size (length items.now) T.needs_drop T.name
-        (slice_shows T.name T.size T.needs_drop T.may_show items.now) (T.shape tally.old) (T.shape tally.new)) }
+    ensures { MatchResult result
+        (λ _. TalliesSlice T.size (length items.now) T.needs_drop T.name
+        (slice_shows T.name T.size T.needs_drop T.may_show items.now) (T.shape tally.old) (T.shape tally.new))
+        (λ _. CannotTallySlice T.size T.needs_drop
+        (slice_shows T.name T.size T.needs_drop T.may_show items.now) (T.shape tally.old)) }
 {
     if are_shown_each::<T>() {
         return count_each(items, tally);
@@ -120,17 +123,11 @@ pub fn count_slice<T: Tallied>(items: &[T], tally: &mut T::Tally) -> Result<(), 
     Ok(())
 }
 
-/// Counts the places of a buffer, and returns whether there is one. It returns `Err` exactly if the size is missing, or
-/// there is a buffer and `Places::add` returns `Err`.
-#[tactic(auto, using(crate::proofs::Items::rooms))]
+/// Whether so many items of a type, with room for so many, have a buffer. It returns `Err` exactly if the size is
+/// missing.
 #[inline(always)]
-pub fn count_room<T: Described>(
-    count: usize,
-    capacity: usize,
-    places: &mut Places,
-) -> Result<bool, CountError>
-    ensures { MatchResult result (CountsRoom T.size count capacity places.old places.new)
-        (λ _. CannotAdd T.size count (capacity - count) places.old) }
+pub fn has_buffer<T: Described>(count: usize, capacity: usize) -> Result<bool, CountError>
+    ensures { MatchResult result (HasBuffer T.size count capacity) (λ _. T.size ≡ None) }
 {
     let Some(size) = T::size() else {
         return Err(CountError);
@@ -141,7 +138,25 @@ pub fn count_room<T: Described>(
     if count.max(capacity) == 0 {
         return Ok(false);
     }
-    places.add(Some(size), count, capacity.saturating_sub(count))?;
+    Ok(true)
+}
+
+/// Counts the places of a buffer, and returns whether there is one. It returns `Err` exactly if the size is missing, or
+/// there is a buffer and `Places::add` returns `Err`.
+#[inline(always)]
+pub fn count_room<T: Described>(
+    count: usize,
+    capacity: usize,
+    places: &mut Places,
+) -> Result<bool, CountError>
+    ensures { MatchResult result (CountsRoom T.size count capacity places.old places.new)
+        (λ _. CannotCountRoom T.size count capacity places.old) }
+{
+    let is_there = has_buffer::<T>(count, capacity)?;
+    if !is_there {
+        return Ok(false);
+    }
+    places.add(T::size(), count, capacity.saturating_sub(count))?;
     Ok(true)
 }
 
@@ -151,7 +166,7 @@ impl<T: Tallied> Tallied for Box<T> {
     ghost shape = { λ t n. entries (codes "Box") (Some 8) n
         (EntryAt Unique (codes "ptr") (sum_times (Some 8) t.places.buffers) (T.shape t.values t.places.items)) };
 
-    ghost bounded = { λ t n. le_refl _ };
+    ghost whole = { is_whole };
 
     fn none_counted() -> Self::Tally {
         Buffers::none(T::none_counted())
@@ -165,8 +180,8 @@ impl<T: Tallied> Tallied for Box<T> {
 
     #[inline(always)]
     fn tally(&self, tally: &mut Self::Tally) -> Result<(), CountError> {
-        tally.places.add(T::size(), 1, 0)?;
-        (**self).tally(&mut tally.values)
+        (**self).tally(&mut tally.values)?;
+        tally.places.add_full(T::size(), 1)
     }
 }
 
@@ -176,7 +191,7 @@ impl<T: Tallied> Tallied for Vec<T> {
     ghost shape = { λ t n. entries (codes "Vec") (Some 24) n
         (buffer_of T.name T.size T.needs_drop t.places (T.shape t.values)) };
 
-    ghost bounded = { λ t n. le_refl _ };
+    ghost whole = { is_whole };
 
     fn none_counted() -> Self::Tally {
         Buffers::none(T::none_counted())
@@ -189,11 +204,13 @@ impl<T: Tallied> Tallied for Vec<T> {
 
     #[inline(always)]
     fn tally(&self, tally: &mut Self::Tally) -> Result<(), CountError> {
-        let is_there = count_room::<T>(self.len(), self.capacity(), &mut tally.places)?;
+        let is_there = has_buffer::<T>(self.len(), self.capacity())?;
         if !is_there {
             return Ok(());
         }
-        count_slice(self.as_slice(), &mut tally.values)
+        count_slice(self.as_slice(), &mut tally.values)?;
+        count_room::<T>(self.len(), self.capacity(), &mut tally.places)?;
+        Ok(())
     }
 }
 
@@ -203,7 +220,7 @@ impl<T: Tallied> Tallied for VecDeque<T> {
     ghost shape = { λ t n. entries (codes "VecDeque") (Some 32) n
         (buffer_of T.name T.size T.needs_drop t.places (T.shape t.values)) };
 
-    ghost bounded = { λ t n. le_refl _ };
+    ghost whole = { is_whole };
 
     fn none_counted() -> Self::Tally {
         Buffers::none(T::none_counted())
@@ -216,13 +233,15 @@ impl<T: Tallied> Tallied for VecDeque<T> {
 
     #[inline(always)]
     fn tally(&self, tally: &mut Self::Tally) -> Result<(), CountError> {
-        let is_there = count_room::<T>(self.len(), self.capacity(), &mut tally.places)?;
+        let is_there = has_buffer::<T>(self.len(), self.capacity())?;
         if !is_there {
             return Ok(());
         }
         let (front, back) = self.as_slices();
         count_slice(front, &mut tally.values)?;
-        count_slice(back, &mut tally.values)
+        count_slice(back, &mut tally.values)?;
+        count_room::<T>(self.len(), self.capacity(), &mut tally.places)?;
+        Ok(())
     }
 }
 
@@ -232,7 +251,7 @@ impl<T: Tallied, const N: usize> Tallied for [T; N] {
     ghost shape = { λ t n. entries T.name ⟦<[T; N] as Described>⟧.size n
         (entries (codes "data") T.size t.count (T.shape t.values t.count)) };
 
-    ghost bounded = { λ t n. le_refl _ };
+    ghost whole = { is_whole };
 
     fn none_counted() -> Self::Tally {
         OwnTally::none(T::none_counted())

@@ -4,8 +4,8 @@
 ghost use Rattle.std.specs.Prelude.{◌≡◌, ◌≤◌, ◌+◌, ◌*◌, ◌^◌, ℕ, true, None, IfOk, MatchResult};
 ghost use Rattle.std.specs.Option.{ForSome};
 ghost use Rattle.allocative_tally.specs.Shapes.{Shape, NoEntry, Beside, EntryAt, Wide, Unique as unique_width};
-ghost use Rattle.allocative_tally.specs.Shapes.{IsNothing, shape_shows, bytes_times, sum_of, sum_times, top_bytes};
-ghost use Rattle.allocative_tally.specs.Tallies.{TalliesNext, EntersShape, IsDeclared, FitsWord};
+ghost use Rattle.allocative_tally.specs.Shapes.{IsNothing, shape_shows, bytes_times, sum_of, sum_times};
+ghost use Rattle.allocative_tally.specs.Tallies.{TalliesNext, CannotTally, IsWhole, EntersShape, IsDeclared, FitsWord};
 
 use allocative::{Allocative, Described, Inside, IntoKey, Part, Refusal, Unique, Visitor};
 use thiserror::Error;
@@ -31,20 +31,22 @@ pub trait Tallied: Allocative + Described {
     fn show(tally: &Self::Tally, count: usize, visitor: &mut Visitor<'_>) -> Result<(), Refusal>
         ensures { EntersShape (Self.shape tally.now count) visitor.old visitor.new result };
 
-    /// Counts what the value shows beyond its number. It returns `Err` if a declared size is missing or a count exceeds
-    /// a word. Discard the tally then.
+    /// Counts what the value shows beyond its number. It returns `Err` only if a declared size is missing, or the bytes
+    /// and
+    /// entries of the value and of those before it exceed a word. Discard the tally then.
     fn tally(&self, tally: &mut Self::Tally) -> Result<(), CountError>
-        ensures { IfOk result (λ _. TalliesNext Self.size (Self.may_show self.now)
-            (Self.shape tally.old) (Self.shape tally.new)) };
+        ensures { MatchResult result
+            (λ _. TalliesNext Self.size (Self.may_show self.now) (Self.shape tally.old) (Self.shape tally.new))
+            (λ _. CannotTally (Self.may_show self.now) (Self.shape tally.old)) };
 
-    // So many values have at most their declared bytes at the top.
-    ghost bounded: { (t : Self.Tally) (n : ℕ) → top_bytes (Self.shape t n) ≤ bytes_times Self.size n };
+    // So many values are entries of their declared size.
+    ghost whole: { IsWhole Self.size Self.shape };
 }
 
-/// The bytes of the entries of one place, and whether there is one.
+/// The bytes of the entries of one place, and a number that is 0 if there is none.
 #[derive(Clone, Copy)]
 pub struct Sum {
-    pub(crate) is_there: bool,
+    pub(crate) count: usize,
     pub(crate) bytes: usize,
 }
 
@@ -54,8 +56,7 @@ impl Sum {
     pub fn of(count: usize, bytes: usize) -> Sum
         ensures { result ≡ sum_of count bytes }
     {
-        let is_there = count != 0;
-        Sum { is_there, bytes }
+        Sum { count, bytes }
     }
 
     /// So many entries of a declared size.
@@ -89,18 +90,16 @@ pub fn declared<T: Described>() -> Result<(), CountError>
     Ok(())
 }
 
-/// Returns `Err` exactly if a declared size is missing, or the bytes of so many values do not fit a word.
+/// The bytes of so many values of a declared size; `Err` exactly if the size is missing, or they do not fit a word.
 #[inline(always)]
-pub fn all_fit(size: Option<usize>, count: usize) -> Result<(), CountError>
-    ensures { MatchResult result (λ _. FitsWord size count) (λ _. ForSome size (λ s. 2 ^ 64 ≤ s * count)) }
+pub fn product(size: Option<usize>, count: usize) -> Result<usize, CountError>
+    ensures fits { MatchResult result (λ _. FitsWord size count) (λ _. ForSome size (λ s. 2 ^ 64 ≤ s * count)) }
+    ensures bytes { IfOk result (λ b. b ≡ bytes_times size count) }
 {
     let Some(bytes) = size else {
         return Err(CountError);
     };
-    let Some(_bytes) = bytes.checked_mul(count) else {
-        return Err(CountError);
-    };
-    Ok(())
+    bytes.checked_mul(count).ok_or(CountError)
 }
 
 /// The sum of two numbers; `Err` exactly if it does not fit a word.
@@ -161,7 +160,7 @@ impl<K: IntoKey, P: Entries> Entries for InlineSum<K, P> {
     ghost shape = { λ e. EntryAt Wide (K.key e.0) e.1 (P.shape e.2) };
 
     fn enter(self, visitor: &mut Visitor<'_>) -> Result<(), Refusal> {
-        if !self.1.is_there {
+        if self.1.count == 0 {
             return Ok(());
         }
         Inside(self.0, self.1.bytes, EntriesPart(self.2)).enter(visitor)
@@ -176,7 +175,7 @@ impl<K: IntoKey, P: Entries> Entries for UniqueSum<K, P> {
     ghost shape = { λ e. EntryAt unique_width (K.key e.0) e.1 (P.shape e.2) };
 
     fn enter(self, visitor: &mut Visitor<'_>) -> Result<(), Refusal> {
-        if !self.1.is_there {
+        if self.1.count == 0 {
             return Ok(());
         }
         Unique(self.0, self.1.bytes, EntriesPart(self.2)).enter(visitor)

@@ -2,7 +2,7 @@
 #![tactic(auto, using(crate::proofs::Fields::starting))]
 
 ghost use Rattle.std.specs.Prelude.{codes};
-ghost use Rattle.std.proofs.Common.{le_refl};
+ghost use Rattle.allocative_tally.specs.Whole.{is_whole};
 ghost use Rattle.allocative_tally.specs.Shapes.{Beside, entries};
 
 use crate::field::FieldMany;
@@ -16,7 +16,7 @@ impl<A: Tallied, B: Tallied> Tallied for (A, B) {
         (Beside (entries (codes "0") A.size n (A.shape t.0 n))
         (entries (codes "1") B.size n (B.shape t.1 n))) };
 
-    ghost bounded = { λ t n. le_refl _ };
+    ghost whole = { is_whole };
 
     fn none_counted() -> Self::Tally {
         (A::none_counted(), B::none_counted())
@@ -45,7 +45,7 @@ impl<A: Tallied, B: Tallied, C: Tallied> Tallied for (A, B, C) {
         (Beside (entries (codes "1") B.size n (B.shape t.1 n))
         (entries (codes "2") C.size n (C.shape t.2 n)))) };
 
-    ghost bounded = { λ t n. le_refl _ };
+    ghost whole = { is_whole };
 
     fn none_counted() -> Self::Tally {
         (A::none_counted(), B::none_counted(), C::none_counted())
@@ -77,7 +77,7 @@ impl<A: Tallied, B: Tallied, C: Tallied, D: Tallied> Tallied for (A, B, C, D) {
         (Beside (entries (codes "2") C.size n (C.shape t.2 n))
         (entries (codes "3") D.size n (D.shape t.3 n))))) };
 
-    ghost bounded = { λ t n. le_refl _ };
+    ghost whole = { is_whole };
 
     fn none_counted() -> Self::Tally {
         (
@@ -117,7 +117,7 @@ impl<A: Tallied, B: Tallied, C: Tallied, D: Tallied, E: Tallied> Tallied for (A,
         (Beside (entries (codes "3") D.size n (D.shape t.3 n))
         (entries (codes "4") E.size n (E.shape t.4 n)))))) };
 
-    ghost bounded = { λ t n. le_refl _ };
+    ghost whole = { is_whole };
 
     fn none_counted() -> Self::Tally {
         (

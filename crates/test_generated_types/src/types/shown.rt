@@ -4,7 +4,7 @@
 ghost use Rattle.std.specs.Prelude.{Some, codes, true, ◌&&◌};
 ghost use Rattle.allocative.specs.Shows as shows;
 ghost use Rattle.allocative.specs.Levels.{both, both_levels, box_of, btree_map_of, child, field, first, hash_map_of, opened, option_in, pair_in, plain, recursive, second, vec_in};
-ghost use Rattle.std.proofs.Common.{le_refl};
+ghost use Rattle.allocative_tally.specs.Whole.{is_whole};
 ghost use Rattle.allocative_tally.specs.Shapes.{Beside, NoEntry, entries};
 ghost use Rattle.test_generated_types.specs.declared.types.Job.{out-Job};
 ghost use Rattle.test_generated_types.specs.declared.types.Json.{Json-F, out-Json};
@@ -111,7 +111,7 @@ where
         (Beside (entries (codes "values") ⟦<HashMap<K, V> as Described>⟧.size n (⟦<HashMap<K, V> as Tallied>⟧.shape t.values n))
         (entries (codes "last") ⟦<V as Described>⟧.size n (⟦<V as Tallied>⟧.shape t.last n))) };
 
-    ghost bounded = { λ t n. le_refl _ };
+    ghost whole = { is_whole };
 
     fn none_counted() -> Self::Tally {
         TableTally {
@@ -267,7 +267,7 @@ impl Tallied for Event {
         (Beside (entries (codes "shelf") ⟦<u64 as Described>⟧.size t.sale_count (⟦<u64 as Tallied>⟧.shape t.sale_shelf t.sale_count))
         (entries (codes "prices") ⟦<Vec<u64> as Described>⟧.size t.sale_count (⟦<Vec<u64> as Tallied>⟧.shape t.sale_prices t.sale_count))))) };
 
-    ghost bounded = { λ t n. le_refl _ };
+    ghost whole = { is_whole };
 
     fn none_counted() -> Self::Tally {
         EventTally {
@@ -391,7 +391,7 @@ impl Tallied for Cart {
         (Beside (entries (codes "count") ⟦<u64 as Described>⟧.size t.bought_items_count_ (⟦<u64 as Tallied>⟧.shape t.bought_items_count t.bought_items_count_))
         (entries (codes "names") ⟦<Vec<String> as Described>⟧.size t.bought_items_count_ (⟦<Vec<String> as Tallied>⟧.shape t.bought_items_names t.bought_items_count_)))) };
 
-    ghost bounded = { λ t n. le_refl _ };
+    ghost whole = { is_whole };
 
     fn none_counted() -> Self::Tally {
         CartTally {
@@ -515,7 +515,7 @@ impl Tallied for Parcel {
         NoEntry)
         (entries (codes "name") ⟦<String as Described>⟧.size t.named_count (⟦<String as Tallied>⟧.shape t.named_name t.named_count))))) };
 
-    ghost bounded = { λ t n. le_refl _ };
+    ghost whole = { is_whole };
 
     fn none_counted() -> Self::Tally {
         ParcelTally {

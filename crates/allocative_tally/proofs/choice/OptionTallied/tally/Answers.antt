@@ -1,5 +1,7 @@
 -- of an option's tally: its entry, and inside it the value's if there is one
-use Rattle.allocative_tally.proofs.Fields.{if_ok, next_case, nothing_counted, own_counted, holding}
+use Rattle.std.proofs.lemmas.Result.{MatchResult-weaker}
+use Rattle.allocative_tally.proofs.Weighing.{cannot_case}
+use Rattle.allocative_tally.proofs.Fields.{next_case, nothing_counted, own_counted, holding}
 use Rattle.allocative_tally.proofs.Sizes.{holds_nothing}
 use Rattle.allocative_tally.proofs.choice.OptionTallied.tally.Goals as goal
 
@@ -8,5 +10,6 @@ returns-in-None g c =
     rw c.in-None.is (next_case c.in_ok-declared.ensures nothing_counted (holds_nothing _))
 
 pub returns-in-Some : goal.returns-in-Some
-returns-in-Some g c = rw c.in-Some.is (if_ok c.count_own.result c.count_own.ensures (λ _ own. next_case c.in_ok-declared.ensures (own_counted own)
-    (search holding)))
+returns-in-Some g c = rw c.in-Some.is (MatchResult-weaker c.count_own.result c.count_own.ensures
+    (λ _ own. next_case c.in_ok-declared.ensures (own_counted own) (search holding))
+    (λ _ own. cannot_case (own.next _)))

@@ -1,15 +1,38 @@
 -- of the tally of `IndexMap`: its pairs, its unused places and its table
-use Rattle.std.proofs.Common.{◌≡◌, ◌-◌, arith, rules}
+use Rattle.std.proofs.Common.{◌≡◌, ◌-◌, arith, refl, rules, true}
 use Rattle.std.proofs.lemmas.Iterator.Consumers.{YieldsList-from_rest}
+use Rattle.std.proofs.lemmas.Result.{MatchResult-weaker}
 use Rattle.indexmap.specs.IndexMap.{spare}
-use Rattle.allocative_tally.proofs.Fields.{if_ok}
-use Rattle.allocative_tally.proofs.Items.{of_run, index_counted, holds_tuple, pairs_most}
+use Rattle.allocative_tally.proofs.Items.{of_run, of_every, index_counted, holds_pair, pairs_most}
+use Rattle.allocative_tally.proofs.Weighing.{cannot_case, exceeds_first, exceeds_second, exceeds_inside, exceeds_as}
+use Rattle.allocative_tally.proofs.Weighing.{stops}
+use Rattle.allocative_tally.proofs.Exceeding.{index_data_as, index_exceeds, pair_least, pairs_load, table_cannot}
 use Rattle.allocative_tally.proofs.pack.IndexMapTallied.tally.Goals as goal
+
+pub returns-in_err-add_index : goal.returns-in_err-add_index
+returns-in_err-add_index g c =
+    let unused : c.capacity.result - c.len.result ≡ spare c.args.self.now = omega arith in
+    stops c.from_residual.result _ _ c.from_residual.ensures.0 (cannot_case (exceeds_first
+    (index_exceeds _ c.args.self.now.entries
+    c.pair_size.ensures c.size.ensures (search rules) unused c.in_err-add_index.ensures (λ e. rw e refl)
+    (pairs_load g.K.Described.size g.V.Described.size (g.K.Tallied.shape c.args.tally.now.items.values.0)
+    (g.V.Tallied.shape c.args.tally.now.items.values.1) _) (pair_least g.K.Described.size g.V.Described.size
+    g.K.Allocative.may_show g.V.Allocative.may_show))))
+
+pub returns-in_err-count_pairs : goal.returns-in_err-count_pairs
+returns-in_err-count_pairs g c =
+    let all = YieldsList-from_rest _ c.iter.ensures.rest in
+    stops c.from_residual-in_err-count_pairs.result _ _ c.from_residual-in_err-count_pairs.ensures.0
+    (cannot_case (exceeds_first (exceeds_as index_data_as (exceeds_inside true 8 (exceeds_first
+    ((of_every all c.in_err-count_pairs.ensures).next c.args.tally.now.items.places.items))))))
 
 pub returns : goal.returns
 returns g c =
     let unused : c.capacity.result - c.len.result ≡ spare c.args.self.now = omega arith in
-    if_ok c.count_table.result c.count_table.ensures (λ _ table. index_counted (holds_tuple _ _ _) c.size-size.ensures (search rules) unused (search rules)
-    c.in_ok-add.ensures (of_run (YieldsList-from_rest _ c.iter.ensures.rest) c.in_ok-count_pairs.ensures.each)
+    MatchResult-weaker c.count_table.result c.count_table.ensures (λ _ table. index_counted (holds_pair _ _)
+    c.pair_size.ensures c.size.ensures
+    (search rules) unused (search rules) c.in_ok-add_index.ensures
+    (of_run (YieldsList-from_rest _ c.iter.ensures.rest) c.in_ok-count_pairs.ensures)
     (λ z i. pairs_most _ _ i (g.K.Tallied.shape c.args.tally.now.items.values.0)
-    (g.V.Tallied.shape c.args.tally.now.items.values.1) (holds_tuple _ _ _)) table)
+    (g.V.Tallied.shape c.args.tally.now.items.values.1) (holds_pair _ _)) table)
+    (λ _ table. cannot_case (exceeds_second (table_cannot (search rules) table)))

@@ -1,0 +1,14 @@
+-- of add_index: the bytes of all fit a word, or do not
+use Rattle.std.proofs.Common.{arith}
+use Rattle.allocative_tally.proofs.Items.{index_adds, index_cannot}
+use Rattle.allocative_tally.proofs.Weighing.{stops}
+use Rattle.allocative_tally.proofs.pack.add_index.Goals as goal
+
+pub returns-in_err-added : goal.returns-in_err-added
+returns-in_err-added c = stops c.from_residual-in_err-added.result _ _ c.from_residual-in_err-added.ensures.0
+    (index_cannot c.in_ok-add_full.ensures c.in_ok-spare.ensures.fits c.in_ok-spare.ensures.bytes c.in_ok-bytes.ensures
+    c.bytes_of-all.ensures c.in_err-added.ensures)
+
+pub returns : goal.returns
+returns c = index_adds c.in_ok-add_full.ensures c.in_ok-spare.ensures.fits c.in_ok-spare.ensures.bytes
+    c.in_ok-bytes.ensures c.bytes_of-all.ensures (omega arith)
