@@ -189,8 +189,7 @@ pub record HoldsOfEveryRun {S A B : Type 0} (steps : S → Option A → S → Ty
   pub along : (xs : List B) → AlwaysYields steps v s xs → r xs
 
 -- A buffer with so many items of a declared size was added, and unused places of another: the bytes of the places
--- before
--- and then, and those of all items and places fit a word.
+-- before and then, and those of all items and places fit a word.
 pub record AddsIndex (item place : Option ℕ) (used spare : ℕ) (old : Places) (before : ℕ) (new : Places) (after : ℕ) :
     Type 0
   where

@@ -54,9 +54,8 @@ impl<S: Drop> IndexTally<S> {
     }
 }
 
-// Adds a buffer of so many items of a declared size, with unused places of another, whose bytes are added to those
-// before.
-// It returns `Err` exactly if a size is missing, or a number or the bytes of all do not fit a word.
+// Adds a buffer of so many items of a declared size, and the bytes of so many unused places of another. It returns `Err`
+// exactly if a size is missing, or a number or the bytes of all do not fit a word.
 fn add_index(
     places: &mut Places,
     bytes: &mut usize,

@@ -51,8 +51,7 @@ impl Places {
     }
 
     /// Adds a buffer of so many items of a declared size, where no place is unused. It returns `Err` exactly if the
-    /// size
-    /// is missing, or a number or the bytes of all items do not fit a word.
+    /// size is missing, or a number or the bytes of all items do not fit a word.
     #[inline(always)]
     pub fn add_full(&mut self, size: Option<usize>, items: usize) -> Result<(), CountError>
         ensures { MatchResult result (λ _. AddsItems size items self.old self.new)

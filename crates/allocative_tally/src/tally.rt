@@ -32,8 +32,7 @@ pub trait Tallied: Allocative + Described {
         ensures { EntersShape (Self.shape tally.now count) visitor.old visitor.new result };
 
     /// Counts what the value shows beyond its number. It returns `Err` only if a declared size is missing, or the bytes
-    /// and
-    /// entries of the value and of those before it exceed a word. Discard the tally then.
+    /// and entries of the value and of those before it exceed a word. Discard the tally then.
     fn tally(&self, tally: &mut Self::Tally) -> Result<(), CountError>
         ensures { MatchResult result
             (λ _. TalliesNext Self.size (Self.may_show self.now) (Self.shape tally.old) (Self.shape tally.new))
