@@ -11,13 +11,10 @@ use std::alloc::{AllocError, Global};
 use std::collections::{BTreeMap, BTreeSet, HashMap, HashSet, VecDeque};
 use std::test::Fail;
 
-type Lists = (
-    Vec<(u8, Option<Box<u64>>)>,
-    VecDeque<[u16; 2]>,
-    Slab<Box<u32>>,
-    SmallVec<u64, 2>,
-    Either<String, Result<u8, u16>>,
-);
+/// Pairs, one of which points to a number.
+fn pairs(alloc: Global) -> Result<Vec<(u8, Option<Box<u64>>)>, AllocError> {
+    Ok(vec![in alloc; (1, Some(Box::new(alloc, 2)?)), (3, None)]?)
+}
 
 fn slab(alloc: Global) -> Result<Slab<Box<u32>>, AllocError> {
     let mut slab = Slab::new(alloc);
@@ -25,50 +22,34 @@ fn slab(alloc: Global) -> Result<Slab<Box<u32>>, AllocError> {
     Ok(slab)
 }
 
-fn lists(alloc: Global) -> Result<Lists, AllocError> {
-    Ok((
-        vec![in alloc; (1, Some(Box::new(alloc, 2)?)), (3, None)]?,
-        [[4, 5]].into_iter().collect(alloc)?,
-        slab(alloc)?,
-        [7, 8, 9].into_iter().collect(alloc)?,
-        Either::Right(Err(10)),
-    ))
-}
-
-type Tables = (
-    HashMap<u8, u8>,
-    HashSet<u32>,
-    BTreeMap<u32, u64>,
-    BTreeSet<u32>,
-    (IndexMap<u8, u64>, IndexSet<u32>),
-);
-
-fn tables(alloc: Global) -> Result<Tables, AllocError> {
-    let hashed = [(1, 2), (3, 4)].into_iter().collect(alloc)?;
-    let ordered = [(5, 6)].into_iter().collect(alloc)?;
-    let inserted = [(7, 8)].into_iter().collect(alloc)?;
-    Ok((
-        hashed,
-        [9].into_iter().collect(alloc)?,
-        ordered,
-        [10].into_iter().collect(alloc)?,
-        (inserted, [11].into_iter().collect(alloc)?),
-    ))
-}
-
-/// Fails if counting changes the text of a value.
-fn is_counted<T: Tallied>(alloc: Global, value: &T) -> Result<(), Fail> {
-    let entered = profile_value(alloc, value)?.flamegraph().write()?;
-    let counted = profile_counted(alloc, value)?.flamegraph().write()?;
+/// Fails if a value was not made, or if counting changes its text.
+fn is_counted<T: Tallied, E: Drop>(alloc: Global, made: Result<T, E>) -> Result<(), Fail> {
+    let Ok(value) = made else {
+        return Err(Fail::new("no value"));
+    };
+    let entered = profile_value(alloc, &value)?.flamegraph().write()?;
+    let counted = profile_counted(alloc, &value)?.flamegraph().write()?;
     is_text(counted.as_str(), entered.as_str())
 }
 
 #[test]
 fn lists_are_counted(rt: HostRuntime) -> Result<(), Fail> {
-    is_counted(rt.alloc(), &lists(rt.alloc())?)
+    let alloc = rt.alloc();
+    is_counted(alloc, pairs(alloc))?;
+    is_counted(alloc, slab(alloc))?;
+    is_counted::<VecDeque<[u16; 2]>, _>(alloc, [[4, 5]].into_iter().collect(alloc))?;
+    is_counted::<SmallVec<u64, 2>, _>(alloc, [7, 8, 9].into_iter().collect(alloc))?;
+    let choice: Either<String, Result<u8, u16>> = Either::Right(Err(10));
+    is_counted(alloc, Ok::<_, AllocError>((choice, 1u8, 2u16, 3u32, true)))
 }
 
 #[test]
 fn tables_are_counted(rt: HostRuntime) -> Result<(), Fail> {
-    is_counted(rt.alloc(), &tables(rt.alloc())?)
+    let alloc = rt.alloc();
+    is_counted::<HashMap<u8, u8>, _>(alloc, [(1, 2), (3, 4)].into_iter().collect(alloc))?;
+    is_counted::<HashSet<u32>, _>(alloc, [9].into_iter().collect(alloc))?;
+    is_counted::<BTreeMap<u32, u64>, _>(alloc, [(5, 6)].into_iter().collect(alloc))?;
+    is_counted::<BTreeSet<u32>, _>(alloc, [10].into_iter().collect(alloc))?;
+    is_counted::<IndexMap<u8, u64>, _>(alloc, [(7, 8)].into_iter().collect(alloc))?;
+    is_counted::<IndexSet<u32>, _>(alloc, [11].into_iter().collect(alloc))
 }

@@ -1,5 +1,5 @@
 //! The text of types by hand, of `example_types`, and of those whose implementations `bin/implement` wrote.
-use crate::texts::{is_output, is_text, made, show, shows};
+use crate::texts::{is_output, is_text, made, show};
 use allocative::{Key, Named as Root, Refusal, profile_values};
 use bytes::Bytes;
 use example_types::enums::Request;
@@ -153,10 +153,8 @@ fn roots_of_one_type(rt: HostRuntime) -> Result<(), Fail> {
     is_text(text_of_sensors(rt.alloc())?.as_str(), text)
 }
 
-fn received(alloc: Global) -> Result<Received, Fail> {
-    let Ok(callback) = Url::parse(alloc, "http://a/") else {
-        return Err(Fail::new("no link"));
-    };
+fn received(alloc: Global) -> Result<Received, AllocError> {
+    let callback = Url::parse(alloc, "http://a/").or(Err(AllocError))?;
     Ok(Received {
         id: Uuid::nil(),
         callback,
@@ -167,42 +165,11 @@ fn received(alloc: Global) -> Result<Received, Fail> {
     })
 }
 
-#[test]
-fn fields_without_an_implementation(rt: HostRuntime) -> Result<(), Fail> {
-    let text =
-        "Received 7\nReceived;body;Bytes 24\nReceived;body;Bytes;ptr 8\nReceived;body;Bytes;ptr;u8 4\nReceived;callback;Url 80\nReceived;callback;Url;ptr 8\nReceived;callback;Url;ptr;u8 9\nReceived;file;PathBuf 16\nReceived;file;PathBuf;ptr 8\nReceived;file;PathBuf;ptr;u8 3\nReceived;id;Uuid 16\nReceived;peer;SocketAddr 32\nReceived;tried;Option 17\n";
-    shows(rt.alloc(), &received(rt.alloc())?, text)
-}
-
 fn event(alloc: Global) -> Result<Event, AllocError> {
     Ok(Event::Sale {
         shelf: 3,
         prices: vec![in alloc; 4, 5]?,
     })
-}
-
-fn table(alloc: Global) -> Table<u32, u16> {
-    Table {
-        values: HashMap::new(alloc),
-        last: 1,
-    }
-}
-
-fn found(alloc: Global) -> Found<'static, 2> {
-    Found(1, 2, 3, [4, 5], BTreeMap::new(alloc), 0.5, "ab")
-}
-
-#[test]
-fn written_structs_and_enums(rt: HostRuntime) -> Result<(), Fail> {
-    let alloc = rt.alloc();
-    let text =
-        "Event 8\nEvent;Sale;prices;Vec 16\nEvent;Sale;prices;Vec;ptr 8\nEvent;Sale;prices;Vec;ptr;u64 16\nEvent;Sale;shelf;u64 8\n";
-    shows(alloc, &event(alloc)?, text)?;
-    let text = "Table 6\nTable;last;u16 2\nTable;values;HashMap 40\nTable;values;HashMap;data 8\n";
-    shows(alloc, &table(alloc), text)?;
-    let text =
-        "Found 21\nFound;0;u8 1\nFound;1;u8 1\nFound;2;u8 1\nFound;3;u32;data;u32 8\nFound;4;BTreeMap 16\nFound;4;BTreeMap;data 8\nFound;5 8\n";
-    shows(alloc, &found(alloc), text)
 }
 
 /// A pair of nothing and of a list with an empty table.
@@ -230,12 +197,28 @@ fn job(alloc: Global) -> Result<Job, AllocError> {
 }
 
 #[test]
-fn written_types_that_hold_themselves(rt: HostRuntime) -> Result<(), Fail> {
+fn written_types(rt: HostRuntime) -> Result<(), Fail> {
     let alloc = rt.alloc();
     let text =
+        "Received 7\nReceived;body;Bytes 24\nReceived;body;Bytes;ptr 8\nReceived;body;Bytes;ptr;u8 4\nReceived;callback;Url 80\nReceived;callback;Url;ptr 8\nReceived;callback;Url;ptr;u8 9\nReceived;file;PathBuf 16\nReceived;file;PathBuf;ptr 8\nReceived;file;PathBuf;ptr;u8 3\nReceived;id;Uuid 16\nReceived;peer;SocketAddr 32\nReceived;tried;Option 17\n";
+    made(alloc, received(alloc), text)?;
+    let text =
+        "Event 8\nEvent;Sale;prices;Vec 16\nEvent;Sale;prices;Vec;ptr 8\nEvent;Sale;prices;Vec;ptr;u64 16\nEvent;Sale;shelf;u64 8\n";
+    made(alloc, event(alloc), text)?;
+    let table: Table<u32, u16> = Table {
+        values: HashMap::new(alloc),
+        last: 1,
+    };
+    let text = "Table 6\nTable;last;u16 2\nTable;values;HashMap 40\nTable;values;HashMap;data 8\n";
+    made(alloc, Ok::<_, AllocError>(table), text)?;
+    let found: Found<'static, 2> = Found(1, 2, 3, [4, 5], BTreeMap::new(alloc), 0.5, "ab");
+    let text =
+        "Found 21\nFound;0;u8 1\nFound;1;u8 1\nFound;2;u8 1\nFound;3;u32;data;u32 8\nFound;4;BTreeMap 16\nFound;4;BTreeMap;data 8\nFound;5 8\n";
+    made(alloc, Ok::<_, AllocError>(found), text)?;
+    let text =
         "Json 8\nJson;Pair;first;Option 8\nJson;Pair;first;Option;Some;Box;ptr 8\nJson;Pair;first;Option;Some;Box;ptr;Json 48\nJson;Pair;rest;Vec 16\nJson;Pair;rest;Vec;ptr 8\nJson;Pair;rest;Vec;ptr;Json 24\nJson;Pair;rest;Vec;ptr;Json;Table;BTreeMap 16\nJson;Pair;rest;Vec;ptr;Json;Table;BTreeMap;data 8\n";
-    shows(alloc, &json(alloc)?, text)?;
+    made(alloc, json(alloc), text)?;
     let text =
         "Job;earlier_by_number;HashMap 40\nJob;earlier_by_number;HashMap;data 8\nJob;payload;Payload 8\nJob;payload;Payload;Done;Option 8\nJob;payload;Payload;Done;Option;Some;Trigger 8\nJob;payload;Payload;Done;Option;Some;Trigger;Done;job;Box;ptr 8\nJob;payload;Payload;Done;Option;Some;Trigger;Done;job;Box;ptr;Job;earlier_by_number;HashMap 40\nJob;payload;Payload;Done;Option;Some;Trigger;Done;job;Box;ptr;Job;earlier_by_number;HashMap;data 8\nJob;payload;Payload;Done;Option;Some;Trigger;Done;job;Box;ptr;Job;payload;Payload 40\nJob;payload;Payload;Done;Option;Some;Trigger;Done;within_seconds;u64 8\n";
-    shows(alloc, &job(alloc)?, text)
+    made(alloc, job(alloc), text)
 }
