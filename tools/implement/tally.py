@@ -26,6 +26,8 @@ HOMES["tally"] = {"CountError", "Entries", "InlineSum", "Sum", "Tallied", "added
 SHAPES = {"Beside", "NoEntry", "entries"}
 NAMED_LENGTH = re.compile(r"; *[A-Za-z_]")
 HUMP = re.compile(r"(?<=[a-z0-9])(?=[A-Z])")
+# Gives the goal and the proof at a step that fails, from a proof of why, in which `{}` is what the step ensures.
+Failed = Callable[[str, str], tuple[str, str]]
 
 
 class Part(NamedTuple):
@@ -268,7 +270,9 @@ class Tally:
         """The proofs of what is counted, each with the name of its goal."""
         if not self.definition.is_enum:
             found = [("returns", self.whole("next_whole", fields(self.root.inside, "")))]
-            return found + self.refused(self.root.inside, "", 1, "cannot_field {}", "(cannot_field {})")
+            return found + self.refused(
+                self.root.inside, "", 1, "cannot", lambda step, why: stopped(step, f"cannot_field {why}")
+            )
         found = []
         for (variant, part), fact in zip(self.arms, self.writer.facts):
             arm = f"-in-{variant.name}" if self.arms[1:] else ""
@@ -288,38 +292,37 @@ class Tally:
             found.append((goal, f"next_as (rw {fact} as_itself)\n    ({self.whole('next_case', proof)})"))
         return found
 
-    def refused(self, parts: tuple[Part, ...], arm: str, start: int, whole: str, value: str) -> list[tuple[str, str]]:
-        """The proofs for fields that cannot be counted, in an arm, by steps that are numbered from a start."""
-        found = []
-        for number, part in enumerate((each for each in parts if each.kind), start):
-            step = f"tally{arm}{ordinal(number)}"
-            lemma = f"({value.split('_')[0][1:]}_{{}} {{}})"
-            fact = "e" if "λ e." in whole else f"c.in_err-{step}.ensures"
-            place = placed(parts, part, value.format(fact), lemma)
-            found.append((f"returns-in_err-{step}", stopped(step, whole.format(place, step=step))))
-        return found
+    def refused(self, parts: tuple[Part, ...], arm: str, start: int, lemma: str, failed: Failed) -> list[tuple[str, str]]:
+        """The proofs for fields that cannot be counted, in an arm, by steps that are numbered from a start.
+
+        `lemma` is how the names of the lemmas begin, and `failed` gives the proof for the value.
+        """
+        steps = enumerate((each for each in parts if each.kind), start)
+        why = f"({lemma}_field {{}})"
+        return [failed(f"tally{arm}{ordinal(at)}", placed(parts, part, why, f"({lemma}_{{}} {{}})")) for at, part in steps]
 
     def refused_arm(self, part: Part, arm: str, fact: str) -> list[tuple[str, str]]:
         """The proofs for the part of a variant that cannot be counted."""
         place = placed(self.root.inside, part, "{}", "(exceeds_{} {})", ("left", "right"))
-        whole = f"rw {fact}\n    (cannot_case {place})"
-        # The value of an only variant is known by an equation of the whole, which rewrites what is known of it too.
-        alone = f"from_fact c.in_err-{{step}}.ensures\n    (rw {fact}\n    (λ e. cannot_case {place}))"
-        valued = whole if arm else alone
-        if part.is_own:
-            step = f"count_own{arm}"
-            known = f"(c.in_err-{step}.ensures.next _)" if arm else "(e.next _)"
-            return [(f"returns-in_err-{step}", stopped(step, valued.format(known, step=step)))]
+
+        def failed(step: str, why: str) -> tuple[str, str]:
+            if arm:
+                return stopped(step, f"rw {fact}\n    (cannot_case {place.format(why)})", "({}.next _)")
+            # The value of an only variant is known by an equation of the whole, which rewrites what is known of it too.
+            case = f"(rw {fact}\n    (λ e. cannot_case {place.format(why.format('(e.next _)'))}))"
+            return stopped(step, f"from_fact {{}}\n    {case}")
+
+        def full(step: str, why: str) -> tuple[str, str]:
+            return stopped(step, f"rw {fact}\n    (cannot_case {place.format(why)})")
+
         step = f"tally{arm}"
+        if part.is_own:
+            return [failed(f"count_own{arm}", "{}")]
         if part.bytes is not None:
-            return [(f"returns-in_err-{step}", stopped(step, whole.format("(exceeds_sum false _ (omega arith))")))]
-        full = whole.format(f"(exceeds_full c.in_err-{step}.ensures)")
-        found = [(f"returns-in_err-{step}", stopped(step, full))]
-        declared = f"declared{arm or '-2'}"
-        missing = whole.format(f"(exceeds_missing c.in_err-{declared}.ensures)")
-        found.append((f"returns-in_err-{declared}", stopped(declared, missing)))
-        inside = valued.format("(exceeds_field {})", step="{step}")
-        return found + self.refused(part.inside, arm, 2, inside, "(exceeds_field ({}.next _))")
+            return [full(step, "(exceeds_sum false _ (omega arith))")]
+        found = [full(step, "(exceeds_full {})"), full(f"declared{arm or '-2'}", "(exceeds_missing {})")]
+        inside = self.refused(part.inside, arm, 2, "exceeds", lambda step, why: failed(step, f"(exceeds_field {why})"))
+        return found + inside
 
     def whole(self, lemma: str, inside: str) -> str:
         """The proof for the entry of a value, from that for what is inside it."""
@@ -358,7 +361,8 @@ def placed(
     return within(paired([*parts], lambda one, later: [one, later], None))
 
 
-def stopped(step: str, proof: str) -> str:
-    """The proof at the exit of a `?`, from that for the error."""
+def stopped(step: str, proof: str, fact: str = "{}") -> tuple[str, str]:
+    """The goal at the exit of a `?`, and its proof from that for the error, in which `{}` is a fact of what failed."""
     residual = f"c.from_residual-in_err-{step}"
-    return f"stops {residual}.result _ _ {residual}.ensures.0\n    ({proof})"
+    proof = proof.format(fact.format(f"c.in_err-{step}.ensures"))
+    return f"returns-in_err-{step}", f"stops {residual}.result _ _ {residual}.ensures.0\n    ({proof})"
