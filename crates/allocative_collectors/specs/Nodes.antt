@@ -1,6 +1,6 @@
 -- The nodes of a tree, as plain values, and the numbers of their children, as one list or in chunks.
 use Rattle.std.specs.Prelude.{◌≡◌, ℕ, ◌-◌, ◌^◌, ◌<◌, ◌≤◌, List, [], ◌∷◌, ◌++◌, Bool, false, slice_index, slice_index_or}
-use Rattle.std.specs.Prelude.{length, map, ◌+◌, take, zero, suc}
+use Rattle.std.specs.Prelude.{length, map, ◌+◌, take}
 use Rattle.std.specs.List.{All, flat_map}
 use Rattle.std.specs.declared.cmp.Ordering.TheVariants.{Less, Greater}
 use Rattle.allocative_graph.specs.Path.{Key, Path, key_cmp}
@@ -122,7 +122,7 @@ pub record IsKeyGap (ks : List Key) (k : Key) (i : ℕ) : Type 0 where
 -- ---- numbers and places among them
 -- The numbers of a chunk.
 abbrev pub numbers_in : Chunk → List ℕ
-numbers_in c = c.first ∷ c.rest.items
+numbers_in c = c.numbers.items
 
 -- The numbers of some chunks.
 abbrev pub flat : List Chunk → List ℕ
@@ -148,9 +148,7 @@ before cs i = length (flat (take i cs))
 
 -- The numbers of chunk i; none if there is no such chunk.
 abbrev pub chunk_at : List Chunk → ℕ → List ℕ
-chunk_at [] i = []
-chunk_at (c ∷ cs) zero = numbers_in c
-chunk_at (c ∷ cs) (suc i) = chunk_at cs i
+chunk_at cs i = slice_index_or (map numbers_in cs) i []
 
 -- The place is that of a number of a chunk, or behind the last one.
 abbrev pub IsPlaceIn : List Chunk → Place → Type 0

@@ -26,14 +26,13 @@ pub(crate) enum Children {
     Many(Box<Vec<Chunk>>),
 }
 
-/// Numbers that follow one another. There is at least one.
+/// Numbers that follow one another. There is at least one, which no proof needs.
 #[derive(Drop)]
 pub(crate) struct Chunk {
-    pub(crate) first: u32,
-    pub(crate) rest: Vec<u32>,
-    /// The start of the first number's key. A guess, as are those of the others; callers check them.
+    pub(crate) numbers: Vec<u32>,
+    /// The start of the first number's key. A guess, as are all starts; callers check them.
     pub(crate) start: u64,
-    /// The starts of the others' keys, from the first one on, as far as they are known.
+    /// The starts of the numbers' keys, from the first one on, as far as they are known.
     pub(crate) starts: Vec<u64>,
 }
 
@@ -74,8 +73,7 @@ impl Children {
             return Ok(self.as_list());
         };
         for chunk in chunks.as_slice() {
-            copies.push(chunk.first)?;
-            copies.extend_from_slice(chunk.rest.as_slice())?;
+            copies.extend_from_slice(chunk.numbers.as_slice())?;
         }
         Ok(copies.as_slice())
     }
@@ -155,66 +153,56 @@ fn four(
 }
 
 impl Chunk {
-    /// The number at an index.
-    pub(crate) fn get(&self, index: usize) -> Option<u32>
-        ensures { IfSome result (λ number. slice_get (numbers_in self.now) index ≡ Some number) }
-    {
-        match index.checked_sub(1) {
-            Some(behind) => self.rest.get(behind).copied(),
-            None => Some(self.first),
-        }
-    }
-
-    /// The last number.
-    fn last(&self) -> u32
-        ensures { result ≡ slice_index_or (numbers_in self.now) (length self.now.rest.items) 0 }
-    {
-        match self.rest.last() {
-            Some(number) => *number,
-            None => self.first,
-        }
-    }
-
     // Puts a number at a place of the chunk, with the start of its key.
     fn insert(&mut self, index: usize, number: u32, start: u64) -> Result<(), AllocError>
         requires { index ≤ length (numbers_in self.old) }
         ensures ok { OnOk result (numbers_in self.new ≡ insert (numbers_in self.old) index number) }
         ensures err { OnErr result (numbers_in self.new ≡ numbers_in self.old) }
     {
+        self.numbers.insert(index, number)?;
         if index == 0 {
-            self.rest.insert(0, self.first)?;
-            put_start(&mut self.starts, 0, self.start);
-            self.first = number;
             self.start = start;
-        } else {
-            self.rest.insert(index - 1, number)?;
-            put_start(&mut self.starts, index - 1, start);
         }
+        put_start(&mut self.starts, index, start);
         Ok(())
     }
 
     // Takes the upper half of the numbers away. The only error is that memory runs out, and then the numbers are as they
     // were; some starts may be forgotten.
     fn cut(&mut self) -> Result<Chunk, AllocError>
-        requires { 0 < length self.old.rest.items }
         ensures ok { IfOk result
             (λ upper. numbers_in self.old ≡ numbers_in self.new ++ numbers_in upper) }
         ensures err { OnErr result (numbers_in self.new ≡ numbers_in self.old) }
     {
-        let half = self.rest.len() / 2;
-        let known = self.starts.len().min(half + 1);
+        let half = self.numbers.len() / 2;
+        let known = self.starts.len().min(half);
         let starts = self.starts.split_off(known)?;
-        // The last start that is left is that of the upper half's first number.
-        let start = self.starts.pop().unwrap_or(self.start);
-        let mut rest = self.rest.split_off(half)?;
-        let first = rest.remove(0);
+        let numbers = self.numbers.split_off(half)?;
+        // If the start of the upper half's first number was forgotten, the last one before it stands for it.
+        let start = *starts.first().or(self.starts.last()).unwrap_or(&self.start);
         Ok(Chunk {
-            first,
-            rest,
+            numbers,
             start,
             starts,
         })
     }
+}
+
+/// The number at a place. That at the end of a chunk is the first one of the next chunk.
+pub(crate) fn number_at(chunks: &[Chunk], place: Place) -> Option<u32>
+    ensures place { IfSome result (λ number. IsPlaceIn chunks.now place) }
+    ensures number { IfSome result
+        (λ number. slice_get (flat chunks.now) (place_in chunks.now place) ≡ Some number) }
+{
+    let chunk = chunks.get(place.chunk)?;
+    if let Some(number) = chunk.numbers.get(place.index) {
+        return Some(*number);
+    }
+    if place.index != chunk.numbers.len() {
+        return None;
+    }
+    let next = chunks.get(place.chunk + 1)?;
+    Some(*next.numbers.first()?)
 }
 
 /// The last number of the chunks, and the place behind it: in a new chunk, if the last one is full.
@@ -225,9 +213,9 @@ pub(crate) fn last_in(chunks: &[Chunk]) -> Option<(u32, Place)>
     ensures behind { IfSome result (λ end. place_in chunks.now end.1 ≡ length (flat chunks.now)) }
 {
     let chunk = chunks.len().checked_sub(1)?;
-    let end = &chunks[chunk];
-    let number = end.last();
-    let index = end.rest.len() + 1;
+    let numbers = chunks[chunk].numbers.as_slice();
+    let number = *numbers.last()?;
+    let index = numbers.len();
     if index < LONGEST_CHUNK {
         return Some((number, Place { chunk, index }));
     }
@@ -256,32 +244,6 @@ fn put_start(starts: &mut Vec<u64>, index: usize, start: u64) {
     }
 }
 
-/// A list as one chunk, with the starts of the keys. The only error is that memory runs out.
-pub(crate) fn one_chunk(
-    alloc: Global,
-    list: &[u32],
-    mut starts: Vec<u64>,
-) -> Result<Vec<Chunk>, AllocError>
-    ensures { IfOk result (λ chunks. flat chunks.items ≡ list.now) }
-{
-    let mut chunks = Vec::with_capacity(alloc, 2)?;
-    if let Some((first, rest)) = list.split_first() {
-        let rest = Vec::from_slice(alloc, rest)?;
-        let start = if starts.is_empty() {
-            0
-        } else {
-            starts.remove(0)
-        };
-        chunks.push(Chunk {
-            first: *first,
-            rest,
-            start,
-            starts,
-        })?;
-    }
-    Ok(chunks)
-}
-
 // Puts a number at a place of the chunks, with the start of its key.
 #[inline(never)]
 fn insert_in(
@@ -301,11 +263,11 @@ fn insert_in(
         };
         cut_at(chunks, place.chunk);
     } else {
-        let rest = Vec::new(*chunks.allocator());
-        let starts = Vec::new(*chunks.allocator());
+        let alloc = *chunks.allocator();
+        let numbers = Vec::from_slice(alloc, &[number])?;
+        let starts = Vec::from_slice(alloc, &[start])?;
         chunks.push(Chunk {
-            first: number,
-            rest,
+            numbers,
             start,
             starts,
         })?;
@@ -318,7 +280,7 @@ fn cut_at(chunks: &mut Vec<Chunk>, at: usize)
     requires { at < length chunks.old.items }
     ensures { flat chunks.new.items ≡ flat chunks.old.items }
 {
-    if chunks[at].rest.len() < LONGEST_CHUNK || chunks.reserve(1).is_err() {
+    if chunks[at].numbers.len() <= LONGEST_CHUNK || chunks.reserve(1).is_err() {
         return;
     }
     let Ok(upper) = chunks[at].cut() else {

@@ -10,7 +10,7 @@ ghost use Rattle.allocative_collectors.specs.Places.{AddedAt, TellsWhy};
 ghost use Rattle.allocative_collectors.specs.Warned.{size_at_place, is_short, MakesGraph, MakesGraphAlone, warning_of};
 ghost use Rattle.allocative_collectors.specs.Nodes.{leaf, bytes_at, keys_of, key_at, KeysRise, HasKey, IsKeyGap, numbers, numbers_in, flat, IsPlace, IsPlaceIn, place_in, flat_place, shape, IsTree};
 
-use crate::children::{Children, Chunk, LONGEST_LIST, Place, last_in, one_chunk, start_of};
+use crate::children::{Children, Chunk, LONGEST_LIST, Place, last_in, number_at, start_of};
 use crate::output::{FlameGraphOutput, WarnedPath};
 use allocative_graph::flamegraph::{FlameGraph, push_child};
 use allocative_graph::key::Key;
@@ -423,8 +423,8 @@ fn search_list(nodes: &[Node], list: &[u32], key: &Key) -> Result<u32, usize>
     }
 }
 
-/// The same for numbers in chunks. The starts of the keys give a place, which is tested. If it is not the one, the keys
-/// alone are searched.
+/// The same for numbers in chunks. The starts of the keys give a place, which is tested. If it is not the one, all chunks
+/// are searched by the keys alone.
 #[inline(never)]
 fn find_in_chunks(nodes: &[Node], chunks: &[Chunk], key: &Key) -> Result<u32, Place>
     requires rise { KeysRise (keys_of (map shape nodes.now) (flat chunks.now)) }
@@ -450,10 +450,9 @@ fn find_in_chunks(nodes: &[Node], chunks: &[Chunk], key: &Key) -> Result<u32, Pl
 fn guess_place(nodes: &[Node], chunks: &[Chunk], key: &Key) -> Place {
     let start = start_of(key.as_str());
     let after = chunks.partition_point(|chunk: &Chunk| -> bool {
-        if chunk.start == start {
-            compare(nodes, chunk.first, key).is_lt()
-        } else {
-            chunk.start < start
+        match chunk.numbers.first() {
+            Some(first) if chunk.start == start => compare(nodes, *first, key).is_lt(),
+            _ => chunk.start < start,
         }
     });
     match after.checked_sub(1) {
@@ -465,15 +464,15 @@ fn guess_place(nodes: &[Node], chunks: &[Chunk], key: &Key) -> Place {
     }
 }
 
-/// The index of that place in its chunk, whose first key comes before. A guess; callers check it.
+/// The index of that place in its chunk. A guess; callers check it.
 fn guess_index(nodes: &[Node], chunk: &Chunk, key: &Key, start: u64) -> usize {
     let mut low = 0;
-    let mut high = chunk.rest.len();
+    let mut high = chunk.numbers.len();
     while low < high {
         let middle = low + (high - low) / 2;
         let is_less = match chunk.starts.get(middle) {
             Some(known) if *known != start => *known < start,
-            _ => compare(nodes, chunk.rest[middle], key).is_lt(),
+            _ => compare(nodes, chunk.numbers[middle], key).is_lt(),
         };
         if is_less {
             low = middle + 1;
@@ -481,7 +480,7 @@ fn guess_index(nodes: &[Node], chunk: &Chunk, key: &Key, start: u64) -> usize {
             high = middle;
         }
     }
-    low + 1
+    low
 }
 
 /// What a search finds if it ends at this place. None if it may end elsewhere.
@@ -493,31 +492,33 @@ fn find_at(nodes: &[Node], chunks: &[Chunk], key: &Key, place: Place) -> Option<
     ensures absent { IfSome result (λ end. IfErr end (λ place.
         IsKeyGap (keys_of (map shape nodes.now) (flat chunks.now)) key.now (place_in chunks.now place))) }
 {
-    let chunk = chunks.get(place.chunk)?;
-    let number = chunk.get(place.index)?;
+    let number = number_at(chunks, place)?;
     match compare(nodes, number, key) {
         Ordering::Equal => Some(Ok(number)),
-        Ordering::Greater if is_behind(nodes, chunk, place, key) => Some(Err(place)),
+        Ordering::Greater if is_behind(nodes, chunks, key, place) => Some(Err(place)),
         _ => None,
     }
 }
 
-/// Whether the number before a place of the chunk has a smaller key, or there is none.
-fn is_behind(nodes: &[Node], chunk: &Chunk, place: Place, key: &Key) -> bool
-    ensures start { IsTrue result → place.index ≡ 0 → place.chunk ≡ 0 }
-    ensures smaller { IsTrue result → (j : ℕ) → place.index ≡ j + 1 → key_cmp
-        (key_at (map shape nodes.now) (slice_index_or (numbers_in chunk.now) j 0)) key.now ≡ Ordering.Less }
+/// Whether the number before a place has a smaller key, or there is none.
+fn is_behind(nodes: &[Node], chunks: &[Chunk], key: &Key, place: Place) -> bool
+    ensures { IsTrue result → (j : ℕ) → place_in chunks.now place ≡ j + 1 → key_cmp
+        (key_at (map shape nodes.now) (slice_index_or (flat chunks.now) j 0)) key.now ≡ Ordering.Less }
 {
-    match place.index.checked_sub(1) {
-        Some(before) => match chunk.get(before) {
-            Some(number) => compare(nodes, number, key).is_lt(),
-            None => false,
-        },
-        None => place.chunk == 0,
+    let Some(index) = place.index.checked_sub(1) else {
+        return place.chunk == 0;
+    };
+    let chunk = place.chunk;
+    match number_at(chunks, Place { chunk, index }) {
+        Some(number) => compare(nodes, number, key).is_lt(),
+        None => false,
     }
 }
 
-/// What `find_in_chunks` finds, by the keys alone. First the chunk is found, by the key of its first number.
+/// What `find_in_chunks` finds, by the keys alone: one chunk after the other is searched. The starts of the keys mostly
+/// give the right place, so that this is needed only after starts were forgotten.
+#[cold]
+#[inline(never)]
 fn search_chunks(nodes: &[Node], chunks: &[Chunk], key: &Key) -> Result<u32, Place>
     requires rise { KeysRise (keys_of (map shape nodes.now) (flat chunks.now)) }
     ensures found { IfOk result (HasKey (map shape nodes.now) (flat chunks.now) key.now) }
@@ -525,26 +526,18 @@ fn search_chunks(nodes: &[Node], chunks: &[Chunk], key: &Key) -> Result<u32, Pla
     ensures absent { IfErr result (λ place.
         IsKeyGap (keys_of (map shape nodes.now) (flat chunks.now)) key.now (place_in chunks.now place)) }
 {
-    let after = match chunks.binary_search_by(
-        |chunk: &Chunk| -> Ordering
-            ensures { result
-                ≡ key_cmp (key_at (map shape nodes.entry.now) chunk.entry.now.first) key.entry.now }
-        { compare(nodes, chunk.first, key) },
-    ) {
-        Ok(chunk) => return Ok(chunks[chunk].first),
-        Err(after) => after,
-    };
-    if after == 0 {
-        return Err(Place { chunk: 0, index: 0 });
+    for chunk in 0..chunks.len() {
+        let numbers = chunks[chunk].numbers.as_slice();
+        match find_in_list(nodes, numbers, key) {
+            Ok(number) => return Ok(number),
+            Err(index) if index < numbers.len() => return Err(Place { chunk, index }),
+            Err(_) => {}
+        }
     }
-    let chunk = after - 1;
-    match find_in_list(nodes, chunks[chunk].rest.as_slice(), key) {
-        Ok(number) => Ok(number),
-        Err(index) => Err(Place {
-            chunk,
-            index: index + 1,
-        }),
-    }
+    Err(Place {
+        chunk: chunks.len(),
+        index: 0,
+    })
 }
 
 /// A list of children as chunks. The only error is that memory runs out.
@@ -559,7 +552,14 @@ fn chunks_of(alloc: Global, nodes: &[Node], list: &[u32]) -> Result<Box<Vec<Chun
         };
         starts.push(start)?;
     }
-    let chunks = one_chunk(alloc, list, starts)?;
+    let numbers = Vec::from_slice(alloc, list)?;
+    let start = starts.first().copied().unwrap_or(0);
+    let mut chunks = Vec::with_capacity(alloc, 2)?;
+    chunks.push(Chunk {
+        numbers,
+        start,
+        starts,
+    })?;
     Ok(Box::new(alloc, chunks)?)
 }
 

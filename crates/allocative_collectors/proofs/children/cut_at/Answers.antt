@@ -10,8 +10,7 @@ use Rattle.allocative_collectors.proofs.children.cut_at.Goals.{After-cut}
 read : (c : After-cut) → chunk_at c.args.chunks.now.items c.args.at ≡ numbers_in c.index_mut.result.now
 read c =
     let e = c.index_mut.result.now in
-    chunk_is c.args.chunks.now.items c.args.at e c.requires
-    ∙ ap numbers_in (sym (c.index_mut.ensures.value
+    chunk_is c.args.chunks.now.items c.args.at e c.requires (ap numbers_in (c.index_mut.ensures.value
     ∙ ap (λ (l : List Chunk). get_or l c.args.at e) c.reserve.ensures.items))
 
 pub returns-in_default : goal.returns-in_default

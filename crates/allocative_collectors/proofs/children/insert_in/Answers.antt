@@ -13,7 +13,7 @@ within c = omega (arith, c.if-place-len.true, c.len.ensures)
 -- the numbers of the chunk that is read
 read : (c : After-index_mut) → chunk_at c.args.chunks.now.items c.args.place.chunk ≡ numbers_in c.index_mut.result.now
 read c = chunk_is c.args.chunks.now.items c.args.place.chunk c.index_mut.result.now (within c)
-    ∙ ap numbers_in (sym c.index_mut.ensures.value)
+    (ap numbers_in c.index_mut.ensures.value)
 
 pub insert-requires : goal.insert-requires
 insert-requires c = omega (arith, c.requires, ap length (read (goal.at.insert-requires c).After-index_mut))
@@ -37,4 +37,4 @@ returns-in_ok-push-clause-ok c =
     ap flat c.in_ok-push.ensures.items
     ∙ put_behind c.args.chunks.now.items c.args.place.chunk c.args.place.index c.args.number
     _ (omega (arith, c.if-place-len.false, c.len.ensures)) c.requires
-    (ap (λ (l : List ℕ). c.args.number ∷ l) c.new-rest.ensures.items)
+    c.in_ok-numbers.ensures.items

@@ -10,8 +10,8 @@ returns-in-Ok-clause-found c =
     let by_key = c.in-Ok.ensures.position (λ (n : ℕ). key_cmp (K n) c.args.key.now)
     (always_returns_same _ _ _ (λ a r g called. search rules)) in
     let s = (searched K c.args.list.now c.requires.rise c.args.key.now (Ok c.in-Ok.place) c.in-Ok.ensures.bound
-    by_key).found in
-    (record { place = c.in-Ok.place; in_range = s.0; is = refl }, sym (get_or-map K c.args.list.now c.in-Ok.place 0 [] s.0) ∙ s.1)
+    by_key).0 in
+    (record { place = c.in-Ok.place; in_range = s.0; is = refl }, s.1)
 
 pub returns-in-Err-clause-absent : goal.returns-in-Err-clause-absent
 returns-in-Err-clause-absent c =
@@ -19,4 +19,4 @@ returns-in-Err-clause-absent c =
     let by_key = c.in-Err.ensures.position (λ (n : ℕ). key_cmp (K n) c.args.key.now)
     (always_returns_same _ _ _ (λ a r g called. search rules)) in
     (searched K c.args.list.now c.requires.rise c.args.key.now (Err c.in-Err.place) c.in-Err.ensures.bound
-    by_key).absent
+    by_key).1
