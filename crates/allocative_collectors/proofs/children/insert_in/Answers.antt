@@ -1,5 +1,5 @@
 -- The number is put into its chunk, or becomes a chunk of its own.
-use Rattle.std.proofs.Common.{◌≡◌, ◌<◌, ℕ, List, ◌∷◌, length, sym, ap, ◌∙◌, arith}
+use Rattle.std.proofs.Common.{◌≡◌, ◌<◌, ℕ, List, length, sym, ap, ◌∙◌, arith}
 use Rattle.allocative_collectors.proofs.Common.{numbers_in, flat, chunk_at}
 use Rattle.std.specs.List.{insert}
 use Rattle.allocative_collectors.proofs.Chunks.{chunk_is, kept_in, put_in, put_behind}

@@ -1,6 +1,6 @@
 -- The last number of the last chunk is the last of all.
-use Rattle.std.proofs.Common.{◌≡◌, ◌+◌, ◌-◌, ◌<◌, ℕ, Some, length, sym, ap, subst, ◌∙◌, arith}
-use Rattle.allocative_collectors.proofs.Common.{Chunk, numbers_in, flat, before}
+use Rattle.std.proofs.Common.{◌≡◌, ◌+◌, ◌-◌, ◌<◌, ℕ, Some, length, sym, subst, arith}
+use Rattle.allocative_collectors.proofs.Common.{flat, before}
 use Rattle.std.specs.List.{slice_get}
 use Rattle.std.proofs.lemmas.Option.{slice_get_within}
 use Rattle.allocative_collectors.proofs.Chunks.{number_read, before_more, before_all}

@@ -1,5 +1,5 @@
 -- A number of a chunk is one of all. The next chunk's first number stands behind those of the chunk.
-use Rattle.std.proofs.Common.{◌≡◌, ◌+◌, ℕ, Some, length, sym, ap, subst, ◌∙◌, arith}
+use Rattle.std.proofs.Common.{◌≡◌, ◌+◌, ℕ, Some, sym, ap, subst, ◌∙◌, arith}
 use Rattle.allocative_collectors.proofs.Common.{numbers_in, flat, before}
 use Rattle.std.specs.List.{slice_get}
 use Rattle.std.proofs.lemmas.Option.{slice_get-get_or}

@@ -1,6 +1,6 @@
 -- What is found in a chunk, whose keys come after those of the chunks before.
-use Rattle.std.proofs.Common.{◌≡◌, ◌+◌, ◌-◌, ◌<◌, ℕ, Some, length, get_or, map, sym, ap, subst, ◌∙◌, arith}
-use Rattle.allocative_collectors.proofs.Common.{Chunk, key_at, shape, numbers_in, length-map, flat}
+use Rattle.std.proofs.Common.{Some, map, ap, ◌∙◌, arith}
+use Rattle.allocative_collectors.proofs.Common.{key_at, shape, length-map, flat}
 use Rattle.std.proofs.lemmas.Option.{slice_get-get_or}
 use Rattle.allocative_collectors.proofs.Chunks.{stands, number_read, before_more, part_rises, less_part, gap_part}
 use Rattle.allocative_collectors.proofs.tree.search_chunks.Goals as goal

@@ -1,6 +1,6 @@
 -- What the search finds among the keys of the numbers.
-use Rattle.std.proofs.Common.{ℕ, [], map, Ok, Err, refl, sym, ◌∙◌, rules}
-use Rattle.allocative_collectors.proofs.Common.{key_cmp, key_at, shape, always_returns_same, get_or-map}
+use Rattle.std.proofs.Common.{ℕ, map, Ok, Err, refl, rules}
+use Rattle.allocative_collectors.proofs.Common.{key_cmp, key_at, shape, always_returns_same}
 use Rattle.allocative_collectors.proofs.Chunks.{searched}
 use Rattle.allocative_collectors.proofs.tree.search_list.Goals as goal
 
