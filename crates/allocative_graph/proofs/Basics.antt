@@ -1,11 +1,11 @@
 -- Small facts about tests, lists, orders and identities, and the entries of a map.
-use Rattle.std.proofs.Common.{◌≡◌, Bool, true, false, ◌||◌, IsTrue, inl, inr, List, [], ◌∷◌, ◌++◌, map, refl, ◌∙◌}
+use Rattle.std.proofs.Common.{◌≡◌, Bool, true, false, IsTrue, List, [], ◌∷◌, ◌++◌, map, refl, ◌∙◌}
 use Rattle.std.proofs.Common.{Ordering, Equal, ◌↔◌, ap, sym, subst, true≢false, append-nil, Less, Greater, T}
-use Rattle.allocative_graph.proofs.Common.{list_any, AllByRecursion, is_eq, nat_list_cmp_total, IsAntisymmetric}
+use Rattle.allocative_graph.proofs.Common.{AllByRecursion, is_eq, nat_list_cmp_total, IsAntisymmetric}
 use Rattle.allocative_graph.proofs.Common.{nat_cmp-IsAntisymmetric, slice_cmp-IsAntisymmetric, Path, path_cmp}
-use Rattle.allocative_graph.proofs.Common.{is_same_path, Identity, identity_cmp, is_same_identity, list_any-append}
-use Rattle.allocative_graph.proofs.Common.{is_lt, ordering_then, slice_cmp, Key, key_cmp, get, entries, from_entries}
-use Rattle.allocative_graph.proofs.Common.{get-from_sorted, get-from_entries, entries-from_sorted, same_map, find}
+use Rattle.allocative_graph.proofs.Common.{is_same_path, Identity, identity_cmp, is_same_identity}
+use Rattle.allocative_graph.proofs.Common.{is_lt, ordering_then, slice_cmp, Key, key_cmp, entries, from_entries}
+use Rattle.allocative_graph.proofs.Common.{get-from_sorted, get-from_entries, entries-from_sorted, same_map}
 use Rattle.allocative_graph.proofs.Common.{is_sorted, IsTotalOrder, Equal-is, tied_itself, nat_cmp, eq_by_cmp_equiv}
 use Rattle.std.proofs.lemmas.List.Elements.{All-append, All-from_recursion, All-weaker, recursion_from_All}
 use Rattle.std.proofs.lemmas.Map.Lookups.{exact_pairs}
@@ -15,7 +15,7 @@ pub use mathlib.Core.Bool.{or_comm, or-false, and_assoc, and-true}
 pub use Rattle.std.specs.Cmp.{both_ways}
 pub use Rattle.std.proofs.lemmas.Bool.{and_parts, or_cases, or_left, or_right, or_parts, false_from_ne_true}
 use Rattle.allocative_graph.specs.Path.{ComesBefore, longer, parts}
-use Rattle.std.specs.FinMap.{FinMap, from_sorted}
+use Rattle.std.specs.FinMap.{from_sorted}
 
 -- ---- tests
 -- What holds of both answers of a test holds of the test.
@@ -50,18 +50,6 @@ pub each-map : {X Y : Type 0} (P : Y → Type 0) (f : X → Y) (xs : List X) →
     AllByRecursion (λ x. P (f x)) xs
 each-map P f [] h = tt
 each-map P f (x ∷ xs) h = (h.0, each-map P f xs h.1)
-
--- If each of two tests implies Q, and one of them is true, Q holds.
-pub or_both : {Q : Type 0} (a b : Bool) → (IsTrue a → Q) → (IsTrue b → Q) → IsTrue (a || b) → Q
-or_both a b f g h = elim (or_cases a b h) [ inl x ↦ f x | inr x ↦ g x ]
-
--- If some item of the first list passes a test, so does some item of both lists one after another.
-pub any_left : {X : Type 0} (p : X → Bool) (xs ys : List X) → IsTrue (list_any p xs) → IsTrue (list_any p (xs ++ ys))
-any_left p xs ys h = list_any-append p xs ys ∙ or_left _ (list_any p ys) h
-
--- If some item of the second list passes a test, so does some item of both lists one after another.
-pub any_right : {X : Type 0} (p : X → Bool) (xs ys : List X) → IsTrue (list_any p ys) → IsTrue (list_any p (xs ++ ys))
-any_right p xs ys h = list_any-append p xs ys ∙ or_right (list_any p xs) _ h
 
 -- ---- orders
 -- The comparison of paths is a total order.
@@ -139,13 +127,8 @@ pub key_itself : (k : Key) → key_cmp k k ≡ Equal
 key_itself = tied_itself nat_list_cmp_total
 
 -- ---- the entries of a map made from a sorted list
--- If a map has at each path what a sorted list has there, its entries are that list.
-pub entries_are : {X : Type 0} (m : FinMap path_cmp X) (es : List (Path × X)) → T (is_sorted path_cmp es) →
-    ((q : Path) → get m q ≡ find path_cmp q es) → entries m ≡ es
-entries_are m es h same = ap entries (same_map path_total path_antisymmetric m (from_sorted es)
-    (λ q. same q ∙ sym (get-from_sorted path_cmp es q h))) ∙ entries-from_sorted path_cmp es h
-
 -- The entries of a map made from a sorted list are that list.
 pub entries-from_entries-sorted : {X : Type 0} (es : List (Path × X)) → T (is_sorted path_cmp es) →
     entries (from_entries {R = path_cmp} es) ≡ es
-entries-from_entries-sorted es h = entries_are (from_entries es) es h (get-from_entries path_total es)
+entries-from_entries-sorted es h = ap entries (same_map path_total path_antisymmetric (from_entries es) (from_sorted es)
+    (λ q. get-from_entries path_total es q ∙ sym (get-from_sorted path_cmp es q h))) ∙ entries-from_sorted path_cmp es h

@@ -362,28 +362,22 @@ next_greater {cs = cs} {ds = ds} {ds' = ds'} {d = d} e mine theirs front =
     above (c ∷ cs) h f = above_all d.key c cs (key_turn c.key d.key (cc)) h
 
 -- ---- both have one key: the first child of ds is added to that of cs
-module _ {cs ds cs' ds' : List Child} {c d : Child} (e : cs ≡ c ∷ cs') (f : ds ≡ d ∷ ds') where
-  pub next_equal : {a : Bool} {g : Graph} → AreChildren cs → AreChildren ds → front_order cs ds ≡ Some Equal →
-      Added a c.graph d.graph g → MergesFirst a cs ds (with_graph c g ∷ []) cs' ds'
-  next_equal {a = a} {g = g} mine theirs front added =
-      let both : front_order (c ∷ cs') (d ∷ ds') ≡ Some Equal =
-      subst₂ (λ x y. front_order x y ≡ Some Equal) e f front in
-      let my_all : AreChildren (c ∷ cs') = subst AreChildren e mine in
-      subst₂ (λ x y. MergesFirst a x y (with_graph c g ∷ []) cs' ds') (sym e) (sym f) (record {
-        goes_on = λ b es m. merged_both a b c d g cs' ds' es m (sym (exact_bytes c.key d.key (cc))) added my_all
-            (first_below d ds' (subst AreChildren f theirs));
-        mine = others c cs' my_all;
-        theirs = others d ds' (subst AreChildren f theirs);
-        fewer = omega arith;
-        fewer_rows = omega (arith, length-append (rows_of_child d) (rows_of ds'));
-        fits = omega (arith, added.at_most, total_of-cons c cs', total_of-cons d ds');
-      })
-
-  pub both_fit : total c.graph + total d.graph ≤ total_of cs + total_of ds
-  both_fit = omega (arith, ap total_of e ∙ total_of-cons c cs', ap total_of f ∙ total_of-cons d ds')
-
-  pub rows_fit : len d.graph ≤ length (rows_of ds)
-  rows_fit = omega (arith, ap (λ l. length (rows_of l)) f ∙ length-append (rows_of_child d) (rows_of ds'), len-child d)
+pub next_equal : {cs ds cs' ds' : List Child} {c d : Child} {a : Bool} {g : Graph} → cs ≡ c ∷ cs' → ds ≡ d ∷ ds' →
+    AreChildren cs → AreChildren ds → front_order cs ds ≡ Some Equal → Added a c.graph d.graph g →
+    MergesFirst a cs ds (with_graph c g ∷ []) cs' ds'
+next_equal {cs' = cs'} {ds' = ds'} {c = c} {d = d} {a = a} {g = g} e f mine theirs front added =
+    let both : front_order (c ∷ cs') (d ∷ ds') ≡ Some Equal =
+    subst₂ (λ x y. front_order x y ≡ Some Equal) e f front in
+    let my_all : AreChildren (c ∷ cs') = subst AreChildren e mine in
+    subst₂ (λ x y. MergesFirst a x y (with_graph c g ∷ []) cs' ds') (sym e) (sym f) (record {
+      goes_on = λ b es m. merged_both a b c d g cs' ds' es m (sym (exact_bytes c.key d.key (cc))) added my_all
+          (first_below d ds' (subst AreChildren f theirs));
+      mine = others c cs' my_all;
+      theirs = others d ds' (subst AreChildren f theirs);
+      fewer = omega arith;
+      fewer_rows = omega (arith, length-append (rows_of_child d) (rows_of ds'));
+      fits = omega (arith, added.at_most, total_of-cons c cs', total_of-cons d ds');
+    })
 
 -- ---- the loop of a merge
 -- What is merged first, and then what is merged first of the rest, is merged first of all.
@@ -418,6 +412,15 @@ is_ok-and (Err e) s = refl
 pub front_is : {X : Type 0} {o : Option X} {x : X} {xs rest : List X} → xs ≡ option_to_list o ++ rest → o ≡ Some x →
     xs ≡ x ∷ rest
 front_is {rest = rest} e h = e ∙ ap (λ p. option_to_list p ++ rest) h
+
+-- A child that was taken off the front has at most the bytes and the rows of all.
+module _ {cs : List Child} {o : Option Child} {c : Child} (rest : List Child) (e : cs ≡ option_to_list o ++ rest)
+    (h : o ≡ Some c) where
+  pub front_total : total c.graph ≤ total_of cs
+  front_total = omega (arith, ap total_of (front_is e h) ∙ total_of-cons c rest)
+
+  pub front_rows : len c.graph ≤ length (rows_of cs)
+  front_rows = omega (arith, ap (λ l. length (rows_of l)) (front_is e h) ∙ length-append (rows_of_child c) (rows_of rest), len-child c)
 
 -- A list of fewer than two items that ends in x has x alone.
 pub one_of_length : {X : Type 0} (xs rest : List X) (x : X) → xs ≡ rest ++ x ∷ [] → length xs < 2 → xs ≡ x ∷ []
@@ -454,22 +457,27 @@ changed all (x ∷ cs) (suc i) c d g h w same sum =
     merged_first all x cs (c ∷ []) _ (changed all cs i c d g (others x cs h) (omega arith) same sum) h
     (subst (λ (k : Key). key_cmp x.key k ≡ Less) same (rises (x ∷ cs) 0 (suc i) d h.sorted (omega arith) w), tt)
 
--- ---- the key of c was found at i, where x is, and x gets the graph g
-module _ (c x : Child) (g : Graph) {cs ds : List Child} {i : ℕ} (same : ds ≡ cs) (found : IsFound ds c.key i)
-    (there : x ≡ get_or cs i x) where
-  here : IsFound cs c.key i
-  here = subst (λ l. IsFound l c.key i) same found
+-- ---- the key k was found at i, where x is, and x gets the graph g
+module _ {k : Key} {x : Child} {cs ds : List Child} {i : ℕ} (same : ds ≡ cs) (found : IsFound ds k i)
+    (there : x ≡ get_or cs i x) (g : Graph) where
+  here : IsFound cs k i
+  here = subst (λ l. IsFound l k i) same found
 
-  pub put_at_found : {all : Bool} → AreChildren cs → Added all x.graph c.graph g →
+  pub put_at_found : {all : Bool} (c : Child) → c.key ≡ k → AreChildren cs → Added all x.graph c.graph g →
       Merged all cs (c ∷ []) (set cs i (with_graph x g))
-  put_at_found {all = all} h sum = subst (λ (y : Child). Merged all cs (c ∷ []) (set cs i (with_graph y g))) (sym there)
-      (changed all cs i c x g h here.within (here.same x) (subst (λ (y : Child). Added all y.graph c.graph g) there sum))
+  put_at_found {all = all} c is h sum = subst (λ (y : Child). Merged all cs (c ∷ []) (set cs i (with_graph y g))) (sym there)
+      (changed all cs i c x g h here.within (here.same x ∙ sym is) (subst (λ (y : Child). Added all y.graph c.graph g) there sum))
 
-  pub totals_found : (total_of (set cs i (with_graph x g)) + total x.graph ≡ total_of cs + total g)
-      × (total x.graph ≤ total_of cs)
-  totals_found =
-      let t : Child → ℕ = λ y. total y.graph in
-      (omega (arith, sum_by-set t cs i (with_graph x g) x here.within, ap t there), omega (arith, get_or-le-sum_by t cs i x here.within, ap t there))
+  pub total_at_found : total_of (set cs i (with_graph x g)) + total x.graph ≡ total_of cs + total g
+  total_at_found = let t : Child → ℕ = λ y. total y.graph in
+      omega (arith, sum_by-set t cs i (with_graph x g) x here.within, ap t there)
+
+-- A child that was found has at most the bytes of all children.
+pub fits_at_found : {k : Key} {x : Child} {cs ds : List Child} {i : ℕ} → ds ≡ cs → IsFound ds k i → x ≡ get_or cs i x →
+    total x.graph ≤ total_of cs
+fits_at_found {x = x} {cs = cs} {i = i} same found there =
+    let t : Child → ℕ = λ y. total y.graph in
+    omega (arith, get_or-le-sum_by t cs i x (here same found there x.graph).within, ap t there)
 
 -- ---- the key of c was not found, and belongs at i
 module _ (c : Child) {cs ds es : List Child} {i : ℕ} (same : ds ≡ cs) (missing : IsChildGap ds c.key i)

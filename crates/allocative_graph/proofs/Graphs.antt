@@ -10,7 +10,7 @@ use Rattle.allocative_graph.proofs.Common.{IsPermutation, sum_of_all, total_of, 
 use Rattle.allocative_graph.proofs.Common.{list_any-IsPermutation}
 use Rattle.allocative_graph.proofs.Basics.{path_total, path_antisymmetric, same_path, or_comm, or-false}
 use Rattle.allocative_graph.proofs.Basics.{entries-from_entries-sorted}
-use Rattle.allocative_graph.proofs.Sums.{find-below_all, weights-insert, get-sums_of, below_entered, parent_entered}
+use Rattle.allocative_graph.proofs.Sums.{find-below_all, weights-insert, get-sums_of, below_entered, closed_all}
 use Rattle.allocative_graph.proofs.Showings.{get-sum_of, get-graph, get-graph-root}
 use Rattle.allocative_graph.proofs.Children.{get-root, get-under as get-below, node_of_one, one_sorted, total-node}
 
@@ -140,7 +140,7 @@ graph-tree f = record { root = ap is_some (get-graph-root (sums_of (all f))); cl
         IsTrue (contains_key (graph (sums_of (all f))) p)
     closed [] k h = ap is_some (get-graph-root (sums_of (all f)))
     closed (l ∷ p) k h = in_graph (all f) l p
-        ∙ parent_entered f l p (below_entered (l ∷ p) k (all f) (sym (in_graph (all f) l (p ++ k ∷ [])) ∙ h))
+        ∙ closed_all f (l ∷ p) (below_entered (l ∷ p) k (all f) (sym (in_graph (all f) l (p ++ k ∷ [])) ∙ h))
 
 -- ---- graphs added one after another, each made from an item, in any order of the items
 -- The graph that has only the root, with 0, has a total of 0.

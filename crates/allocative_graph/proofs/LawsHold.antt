@@ -13,8 +13,9 @@ use Rattle.allocative_graph.proofs.Basics.{identity_total, order, key_itself}
 use Rattle.allocative_graph.proofs.Computed.{nodes_of, sizes_list, warnings_list, text-computed, warnings-computed}
 use Rattle.allocative_graph.proofs.Computed.{text_added}
 use Rattle.allocative_graph.proofs.Sums.{get-sums_of, below-sums_of}
-use Rattle.allocative_graph.proofs.Showings.{whole_following, graphs_add}
-use Rattle.allocative_graph.proofs.Showings.{get-graph, get-graph-root}
+use Rattle.allocative_graph.proofs.Showings.{agree_back, get-graph, get-graph-root, graphs_add, same_reached, same_sums_of}
+use Rattle.allocative_graph.proofs.Showings.{whole_following}
+use Rattle.allocative_graph.proofs.Reach.{all_is_meaning, reaches_exactly}
 use Rattle.allocative_graph.proofs.ReadBack.{text_tells, reads_back, never_refused, never_exceeds, exact_is}
 use Rattle.allocative_graph.proofs.Plus.{plus-nothing, plus-following, takes_following, inside_entry, takes_entry}
 use Rattle.allocative_graph.proofs.Plus.{inside_first, takes_shared, held_again, counted_again}
@@ -110,4 +111,4 @@ rows_law = record {
 }
 
 -- All laws, as the functions cite them.
-pub ruleset laws = (whole_following, graphs_add, text_tells, exact_is, read_law, get-sums_of, below-sums_of, plus_law, shared_law, path_order_law, graph_sums_law, graph_law, owned_law, rows_law)
+pub ruleset laws = (same_sums_of, same_reached, agree_back, reaches_exactly, all_is_meaning, whole_following, graphs_add, text_tells, exact_is, read_law, get-sums_of, below-sums_of, plus_law, shared_law, path_order_law, graph_sums_law, graph_law, owned_law, rows_law)

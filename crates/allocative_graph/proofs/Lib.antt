@@ -14,5 +14,4 @@ pub mod LawsHold
 pub mod ReadBack
 pub mod Sums
 pub mod Children
-pub mod PathCount
 pub mod Showings

@@ -1,14 +1,17 @@
 -- Nodes are trees, and add up if their own sizes and their children do; bytes at one path, and what a node has after
--- they are added.
+-- they are added; and the number of its paths.
 use Rattle.std.proofs.Common.{◌≡◌, ℕ, ◌+◌, ◌<◌, ◌^◌, Bool, true, List, [], ◌∷◌, ◌++◌, length, length-append, Some, refl}
-use Rattle.std.proofs.Common.{get_or, unwrap_or, sym, ap, subst, subst₂, ◌∙◌, arith, ◌≤◌, set, zero-add, add-zero}
+use Rattle.std.proofs.Common.{get_or, unwrap_or, sym, ap, subst, subst₂, ◌∙◌, arith, ◌≤◌, set, zero-add, add-zero, take, sum_by}
+use Rattle.allocative_graph.proofs.Common.{sum_by-cons, key_cmp, keys_of}
+use Rattle.std.proofs.lemmas.List.Sums.{sum_by_more_le}
+use Rattle.std.specs.List.Sorted.{IsStrictlySortedBy}
 use Rattle.allocative_graph.proofs.Common.{AllByRecursion, is_some, contains_key, entries, len, len-entries, Child, Key}
 use Rattle.allocative_graph.proofs.Common.{Path, Graph, IsTree, size_at, sum_of, total, under, node, rows_of}
 use Rattle.allocative_graph.proofs.Common.{rows_of_child, AreChildren, IsNode, total_of, size_under, AddsUp}
 use Rattle.allocative_graph.proofs.Common.{AddsUpInPart, Added, Merged, entries-node, len-child, All-from_recursion}
 use Rattle.allocative_graph.proofs.Common.{insert, default, add_self, IsFound, get, graph_of_path, child_of_path}
 use Rattle.allocative_graph.specs.Rows.{ComesLast}
-use Rattle.allocative_graph.proofs.Children.{put_at_gap, merged_same, put_at_found, totals_found, with_graph, get-root}
+use Rattle.allocative_graph.proofs.Children.{put_at_gap, merged_same, put_at_found, with_graph, get-root}
 use Rattle.allocative_graph.proofs.Children.{get-under, node_each, node_of_one, one_child, part_of_sum, total-node}
 use Rattle.allocative_graph.proofs.Children.{no_children, insert_root, node_nil}
 use Rattle.std.proofs.lemmas.List.{take_all, drop_all, set-get_or}
@@ -47,6 +50,11 @@ added_node all m n cs ds es a b h = record {
 pub added_sum : {all : Bool} {g h r : Graph} → Added all g h r → all ≡ true → r ≡ sum_of g h
 added_sum {g = g} {h = h} {r = r} added done = is_sum_of g h r (added.sum done)
 
+-- With one child merged into its children, a node is a node if the bytes fit.
+pub grown : {all : Bool} {cs es : List Child} {d : Child} {size n : ℕ} → Merged all cs (d ∷ []) es → size ≡ total_of es →
+    n + total_of cs + total d.graph < 2 ^ 64 → IsNode es size n
+grown m is fits = record { children = m.children; size = is; fits = omega (arith, m.at_most, is, fits) }
+
 -- With one child merged into its children, a node has the graph under that child's key added.
 pub added_under : {all : Bool} {m s : ℕ} {cs es : List Child} {g : Graph} (c : Child) → node m cs ≡ g → IsNode cs s m →
     IsTree c.graph → Merged all cs (c ∷ []) es → Added all g (under c.key c.graph) (node m es)
@@ -59,6 +67,28 @@ added_under {all = all} {m = m} {cs = cs} {es = es} {g = g} c view a t h =
 -- A node has one path more than its children have rows.
 pub rows_of_node : (n : ℕ) (cs : List Child) → AreChildren cs → len (node n cs) ≡ length (rows_of cs) + 1
 rows_of_node n cs h = omega (arith, len-entries (node n cs), ap length (entries-node n cs h.sorted))
+
+-- ---- the number of paths
+-- The paths of the graphs of some children.
+abbrev pub paths_of : List Child → ℕ
+paths_of cs = sum_by (λ c. len c.graph) cs
+
+-- Children have as many rows as their graphs have paths.
+length-rows_of : (cs : List Child) → length (rows_of cs) ≡ paths_of cs
+length-rows_of [] = omega arith
+length-rows_of (c ∷ cs) = omega (arith, length-rows_of cs, length-append (rows_of_child c) (rows_of cs), len-child c, sum_by-cons (λ (c : Child). len c.graph) c cs)
+
+-- A node has the path of its root, and those of its children.
+pub paths_of_node : (n : ℕ) (cs : List Child) → IsStrictlySortedBy key_cmp (keys_of cs) → len (node n cs) ≡ 1 + paths_of cs
+paths_of_node n cs h = omega (arith, length-rows_of cs, len-entries (node n cs), ap length (entries-node n cs h))
+
+-- The root, the paths of the children before one and those of that one are within the paths of the graph g.
+pub child_within : {n s : ℕ} {cs ds : List Child} {g : Graph} {i : ℕ} {d : Child} → node n cs ≡ g → IsNode cs s n →
+    ds ≡ cs → i < length ds → d ≡ get_or ds i d → 1 + paths_of (take i ds) + len d.graph ≤ len g
+child_within {n = n} {cs = cs} {ds = ds} {i = i} {d = d} view h same w at =
+    let one = sum_by_more_le (λ (c : Child). len c.graph) ds i d w in
+    let all = paths_of_node n cs h.children.sorted in
+    omega (arith, one, all, ap (λ (h : Graph). len h) view, ap paths_of same, ap (λ (c : Child). len c.graph) at)
 
 -- ---- what is known of the graph g of a node
 module _ {n s : ℕ} {cs : List Child} {g : Graph} (view : node n cs ≡ g) (h : IsNode cs s n) where
@@ -188,12 +218,8 @@ module _ (k : Key) (p : Path) (n : ℕ) (x : Child) {cs ds : List Child} {i : �
       let within : i < length cs = (subst (λ (l : List Child). IsFound l k i) same found).within in
       let tree : IsTree x.graph = subst (λ (y : Child). IsTree y.graph) (sym there)
       (All-from_recursion (λ (y : Child). IsTree y.graph) cs h.trees i x within) in
-      put_at_found c x g same found there h (subst (Added true x.graph c.graph) (sym is)
+      put_at_found same found there g c refl h (subst (Added true x.graph c.graph) (sym is)
       (added_trees x.graph c.graph tree (tree-path p n)))
-
-  -- x has at most the bytes of all children.
-  pub fits_below : total x.graph ≤ total_of cs
-  fits_below = (totals_found (child_of_path k p n) x x.graph same found there).1
 
   -- If the graph of x did not change, the children did not change.
   pub nothing_merged : {g : Graph} → g ≡ x.graph → set cs i (with_graph x g) ≡ cs

@@ -1,5 +1,5 @@
 -- What forests own: it adds up, in any order, and is the total of a graph.
-use Rattle.std.proofs.Common.{◌≡◌, ℕ, ◌+◌, ◌-◌, ◌≤◌, ◌||◌, Bool, true, false, cond, IsTrue, List, [], ◌∷◌, ◌++◌, fold}
+use Rattle.std.proofs.Common.{◌≡◌, ℕ, ◌+◌, ◌-◌, ◌≤◌, ◌||◌, Bool, true, false, cond, List, [], ◌∷◌, ◌++◌, fold}
 use Rattle.std.proofs.Common.{map, inl, inr, Some, None, is_some, unwrap_or, refl, ap, sym, ◌∙◌, sum_by, arith}
 use Rattle.allocative_graph.proofs.Common.{sum_by-cons, map-append, AsInline, AsUnique, AsShared, Bag, get-insert}
 use Rattle.allocative_graph.proofs.Common.{contains_key, Key, Path, is_same_path, is_one_below, Forest, Empty, Inline}
@@ -8,8 +8,8 @@ use Rattle.allocative_graph.proofs.Common.{is_unique_in, sums_of, below, Node, r
 use Rattle.allocative_graph.proofs.Common.{default, size_at, total, Entry, sum_by-append, Mark}
 use Rattle.allocative_graph.specs.Owned.{direct, owned, Owner, owners_behind, owns_all, EachAt, AreAlike, Reordered}
 use Rattle.allocative_graph.specs.Owned.{exchanged, within, beside, in_turn}
-use Rattle.allocative_graph.proofs.Basics.{path_total, same_path, same_path_itself}
-use Rattle.allocative_graph.proofs.Sums.{one_below_child, one_below_self, below_in, below-sums_of, get-sums_of}
+use Rattle.allocative_graph.proofs.Basics.{path_total, same_path}
+use Rattle.allocative_graph.proofs.Sums.{one_below_is, below_in, below-sums_of, get-sums_of}
 use Rattle.allocative_graph.proofs.Sums.{bytes_none}
 use Rattle.allocative_graph.proofs.Showings.{get-graph, get-graph-root}
 use Rattle.allocative_graph.proofs.Graphs.{add_at, total-add_at, same_graph, in_graph, get-default, size_at-default}
@@ -92,56 +92,41 @@ sum-entry : (w : Owner → ℕ) (x : Owner) (xs ys : List Owner) →
     sum_by w (x ∷ (xs ++ ys)) ≡ w x + (sum_by w xs + sum_by w ys)
 sum-entry w x xs ys = omega (arith, sum_by-cons w x (xs ++ ys), sum_by-append w xs ys)
 
+-- The entry with n bytes at the path p and then k, and with i bytes directly inside it.
+abbrev owner : Path → Key → ℕ → Mark → ℕ → Owner
+owner p k n m i = record { entry = record { path = p ++ k ∷ []; size = n; mark = m }; inside = i }
+
 -- A forest owns the sum of what its own entries keep.
 kept-sum : (p : Path) (f : Forest) → sum_by kept (owners_behind p f) ≡ owned f
 kept-sum p Empty = refl
-kept-sum p (Inline k n f after) = omega (arith, kept-sum (p ++ k ∷ []) f, kept-sum p after, sum-entry kept (record { entry = record { path = p ++ k ∷ []; size = n; mark = AsInline }; inside = direct f }) (owners_behind (p ++ k ∷ []) f) (owners_behind p after))
-kept-sum p (Unique k n f after) = omega (arith, kept-sum (p ++ k ∷ []) f, kept-sum p after, sum-entry kept (record { entry = record { path = p ++ k ∷ []; size = n; mark = AsUnique }; inside = direct f }) (owners_behind (p ++ k ∷ []) f) (owners_behind p after))
-kept-sum p (First k n i f after) = omega (arith, kept-sum p after, sum_by-cons kept (record { entry = record { path = p ++ k ∷ []; size = n; mark = AsShared i }; inside = 0 }) (owners_behind p after))
-kept-sum p (Again k n i after) = omega (arith, kept-sum p after, sum_by-cons kept (record { entry = record { path = p ++ k ∷ []; size = n; mark = AsShared i }; inside = 0 }) (owners_behind p after))
+kept-sum p (Inline k n f after) = omega (arith, kept-sum (p ++ k ∷ []) f, kept-sum p after, sum-entry kept (owner p k n AsInline (direct f)) (owners_behind (p ++ k ∷ []) f) (owners_behind p after))
+kept-sum p (Unique k n f after) = omega (arith, kept-sum (p ++ k ∷ []) f, kept-sum p after, sum-entry kept (owner p k n AsUnique (direct f)) (owners_behind (p ++ k ∷ []) f) (owners_behind p after))
+kept-sum p (First k n i f after) = omega
+    (arith, kept-sum p after, sum_by-cons kept (owner p k n (AsShared i) 0) (owners_behind p after))
+kept-sum p (Again k n i after) = omega
+    (arith, kept-sum p after, sum_by-cons kept (owner p k n (AsShared i) 0) (owners_behind p after))
 
 -- ---- the bytes below a path
--- Two tests that imply each other are equal.
-bool_same : (a b : Bool) → (IsTrue a → IsTrue b) → (IsTrue b → IsTrue a) → a ≡ b
-bool_same true b f g = sym (f refl)
-bool_same false true f g = g refl
-bool_same false false f g = refl
-
--- The path r with one more key is one key below q exactly if q is r.
-one_below_is : (q r : Path) (k : Key) → is_one_below q (r ++ k ∷ []) ≡ is_same_path q r
-one_below_is q r k = bool_same _ _ (λ h. ap (is_same_path q) (sym (one_below_child q r k h)) ∙ same_path_itself q)
-    (λ h. ap (λ p. is_one_below q (p ++ k ∷ [])) (sym (same_path q r h)) ∙ one_below_self q k)
-
--- A sum that counts only if a test passes is both numbers, each of which counts only if it passes.
-cond-plus : (b : Bool) (x y : ℕ) → cond b (x + y) 0 ≡ cond b x 0 + cond b y 0
-cond-plus b x y = grind arith
-
--- A 0 that counts only if a test passes is 0 in either case.
-cond-zero : (b : Bool) → cond {A = ℕ} b 0 0 ≡ 0
-cond-zero b = grind arith
-
 -- The bytes one key below q are those of an entry, if it is one key below q, and those of the bags after it.
 below-entry : (q p : Path) (k : Key) (n : ℕ) (m : Mark) (b c : Bag) →
     below_in (record { path = p ++ k ∷ []; size = n; mark = m } ∷ (b ++ c)) q
     ≡ cond (is_same_path q p) n 0 + (below_in b q + below_in c q)
 below-entry q p k n m b c = rw (← one_below_is q p k) (omega (arith, sum_by-cons (λ e. cond (is_one_below q e.path) e.size 0) (record { path = p ++ k ∷ []; size = n; mark = m }) (b ++ c), sum_by-append (λ e. cond (is_one_below q e.path) e.size 0) b c))
 
--- The bytes directly inside entries at q are those inside one entry, if it is at q, and those in the lists after it.
-inside-entry : (q p : Path) (k : Key) (n : ℕ) (m : Mark) (i : ℕ) (xs ys : List Owner) →
-    inside_at q (record { entry = record { path = p ++ k ∷ []; size = n; mark = m }; inside = i } ∷ (xs ++ ys))
-    ≡ cond (is_same_path q (p ++ k ∷ [])) i 0 + (inside_at q xs + inside_at q ys)
-inside-entry q p k n m i xs ys = sum-entry (λ x. cond (is_same_path q x.entry.path) x.inside 0)
-    (record { entry = record { path = p ++ k ∷ []; size = n; mark = m }; inside = i }) xs ys
+-- A sum over the entries at q counts one entry, if it is at q, and those in the lists after it.
+at-entry : (w : Owner → ℕ) (q : Path) (x : Owner) (xs ys : List Owner) →
+    at w q (x ∷ (xs ++ ys)) ≡ cond (is_same_path q x.entry.path) (w x) 0 + (at w q xs + at w q ys)
+at-entry w q = sum-entry (λ x. cond (is_same_path q x.entry.path) (w x) 0)
 
 -- The bytes one key below q are those directly inside the entries at q; if q is the path before all of them, those at
 -- the top as well.
 below-inside : (q p : Path) (f : Forest) →
     below_in (own_behind p f) q ≡ inside_at q (owners_behind p f) + cond (is_same_path q p) (direct f) 0
 below-inside q p Empty = grind arith
-below-inside q p (Inline k n f after) = omega (arith, below-entry q p k n AsInline (own_behind (p ++ k ∷ []) f) (own_behind p after), inside-entry q p k n AsInline (direct f) (owners_behind (p ++ k ∷ []) f) (owners_behind p after), below-inside q (p ++ k ∷ []) f, below-inside q p after, cond-plus (is_same_path q p) n (direct after))
-below-inside q p (Unique k n f after) = omega (arith, below-entry q p k n AsUnique (own_behind (p ++ k ∷ []) f) (own_behind p after), inside-entry q p k n AsUnique (direct f) (owners_behind (p ++ k ∷ []) f) (owners_behind p after), below-inside q (p ++ k ∷ []) f, below-inside q p after, cond-plus (is_same_path q p) n (direct after))
-below-inside q p (First k n i f after) = omega (arith, below-entry q p k n (AsShared i) [] (own_behind p after), inside-entry q p k n (AsShared i) 0 [] (owners_behind p after), below-inside q p after, cond-plus (is_same_path q p) n (direct after), cond-zero (is_same_path q (p ++ k ∷ [])))
-below-inside q p (Again k n i after) = omega (arith, below-entry q p k n (AsShared i) [] (own_behind p after), inside-entry q p k n (AsShared i) 0 [] (owners_behind p after), below-inside q p after, cond-plus (is_same_path q p) n (direct after), cond-zero (is_same_path q (p ++ k ∷ [])))
+below-inside q p (Inline k n f after) = grind (arith, below-entry q p k n AsInline (own_behind (p ++ k ∷ []) f) (own_behind p after), at-entry (λ x. x.inside) q (owner p k n AsInline (direct f)) (owners_behind (p ++ k ∷ []) f) (owners_behind p after), below-inside q (p ++ k ∷ []) f, below-inside q p after)
+below-inside q p (Unique k n f after) = grind (arith, below-entry q p k n AsUnique (own_behind (p ++ k ∷ []) f) (own_behind p after), at-entry (λ x. x.inside) q (owner p k n AsUnique (direct f)) (owners_behind (p ++ k ∷ []) f) (owners_behind p after), below-inside q (p ++ k ∷ []) f, below-inside q p after)
+below-inside q p (First k n i f after) = grind (arith, below-entry q p k n (AsShared i) [] (own_behind p after), at-cons (λ x. x.inside) q (owner p k n (AsShared i) 0) (owners_behind p after), below-inside q p after)
+below-inside q p (Again k n i after) = grind (arith, below-entry q p k n (AsShared i) [] (own_behind p after), at-cons (λ x. x.inside) q (owner p k n (AsShared i) 0) (owners_behind p after), below-inside q p after)
 
 -- ---- entries that are alike
 module _ (q : Path) where
@@ -198,21 +183,15 @@ not_root : (p : Path) (k : Key) → is_same_path [] (p ++ k ∷ []) ≡ false
 not_root [] k = refl
 not_root (l ∷ p) k = refl
 
--- An entry is never at the root, so it adds nothing to what is kept there.
-root-entry : (p : Path) (k : Key) (n i : ℕ) (m : Mark) (xs ys : List Owner) →
-    at kept [] (record { entry = record { path = p ++ k ∷ []; size = n; mark = m }; inside = i } ∷ (xs ++ ys))
-    ≡ at kept [] xs + at kept [] ys
-root-entry p k n i m xs ys = grind (arith, not_root p k, sum-entry (λ x. cond (is_same_path [] x.entry.path) (kept x) 0) (record { entry = record { path = p ++ k ∷ []; size = n; mark = m }; inside = i }) xs ys)
-
--- The entries of a forest keep nothing at the root.
+-- The entries of a forest keep nothing at the root, where none of them is.
 root-keeps : (p : Path) (f : Forest) → at kept [] (owners_behind p f) ≡ 0
 root-keeps p Empty = refl
-root-keeps p (Inline k n f after) = omega (arith, root-entry p k n (direct f) AsInline (owners_behind (p ++ k ∷ []) f) (owners_behind p after), root-keeps (p ++ k ∷ []) f, root-keeps p after)
-root-keeps p (Unique k n f after) = omega (arith, root-entry p k n (direct f) AsUnique (owners_behind (p ++ k ∷ []) f) (owners_behind p after), root-keeps (p ++ k ∷ []) f, root-keeps p after)
-root-keeps p (First k n i f after) = omega
-    (arith, root-entry p k n 0 (AsShared i) [] (owners_behind p after), root-keeps p after)
-root-keeps p (Again k n i after) = omega
-    (arith, root-entry p k n 0 (AsShared i) [] (owners_behind p after), root-keeps p after)
+root-keeps p (Inline k n f after) = grind (arith, not_root p k, at-entry kept [] (owner p k n AsInline (direct f)) (owners_behind (p ++ k ∷ []) f) (owners_behind p after), root-keeps (p ++ k ∷ []) f, root-keeps p after)
+root-keeps p (Unique k n f after) = grind (arith, not_root p k, at-entry kept [] (owner p k n AsUnique (direct f)) (owners_behind (p ++ k ∷ []) f) (owners_behind p after), root-keeps (p ++ k ∷ []) f, root-keeps p after)
+root-keeps p (First k n i f after) = grind
+    (arith, not_root p k, at-cons kept [] (owner p k n (AsShared i) 0) (owners_behind p after), root-keeps p after)
+root-keeps p (Again k n i after) = grind
+    (arith, not_root p k, at-cons kept [] (owner p k n (AsShared i) 0) (owners_behind p after), root-keeps p after)
 
 -- A path without entries has size 0. One with y bytes has all of them if it is unique, else those beyond b.
 size-found : (e u : Bool) (y b : ℕ) → unwrap_or

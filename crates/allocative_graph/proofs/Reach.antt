@@ -1,6 +1,6 @@
 -- The identities that a whole showing shows are exactly those reached.
 use Rattle.std.proofs.Common.{◌≡◌, false, ◌||◌, IsTrue, List, [], ◌∷◌, ◌++◌, map, flat_map, refl, ap, sym, ◌∙◌, subst}
-use Rattle.std.proofs.Common.{true≢false, IsPermutation, unwrap_or, Bool, arith}
+use Rattle.std.proofs.Common.{true≢false, IsPermutation, unwrap_or, Bool, arith, inl, inr}
 use Rattle.allocative_graph.proofs.Common.{⊤, AllByRecursion, contains, contains-insert, contains-empty, Path}
 use Rattle.allocative_graph.proofs.Common.{Identities, Identity, identity_cmp, is_same_identity, Forest, Empty, Inline}
 use Rattle.allocative_graph.proofs.Common.{Unique, First, Again, Bag, Entry, own, own_behind, contents, all}
@@ -14,7 +14,7 @@ use Rattle.std.specs.FinSet.{insert, empty}
 use Rattle.std.proofs.lemmas.List.Elements.{All-contains_itself, All-weaker, recursion_from_All}
 use Rattle.std.proofs.lemmas.Map.Views.{lookup-from_Contains}
 use Rattle.allocative_graph.specs.Meaning.{ReachesExactly}
-use Rattle.allocative_graph.proofs.Basics.{or_both, or_left, or_right, or_parts, or-false, any_left, any_right}
+use Rattle.allocative_graph.proofs.Basics.{or_cases, or_left, or_right, or_parts, or-false}
 use Rattle.allocative_graph.proofs.Basics.{each-parts, each-implies, identity_total, same_identity}
 use Rattle.allocative_graph.proofs.Basics.{same_identity_itself, same_identity_turned}
 
@@ -35,11 +35,6 @@ among-append : (i : Identity) (cs ds : Contents) →
 among-append i cs ds = ap (is_among i) (map-append (λ c. c.0) cs ds)
     ∙ list_any-append (is_same_identity i) (ids cs) (ids ds)
 
--- What follows from an identity in either of two lists of contents follows from an identity in both together.
-among_both : {Q : Type 0} (i : Identity) (cs ds : Contents) → (IsTrue (is_among i (ids cs)) → Q) →
-    (IsTrue (is_among i (ids ds)) → Q) → IsTrue (is_among i (ids (cs ++ ds))) → Q
-among_both i cs ds f g h = or_both (is_among i (ids cs)) (is_among i (ids ds)) f g (sym (among-append i cs ds) ∙ h)
-
 -- What holds of each identity among some contents holds of each of these contents.
 pub shown_each : (P : Identity → Type 0) (cs : Contents) → ((i : Identity) → IsTrue (is_among i (ids cs)) → P i) →
     AllByRecursion (λ c. P c.0) cs
@@ -58,28 +53,35 @@ contains-insert_all s (j ∷ is) i = grind
 
 -- ---- each identity shown is reached
 module _ (b : Bag) (content : Identity → Bag) where
-  reach : (p : Path) (f : Forest) → ((i : Identity) → IsTrue (has_mark i (own_behind p f)) → Reached b content i)
-      → AllByRecursion (λ c. content c.0 ≡ c.1) (contents f) → (i : Identity) → IsTrue (is_among i (content_identities f)) →
-      Reached b content i
+  -- Each identity that cs shows is reached, if each that the entries point to is, and cs has the contents.
+  abbrev Reaches : Bag → Contents → Type 0
+  Reaches entries cs = ((i : Identity) → IsTrue (has_mark i entries) → Reached b content i)
+      → AllByRecursion (λ c. content c.0 ≡ c.1) cs → (i : Identity) → IsTrue (is_among i (ids cs)) → Reached b content i
+
+  reaches_both : (xs ys : Bag) (cs ds : Contents) → Reaches xs cs → Reaches ys ds → Reaches (xs ++ ys) (cs ++ ds)
+  reaches_both xs ys cs ds f g m gs i h =
+      let parts = each-parts (λ c. content c.0 ≡ c.1) cs ds gs in
+      elim (or_cases _ _ (sym (among-append i cs ds) ∙ h)) [
+        | inl w ↦ f (λ j v. m j (list_any-append (marks j) xs ys ∙ or_left _ (has_mark j ys) v)) parts.0 i w
+        | inr w ↦ g (λ j v. m j (list_any-append (marks j) xs ys ∙ or_right (has_mark j xs) _ v)) parts.1 i w
+      ]
+
+  reach : (p : Path) (f : Forest) → Reaches (own_behind p f) (contents f)
   reach p Empty m g i h = absurd (true≢false (sym h))
-  reach p (Inline k n f after) m g i h =
-      let gs = each-parts (λ c. content c.0 ≡ c.1) (contents f) (contents after) g in
-      among_both i (contents f) (contents after)
-      (reach (p ++ k ∷ []) f (λ j w. m j (any_left (marks j) (own_behind (p ++ k ∷ []) f) (own_behind p after) w))
-      gs.0 i)
-      (reach p after (λ j w. m j (any_right (marks j) (own_behind (p ++ k ∷ []) f) (own_behind p after) w)) gs.1 i) h
-  reach p (Unique k n f after) m g i h =
-      let gs = each-parts (λ c. content c.0 ≡ c.1) (contents f) (contents after) g in
-      among_both i (contents f) (contents after)
-      (reach (p ++ k ∷ []) f (λ j w. m j (any_left (marks j) (own_behind (p ++ k ∷ []) f) (own_behind p after) w))
-      gs.0 i)
-      (reach p after (λ j w. m j (any_right (marks j) (own_behind (p ++ k ∷ []) f) (own_behind p after) w)) gs.1 i) h
+  reach p (Inline k n f after) m g i h = reaches_both (own_behind (p ++ k ∷ []) f) (own_behind p after) (contents f)
+      (contents after) (reach (p ++ k ∷ []) f) (reach p after) m g i h
+  reach p (Unique k n f after) m g i h = reaches_both (own_behind (p ++ k ∷ []) f) (own_behind p after) (contents f)
+      (contents after) (reach (p ++ k ∷ []) f) (reach p after) m g i h
   reach p (First k n j f after) m g i h =
-      let gs = each-parts (λ c. content c.0 ≡ c.1) (contents f) (contents after) g.1 in
       let here : Reached b content j = m j (or_left _ (has_mark j (own_behind p after)) (same_identity_itself j)) in
-      or_both (is_same_identity i j) _ (λ a. subst (Reached b content) (sym (same_identity i j a)) here)
-      (among_both i (contents f) (contents after) (reach [] f (λ l w. inside j here (ap (has_mark l) g.0 ∙ w)) gs.0 i)
-      (reach p after (λ l w. m l (or_right (is_same_identity l j) _ w)) gs.1 i)) h
+      elim (or_cases (is_same_identity i j) _ h) [
+        | inl a ↦ subst (Reached b content) (sym (same_identity i j a)) here
+        | inr a ↦ reaches_both (own f) (own_behind p after) (contents f) (contents after) (reach [] f) (reach p after)
+            (λ l w. elim (or_cases _ _ (sym (list_any-append (marks l) (own f) (own_behind p after)) ∙ w)) [
+              | inl v ↦ inside j here (ap (has_mark l) g.0 ∙ v)
+              | inr v ↦ m l (or_right (is_same_identity l j) _ v)
+            ]) g.1 i a
+      ]
   reach p (Again k n j after) m g i h = reach p after (λ l w. m l (or_right (is_same_identity l j) _ w)) g i h
 
 -- ---- each identity that a showing marks, also in a content, is met after it

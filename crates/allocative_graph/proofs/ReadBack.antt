@@ -2,7 +2,7 @@
 use Rattle.std.proofs.Common.{◌≡◌, ◌≢◌, ℕ, suc, ◌+◌, ◌^◌, ◌<◌, ◌≤◌, ◌==◌, true, false, List, [], ◌∷◌, ◌++◌, length}
 use Rattle.std.proofs.Common.{get_or, take, drop, None, Some, refl, ap, sym, ◌∙◌, subst, arith, Bor, eqb-true}
 use Rattle.std.proofs.Common.{take-append-drop, Bool, map, subst₂, append-nil, drop-cons, ◌-◌, cond, not, flat_map}
-use Rattle.std.proofs.Common.{length-append, true≢false, decimal, ne_eqb, if◌then◌else◌, filter, append_assoc}
+use Rattle.std.proofs.Common.{length-append, true≢false, decimal, ne_eqb, eq-eqb, if◌then◌else◌, filter, append_assoc}
 use Rattle.allocative_graph.proofs.Common.{LEVELS, LineFault, NoSpace, Lacks, Stack, IsStack, IsNumber, IsCut, IsWrong}
 use Rattle.allocative_graph.proofs.Common.{number_of, nil_from_length, slice_split, lines, lines_of_parts, Line}
 use Rattle.allocative_graph.proofs.Common.{AreStacks, IsFault, map_push, length-map, line_stack, AllByRecursion}
@@ -18,9 +18,9 @@ use Rattle.std.proofs.lemmas.Str.Parse.{digit_at, without_leading_plus_none}
 use Rattle.std.proofs.lemmas.Str.Pattern.{NoCharPasses-char, drop_at_char}
 use Rattle.allocative_graph.specs.declared.read.LineFault.TheVariants.{NoPath, NoNumber, TooLarge, TooDeep}
 use Rattle.allocative_graph.specs.Read.{keys_of, Exceeds, CanBeRead}
-use Rattle.allocative_graph.proofs.Text.{lacks_not, last_split, texts, Plain, Sized, Good, is_shown, full, body}
+use Rattle.allocative_graph.proofs.Text.{lacks_not, texts, Plain, Sized, Good, is_shown, full, body}
 use Rattle.allocative_graph.proofs.Text.{written_entries, good_entries, size_shown, shown_lines, full_body, body_lacks}
-use Rattle.allocative_graph.proofs.Text.{decimal_lacks, bytes_in}
+use Rattle.allocative_graph.proofs.Text.{decimal_lacks}
 use Rattle.std.proofs.lemmas.List.Splits.{length-slice_split, slice_split_none, slice_split_at}
 use Rattle.std.proofs.lemmas.List.Sums.{count_by-le-length}
 use Rattle.std.specs.Str.Lines.{strip_carriage_return}
@@ -33,7 +33,7 @@ use Rattle.allocative_graph.specs.Graph.{without_lines}
 use Rattle.std.proofs.Padding.{cond_same}
 
 -- If no place in a list has a byte, the list lacks it.
-lacks_from : (c : ℕ) (bs : List ℕ) → ((i : ℕ) → i < length bs → get_or bs i 0 ≢ c) → Lacks c bs
+pub lacks_from : (c : ℕ) (bs : List ℕ) → ((i : ℕ) → i < length bs → get_or bs i 0 ≢ c) → Lacks c bs
 lacks_from c bs h = recursion_from_All (λ b. b ≢ c) bs (All-from_get_or (λ b. b ≢ c) bs 0 h)
 
 -- What `rsplit_once` gives at a space.
@@ -62,15 +62,46 @@ pub too_large : (bs : List ℕ) → IsNumeral 10 bs → ¬ IsNumber bs → 2 ^ 6
 too_large bs digits none = let exceeds : number_of bs < 2 ^ 64 → ⊥ = λ fits. none (digits, fits) in
     omega (arith, exceeds)
 
+-- ---- before and after the last c
+-- If c does not come again, what comes before the last c is the best found so far.
+pub none_before : (c : ℕ) (best acc d : List ℕ) → Lacks c d → before_last c best acc d ≡ best
+none_before c best acc [] h = refl
+none_before c best acc (b ∷ d) h = rw (ne_eqb b c h.0) (none_before c best (acc ++ b ∷ []) d h.1)
+
+-- If no other c follows one, all that was read before it comes before the last c.
+pub before_read : (c : ℕ) (best acc x d : List ℕ) → Lacks c d → before_last c best acc (x ++ c ∷ d) ≡ acc ++ x
+before_read c best acc [] d h = rw (eq-eqb c c refl, none_before c acc (acc ++ c ∷ []) d h) (sym (append-nil acc))
+before_read c best acc (b ∷ x) d h = cond_same (b == c)
+    _ _ _ (before_read c acc (acc ++ b ∷ []) x d h ∙ append_assoc acc (b ∷ []) x)
+    (before_read c best (acc ++ b ∷ []) x d h ∙ append_assoc acc (b ∷ []) x)
+
+-- What comes before a c does not change the bytes after the last c.
+pub after_skip : (c : ℕ) (acc a x : List ℕ) → after_last c acc (a ++ c ∷ x) ≡ after_last c [] x
+after_skip c acc [] x = rw (eq-eqb c c refl) refl
+after_skip c acc (b ∷ a) x = cond_same (b == c) _ _ _ (after_skip c [] a x) (after_skip c (acc ++ b ∷ []) a x)
+
+-- If no c comes again, the bytes after the last c are those read since then and all the rest.
+pub after_lacking : (c : ℕ) (acc a : List ℕ) → Lacks c a → after_last c acc a ≡ acc ++ a
+after_lacking c acc [] h = sym (append-nil acc)
+after_lacking c acc (b ∷ a) h = rw (ne_eqb b c h.0)
+    (after_lacking c (acc ++ b ∷ []) a h.1 ∙ append_assoc acc (b ∷ []) a)
+
+-- The parts of a line that is cut at its last space.
+cut_at : {line a x : List ℕ} → IsCut line a x → (before_last 32 [] [] line ≡ a) × (after_last 32 [] line ≡ x)
+cut_at {a = a} {x = x} cut = (ap (before_last 32 [] []) cut.parts ∙ before_read 32 [] [] a x cut.last, ap (after_last 32 []) cut.parts ∙ after_skip 32 [] a x ∙ after_lacking 32 [] x cut.last)
+
+-- A stack is cut at its last space.
+stack_cut : {line : List ℕ} {s : Stack} (is : IsStack line s) → IsCut line is.path is.number
+stack_cut is = record { parts = is.parts; last = number_lacks is.number is.reads }
+
 -- A line is cut at its last space in one way.
 pub one_cut : {line a b x y : List ℕ} → IsCut line a x → IsCut line b y → (a ≡ b) × (x ≡ y)
-one_cut {a = a} {b = b} {x = x} {y = y} one other =
-    last_split 32 a b x y one.last other.last (sym one.parts ∙ other.parts)
+one_cut one other = (sym (cut_at one).0 ∙ (cut_at other).0, sym (cut_at one).1 ∙ (cut_at other).1)
 
 -- What stands before the last space of a stack is its path, and what stands behind it its number.
 pub cut_once : {line front back : List ℕ} {s : Stack} → IsCut line front back → (is : IsStack line s) →
     (front ≡ is.path) × (back ≡ is.number)
-cut_once cut is = one_cut cut (record { parts = is.parts; last = number_lacks is.number is.reads })
+cut_once cut is = one_cut cut (stack_cut is)
 
 -- A line with which something is wrong is no stack.
 pub wrong_is_none : (w : LineFault) (line : List ℕ) → IsWrong w line → (s : Stack) → IsStack line s → ⊥
@@ -190,10 +221,6 @@ no_byte : (c : ℕ) (xs : List ℕ) → Lacks c xs → All (λ b. (b == c) ≡ f
 no_byte c xs h = All-weaker (λ b. b ≢ c) (λ b. (b == c) ≡ false) (λ b. ne_eqb b c) xs
     (All-from_recursion (λ b. b ≢ c) xs h)
 
--- If a list lacks a byte, no place in the list has it.
-lacks_at : (c : ℕ) (xs : List ℕ) (i : ℕ) → Lacks c xs → i < length xs → get_or xs i 0 ≢ c
-lacks_at c xs i h l = All-from_recursion (λ b. b ≢ c) xs h i 0 l
-
 -- ---- lines
 -- A part that is not the last one is a line, without a carriage return at its end.
 lines_of_parts-cons : (x : List ℕ) (parts : List (List ℕ)) → 0 < length parts →
@@ -207,7 +234,7 @@ kept_end a d h some =
     let last : get_or (a ++ d) (length (a ++ d) - 1) 0 ≡ get_or d (length (a ++ d) - 1 - length a) 0 =
     get_or-append_right a d (length a) (length (a ++ d) - 1) 0 refl (omega (arith, length-append a d)) in
     let other : get_or (a ++ d) (length (a ++ d) - 1) 0 ≢ 13 =
-    λ e. lacks_at 13 d _ h (omega (arith, length-append a d)) (sym last ∙ e) in
+    λ e. All-from_recursion (λ b. b ≢ 13) d h _ 0 (omega (arith, length-append a d)) (sym last ∙ e) in
     ap (λ (t : Bool). if t then take (length (a ++ d) - 1) (a ++ d) else (a ++ d)) (ne_eqb _ 13 other)
 
 -- If all keys are plain, a text written entry by entry has one line for each entry.
@@ -250,11 +277,18 @@ saying (k ∷ p, n) good = λ i. record { path = keys-joined k p good.plain i; s
 body_cut : (e : Sized) → IsCut (body e) (joined e.0) (decimal e.1)
 body_cut e = record { parts = refl; last = decimal_lacks 32 e.1 (omega arith) }
 
--- If the line of a good entry is a stack, the stack has the path and the size of the entry.
-entry_read : (e : Sized) → Good e → (s : Stack) → IsStack (body e) s → s ≡ said e
-entry_read e good s is =
-    let both = cut_once (body_cut e) is in
-    is.is ∙ (λ i. record { path = keys_of (sym both.0 i); size = number_of (sym both.1 i) }) ∙ saying e good
+-- What a line says, cut at its last space.
+abbrev line_says : List ℕ → Stack
+line_says l = record { path = keys_of (before_last 32 [] [] l); size = number_of (after_last 32 [] l) }
+
+-- A line says what stands before its last space and behind it.
+cut_says : {line a x : List ℕ} → IsCut line a x → line_says line ≡ record { path = keys_of a; size = number_of x }
+cut_says cut = λ i. record { path = keys_of ((cut_at cut).0 i); size = number_of ((cut_at cut).1 i) }
+
+-- The lines of good entries say the entries.
+said_all : (es : List Sized) → AllByRecursion Good es → map line_says (map body es) ≡ map said es
+said_all [] good = refl
+said_all (e ∷ es) good = λ i. (cut_says (body_cut e) ∙ saying e good.0) i ∷ said_all es good.1 i
 
 -- If the lines of good entries are stacks, these have the paths and the sizes of the entries, in their order.
 entries_read : (es : List Sized) → AllByRecursion Good es → (ss : List Stack) → AreStacks (map body es) ss →
@@ -263,36 +297,27 @@ entries_read [] good [] h = refl
 entries_read [] good (s ∷ ss) h = absurd h
 entries_read (e ∷ es) good ss h =
     let f = stacks-first (body e) (map body es) ss (omega (arith, length-append (joined e.0) (32 ∷ decimal e.1))) h in
-    f.2 ∙ (λ i. entry_read e good.0 f.0 f.3 i ∷ entries_read es good.1 f.1 f.4 i)
+    f.2 ∙ (λ i. (f.3.is ∙ sym (cut_says (stack_cut f.3)) ∙ cut_says (body_cut e) ∙ saying e good.0) i
+    ∷ entries_read es good.1 f.1 f.4 i)
 
 -- If the keys of a graph are plain and its total fits a word, its text has the lines of the entries shown.
 lines-text : (g : Graph) → HasPlainKeys g → HasWords g → lines (text g) ≡ map body (written_entries g)
 lines-text g plain fits = ap lines (shown_lines (entries g))
     ∙ lines-full (written_entries g) (each-implies Good _ (λ e good. good.plain) (written_entries g) (good_entries (entries g) plain fits))
 
--- Two good entries with the same line are equal.
-same_entry : (e f : Sized) → Good e → Good f → body e ≡ body f → e ≡ f
-same_entry e f a b h =
-    let both = one_cut (body_cut e) (subst (λ l. IsCut l (joined f.0) (decimal f.1)) (sym h) (body_cut f)) in
-    let told = sym (saying e a) ∙ (λ i. record { path = keys_of (both.0 i); size = number_of (both.1 i) })
-    ∙ saying f b in
-    λ i. ((told i).path, (told i).size)
-
--- Two lists of good entries with the same lines are equal.
-same_entries : (es fs : List Sized) → AllByRecursion Good es → AllByRecursion Good fs → map body es ≡ map body fs →
-    es ≡ fs
-same_entries [] [] a b h = refl
-same_entries [] (f ∷ fs) a b h = cc
-same_entries (e ∷ es) [] a b h = cc
-same_entries (e ∷ es) (f ∷ fs) a b h = λ i. same_entry e f a.0 b.0 (cc) i ∷ same_entries es fs a.1 b.1 (cc) i
+-- A size of a graph, but for the root's, is that of the stacks that its lines say.
+size_said : (g : Graph) (k : Key) (p : Path) → size_at g (k ∷ p) ≡ bytes_at (map said (written_entries g)) (k ∷ p)
+size_said g k p = size_shown g k p
+    ∙ sym (fold-map (λ n (s : Stack). n + cond (is_same_path (k ∷ p) s.path) s.size 0) said 0 (written_entries g))
 
 -- Graphs with plain keys, totals that fit a word and one text have equal sizes at each path but the root.
 pub text_tells : (g h : Graph) → HasPlainKeys g → HasPlainKeys h → HasWords g → HasWords h → text g ≡ text h →
     (k : Key) (p : Path) → size_at g (k ∷ p) ≡ size_at h (k ∷ p)
 text_tells g h a b v w e k p =
-    let same = same_entries (written_entries g) (written_entries h) (good_entries (entries g) a v) (good_entries (entries h) b w)
-    (sym (lines-text g a v) ∙ ap lines e ∙ lines-text h b w) in
-    size_shown g k p ∙ ap (λ es. bytes_in es (k ∷ p)) same ∙ sym (size_shown h k p)
+    let same = sym (said_all (written_entries g) (good_entries (entries g) a v))
+    ∙ ap (map line_says) (sym (lines-text g a v) ∙ ap lines e ∙ lines-text h b w)
+    ∙ said_all (written_entries h) (good_entries (entries h) b w) in
+    size_said g k p ∙ ap (λ ss. bytes_at ss (k ∷ p)) same ∙ sym (size_said h k p)
 
 -- The stacks of the text of a graph are its entries that have a line.
 stacks_of_text : (g : Graph) → HasPlainKeys g → HasWords g → (ss : List Stack) → SaysStacks (text g) ss →
@@ -318,8 +343,8 @@ size_at-read ss h k p e =
 pub reads_back : (g h : Graph) → HasPlainKeys g → HasWords g → IsRead (text g) h → (k : Key) (p : Path) →
     size_at h (k ∷ p) ≡ size_at g (k ∷ p)
 reads_back g h plain fits read k p =
-    rw (size_at-read read.stacks h k p (read.graph (k ∷ p)), stacks_of_text g plain fits read.stacks read.means, size_shown g k p)
-    (fold-map (λ n (s : Stack). n + cond (is_same_path (k ∷ p) s.path) s.size 0) said 0 (written_entries g))
+    size_at-read read.stacks h k p (read.graph (k ∷ p))
+    ∙ ap (λ ss. bytes_at ss (k ∷ p)) (stacks_of_text g plain fits read.stacks read.means) ∙ sym (size_said g k p)
 
 -- ---- nothing in the text of a graph is refused
 -- The line of a good entry is a stack with its path and its size.
@@ -369,7 +394,7 @@ never_exceeds g plain fits e =
 -- ---- lines dropped from a text are paths left out of it
 -- ---- the lines
 -- What was read and what comes before the next line feed is one line. The rest is read as further lines.
-line_read : (acc a rest : List ℕ) → Lacks 10 a → lines_from acc (a ++ 10 ∷ rest) ≡ (acc ++ a) ∷ lines_from [] rest
+pub line_read : (acc a rest : List ℕ) → Lacks 10 a → lines_from acc (a ++ 10 ∷ rest) ≡ (acc ++ a) ∷ lines_from [] rest
 line_read acc [] rest h = λ i. sym (append-nil acc) i ∷ lines_from [] rest
 line_read acc (b ∷ a) rest h = rw (ne_eqb b 10 h.0, line_read (acc ++ b ∷ []) a rest h.1) (simp append_assoc)
 
@@ -380,40 +405,17 @@ lines_read [] h = refl
 lines_read (e ∷ es) h = ap (lines_from []) (full_body e (flat_map full es))
     ∙ line_read [] (body e) (flat_map full es) (body_lacks e h.0) ∙ (λ i. body e ∷ lines_read es h.1 i)
 
--- ---- the last key
--- If c does not come again, what comes before the last c is the best found so far.
-none_before : (c : ℕ) (best acc d : List ℕ) → Lacks c d → before_last c best acc d ≡ best
-none_before c best acc [] h = refl
-none_before c best acc (b ∷ d) h = rw (ne_eqb b c h.0) (none_before c best (acc ++ b ∷ []) d h.1)
-
--- If no other space follows a space, all that was read before it comes before the last space.
-before_read : (best acc x d : List ℕ) → Lacks 32 d → before_last 32 best acc (x ++ 32 ∷ d) ≡ acc ++ x
-before_read best acc [] d h = none_before 32 acc (acc ++ 32 ∷ []) d h ∙ sym (append-nil acc)
-before_read best acc (b ∷ x) d h = cond_same (b == 32)
-    _ _ _ (before_read acc (acc ++ b ∷ []) x d h ∙ append_assoc acc (b ∷ []) x)
-    (before_read best (acc ++ b ∷ []) x d h ∙ append_assoc acc (b ∷ []) x)
-
--- What comes before a `;` does not change the bytes after the last `;`.
-after_skip : (acc a x : List ℕ) → after_last 59 acc (a ++ 59 ∷ x) ≡ after_last 59 [] x
-after_skip acc [] x = refl
-after_skip acc (b ∷ a) x = cond_same (b == 59) _ _ _ (after_skip [] a x) (after_skip (acc ++ b ∷ []) a x)
-
--- If no `;` comes again, the bytes after the last `;` are those read since then and all the rest.
-after_read : (acc a : List ℕ) → Lacks 59 a → after_last 59 acc a ≡ acc ++ a
-after_read acc [] h = sym (append-nil acc)
-after_read acc (b ∷ a) h = rw (ne_eqb b 59 h.0) (after_read (acc ++ b ∷ []) a h.1 ∙ append_assoc acc (b ∷ []) a)
-
 -- A path with plain keys ends in a key exactly if its text has that key after the last `;`.
 last_of : (key k : Key) (p : Path) → AllByRecursion Plain (k ∷ p) →
     eq_by_cmp key_cmp key (after_last 59 [] (joined (k ∷ p))) ≡ ends_in key (k ∷ p)
-last_of key k [] h = ap (eq_by_cmp key_cmp key) (after_read [] k h.0.0)
-last_of key k (l ∷ p) h = ap (eq_by_cmp key_cmp key) (after_skip [] k (joined (l ∷ p))) ∙ last_of key l p h.1
+last_of key k [] h = ap (eq_by_cmp key_cmp key) (after_lacking 59 [] k h.0.0)
+last_of key k (l ∷ p) h = ap (eq_by_cmp key_cmp key) (after_skip 59 [] k (joined (l ∷ p))) ∙ last_of key l p h.1
 
 -- A path with plain keys ends in a key exactly if its line has that last key.
 last_key_of : (key k : Key) (p : Path) (n : ℕ) → AllByRecursion Plain (k ∷ p) →
     eq_by_cmp key_cmp key (last_key (body (k ∷ p, n))) ≡ ends_in key (k ∷ p)
 last_key_of key k p n h = ap (λ l. eq_by_cmp key_cmp key (after_last 59 [] l))
-    (before_read [] [] (joined (k ∷ p)) (decimal n) (decimal_lacks 32 n (omega arith))) ∙ last_of key k p h
+    (before_read 32 [] [] (joined (k ∷ p)) (decimal n) (decimal_lacks 32 n (omega arith))) ∙ last_of key k p h
 
 -- ---- all lines
 -- If all keys are plain, leaving out the paths that end in a key leaves out the lines with that last key.

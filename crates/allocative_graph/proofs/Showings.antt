@@ -210,11 +210,6 @@ get-sum_of g h q = get-from_entries path_total _ q
     ∙ (λ i. sym (contains_key-keys g q) i || sym (contains_key-keys h q) i))
 
 -- ---- if the sums can be added
--- If a path other than the root was not entered, it has no bytes below it.
-absent_sums : (f : Forest) (k : Key) (p : Path) → get (sums_of (all f)) (k ∷ p) ≡ None →
-    below (sums_of (all f)) (k ∷ p) ≡ 0
-absent_sums f k p h = below-sums_of (all f) (k ∷ p) ∙ absent_below f k p (grind (arith, get-sums_of (all f) (k ∷ p), h))
-
 -- If the sums of two forests can be added, their graphs add up to the graph of both in one forest.
 pub graphs_add : (f g : Forest) → CanBeAdded (sums_of (all f)) (sums_of (all g)) →
     sum_of (graph (sums_of (all f))) (graph (sums_of (all g))) ≡ graph (sums_of (all (followed_by f g)))
@@ -231,7 +226,7 @@ graphs_add f g can = same_map path_total path_antisymmetric _ _ each
         omega (arith, below-sums_of (all g) q, below-add_all s (all g) q) in
         rw (get-sum_of (graph s) (graph t) q, get-graph s k p, get-graph t k p, ap (λ x. get (graph x) q) (entries_at-following empty [] f g), get-graph (add_all s (all g)) k p)
         (rw (get-add_all s (all g) q, ← get-sums_of (all g) q)
-        (grind (arith, below_both, absent_sums f k p, absent_sums g k p, can q)))
+        (grind (arith, below_both, absent_below f k p, absent_below g k p, can q)))
 
 -- If two whole showings reach no identity in common, one followed by the other is a whole showing.
 pub whole_following : (f g : Forest) → IsWhole f → IsWhole g → ReachApart f g → IsWhole (followed_by f g)

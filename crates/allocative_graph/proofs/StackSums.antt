@@ -1,14 +1,13 @@
 -- The graphs of stacks, path by path, and what they add up to in any order.
-use Rattle.std.proofs.Common.{◌≡◌, ℕ, ◌+◌, ◌^◌, ◌<◌, ◌||◌, ◌&&◌, Bool, true, false, cond, List, [], ◌∷◌, ◌++◌, map}
-use Rattle.std.proofs.Common.{take, Option, Some, None, is_some, refl, sym, ap, ◌∙◌, subst, true≢false, unwrap_or}
-use Rattle.std.proofs.Common.{sum_by, arith, zero-add}
+use Rattle.std.proofs.Common.{◌≡◌, ℕ, ◌+◌, ◌^◌, ◌<◌, ◌||◌, ◌&&◌, Bool, true, cond, List, [], ◌∷◌, ◌++◌, map}
+use Rattle.std.proofs.Common.{take, Option, Some, None, is_some, refl, sym, ap, ◌∙◌, subst, unwrap_or}
+use Rattle.std.proofs.Common.{sum_by, arith, zero-add, length, get_or}
 use Rattle.allocative_graph.proofs.Common.{list_any, IsPermutation, is_eq, get, contains_key, get-insert, Line, Key}
 use Rattle.allocative_graph.proofs.Common.{Path, key_cmp, path_cmp, is_same_path, Graph, size_at, total, begins}
 use Rattle.allocative_graph.proofs.Common.{is_root, default, sum_of, SaysStacks, IsRead, Stack, bytes_at, is_path_of}
 use Rattle.allocative_graph.proofs.Common.{all_bytes, graph_of_path, one_stack, sum_of_stacks, map_push, fold-map}
 use Rattle.allocative_graph.proofs.Common.{sum_by-IsPermutation, fold-append, sum_by_push, tied_then}
-use Rattle.std.specs.Option.{SomeIff}
-use Rattle.std.proofs.lemmas.List.Sums.{sum_by-take-le}
+use Rattle.std.proofs.lemmas.List.Sums.{sum_by_more_le}
 use Rattle.std.proofs.lemmas.List.Sorted.{IsPermutation-map}
 use Rattle.allocative_graph.specs.Read.{line_stack, IsGraphOfStacks, Exceeds}
 use Rattle.allocative_graph.proofs.Basics.{path_total, same_path, key_itself}
@@ -107,12 +106,11 @@ total-lines : (ls : List Line) → total (sum_of_stacks default (map line_stack 
 total-lines ls = omega (arith, total-stacks (map line_stack ls), fold-map (λ n (s : Stack). n + s.size) line_stack 0 ls)
 
 -- The bytes of the next line fit, where those of all lines do.
-pub line_fits : (ls : List Line) (i : ℕ) (l : Line) (g : Graph) → take (i + 1) ls ≡ take i ls ++ l ∷ [] →
+pub line_fits : (ls : List Line) (i : ℕ) (d : Line) (g : Graph) → i < length ls →
     g ≡ sum_of_stacks default (map line_stack (take i ls)) → sum_by (λ l. l.size) ls < 2 ^ 64 →
-    total g + l.size < 2 ^ 64
-line_fits ls i l g more is fits =
-    let size : Line → ℕ = λ l. l.size in
-    omega (arith, fits, ap total is, total-lines (take i ls), ap (sum_by size) more, sum_by_push size (take i ls) l, sum_by-take-le size ls (i + 1))
+    total g + (get_or ls i d).size < 2 ^ 64
+line_fits ls i d g within is fits =
+    omega (arith, fits, ap total is, total-lines (take i ls), sum_by_more_le (λ (l : Line). l.size) ls i d within)
 
 -- One line more is added.
 pub line_more : (ls : List Line) (i : ℕ) (l : Line) (g h : Graph) → take (i + 1) ls ≡ take i ls ++ l ∷ [] →
@@ -125,18 +123,10 @@ line_more ls i l g h more was is =
     ∙ fold-append (λ h s. sum_of h (one_stack s)) default (map line_stack (take i ls)) (line_stack l ∷ []))
 
 -- If the bytes of lines were added up in vain, they exceed a word.
-pub sum_exceeds : (t : List ℕ) (ls given : List Line) (o : Option ℕ) → SaysStacks t (map line_stack ls) → given ≡ ls
-    → SomeIff o (sum_by (λ l. l.size) given < 2 ^ 64) (sum_by (λ l. l.size) given) → is_some o ≡ false → Exceeds t
-sum_exceeds t ls given None means e h none =
+pub sum_exceeds : (t : List ℕ) (ls given : List Line) → SaysStacks t (map line_stack ls) → given ≡ ls →
+    ¬ (sum_by (λ l. l.size) given < 2 ^ 64) → Exceeds t
+sum_exceeds t ls given means e h =
     record { stacks = map line_stack ls; means = means; exceeds = omega (arith, h, ap (λ (xs : List Line). sum_by (λ l. l.size) xs) e, fold-map (λ n (s : Stack). n + s.size) line_stack 0 ls) }
-sum_exceeds t ls given (Some n) means e h none = absurd (true≢false none)
 
--- Where the bytes of lines fit, they fit in any order.
-pub sum_fits : {ls given sorted taken : List Line} (o : Option ℕ) → given ≡ ls → IsPermutation ls sorted →
-    taken ≡ sorted
-    → SomeIff o (sum_by (λ l. l.size) given < 2 ^ 64) (sum_by (λ l. l.size) given) → is_some o ≡ true →
-    sum_by (λ l. l.size) taken < 2 ^ 64
-sum_fits None e moved f h some = absurd (true≢false (sym some))
-sum_fits {ls = ls} {sorted = sorted} (Some n) e moved f h some =
-    let size : Line → ℕ = λ l. l.size in
-    omega (arith, h.0, ap (sum_by size) e, ap (sum_by size) f, sum_by-IsPermutation size ls sorted moved)
+-- The bytes of lines do not depend on their order.
+pub ruleset of_lines = (sum_by-IsPermutation)

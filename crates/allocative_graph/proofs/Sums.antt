@@ -2,21 +2,21 @@
 -- entries.
 use Rattle.std.proofs.Common.{◌≡◌, ℕ, ◌+◌, Bool, false, cond, [], ◌∷◌, Option, Some, None, refl, ap, sym, ◌∙◌, sum_by}
 use Rattle.std.proofs.Common.{arith, nat_lt, IsTrue, true, T, List, subst, unwrap_or, map, Ordering, Less, ◌++◌}
-use Rattle.std.proofs.Common.{flat_map, ◌&&◌, ◌||◌, true≢false}
+use Rattle.std.proofs.Common.{flat_map, ◌||◌, true≢false}
 use Rattle.allocative_graph.proofs.Common.{get, get-insert, same_map, Path, path_cmp, is_same_path, Entry, Bag, Node}
 use Rattle.allocative_graph.proofs.Common.{Sums, bytes_in, is_unique_in, is_entered_in, together, node_of, add, add_all}
 use Rattle.allocative_graph.proofs.Common.{sums_of, sum_by-cons, list_any, option_map, eq_by_cmp, is_eq, is_lt}
 use Rattle.allocative_graph.proofs.Common.{IsAntisymmetric, get-entries, insert, entries-insert, entries}
 use Rattle.allocative_graph.proofs.Common.{entries_sorted, put, find, is_sorted, below_all, is_one_below, below, both}
-use Rattle.allocative_graph.proofs.Common.{first, second, AllByRecursion, list_any-append, nat_cmp-IsAntisymmetric}
-use Rattle.allocative_graph.proofs.Common.{slice_cmp-IsAntisymmetric, Key, key_cmp, Identity, Forest, Empty, Inline}
+use Rattle.allocative_graph.proofs.Common.{first, second, AllByRecursion, list_any-append, tied_then}
+use Rattle.allocative_graph.proofs.Common.{Key, key_cmp, Identity, Forest, Empty, Inline}
 use Rattle.allocative_graph.proofs.Common.{Unique, First, Again, AsInline, AsUnique, AsShared, own, own_behind}
 use Rattle.allocative_graph.proofs.Common.{contents, content_entries, all, IsTotalOrder, Mark}
 use Rattle.std.proofs.lemmas.Bool.Decides.{nat_tests}
 use Rattle.std.specs.FinMap.{empty, get-empty, FinMap}
 use Rattle.allocative_graph.specs.Sums.{is_unique_mark, bytes_entered}
 use Rattle.allocative_graph.proofs.Basics.{path_total, path_antisymmetric, same_path, is_eq-Equal, each-append}
-use Rattle.allocative_graph.proofs.Basics.{and_parts, false_from_ne_true, same_path_itself, key_itself}
+use Rattle.allocative_graph.proofs.Basics.{same_path_itself}
 pub use Rattle.allocative_graph.specs.Sums.{below_in}
 use Rattle.allocative_graph.proofs.Computed.{below_list, entries-empty}
 
@@ -169,17 +169,14 @@ pub below-sums_of : (b : Bag) (p : Path) → below (sums_of b) p ≡ below_in b 
 below-sums_of b p = omega (arith, below-add_all empty b p, ap (λ es. below_list es p) entries-empty)
 
 -- ---- a path with an entry one key below it has an entry itself, or is the root
--- If the path r with one more key is one key below p, then p is r.
-pub one_below_child : (p r : Path) (k : Key) → IsTrue (is_one_below p (r ++ k ∷ [])) → p ≡ r
-one_below_child [] [] k h = refl
-one_below_child [] (l ∷ []) k h = absurd (true≢false (sym h))
-one_below_child [] (l ∷ m ∷ r) k h = absurd (true≢false (sym h))
-one_below_child (a ∷ []) [] k h = absurd (true≢false (sym (and_parts (eq_by_cmp key_cmp a k) false h).1))
-one_below_child (a ∷ b ∷ p) [] k h = absurd (true≢false (sym (and_parts (eq_by_cmp key_cmp a k) false h).1))
-one_below_child (a ∷ p) (l ∷ r) k h =
-    let parts = and_parts (eq_by_cmp key_cmp a l) _ h in
-    λ i. slice_cmp-IsAntisymmetric nat_cmp-IsAntisymmetric a l (is_eq-Equal _ parts.0) i ∷ one_below_child p r k parts.1
-    i
+-- The path r with one more key is one key below q exactly if q is r.
+pub one_below_is : (q r : Path) (k : Key) → is_one_below q (r ++ k ∷ []) ≡ is_same_path q r
+one_below_is [] [] k = refl
+one_below_is [] (l ∷ []) k = refl
+one_below_is [] (l ∷ m ∷ r) k = refl
+one_below_is (a ∷ []) [] k = grind arith
+one_below_is (a ∷ b ∷ p) [] k = grind arith
+one_below_is (a ∷ p) (l ∷ r) k = grind (arith, one_below_is p r k, tied_then (key_cmp a l) (path_cmp p r))
 
 -- Whether b has an entry one key below p.
 abbrev has_below : Bag → Path → Bool
@@ -200,8 +197,7 @@ closed_entry : (r : Path) (k : Key) (n : ℕ) (m : Mark) (b c : Bag) → Closed 
     Closed r (record { path = r ++ k ∷ []; size = n; mark = m } ∷ (b ++ c))
 closed_entry r k n m b c x y p =
     rw (list_any-append (λ e. is_one_below p e.path) b c, list_any-append (λ e. is_same_path p e.path) b c)
-    (λ h. let here = λ (w : IsTrue (is_one_below p (r ++ k ∷ []))). ap (is_same_path p) (sym (one_below_child p r k w))
-    ∙ same_path_itself p in grind (arith, x p, y p, here))
+    (λ h. grind (arith, x p, y p, one_below_is p r k))
 
 -- A bag without entries is closed at each path.
 closed_none : (r : Path) → Closed r []
@@ -235,25 +231,15 @@ closed_flat [] h = closed_none []
 closed_flat (c ∷ cs) h = closed_append [] c.1 (flat_map (λ c. c.1) cs) h.0 (closed_flat cs h.1)
 
 -- All entries of a forest are closed at the root.
-closed_all : (f : Forest) → Closed [] (all f)
+pub closed_all : (f : Forest) → Closed [] (all f)
 closed_all f = closed_append [] (own f) (content_entries f) (closed_behind [] f)
     (closed_flat (contents f) (closed_each f))
-
--- A path with one more key is one key below the path.
-pub one_below_self : (p : Path) (k : Key) → IsTrue (is_one_below p (p ++ k ∷ []))
-one_below_self [] k = refl
-one_below_self (l ∷ p) k = (λ i. is_eq (key_itself l i) && is_one_below p (p ++ k ∷ [])) ∙ one_below_self p k
 
 -- If a bag has an entry at p with one more key, it has an entry one key below p.
 pub below_entered : (p : Path) (k : Key) (b : Bag) → IsTrue (is_entered_in b (p ++ k ∷ [])) → IsTrue (has_below b p)
 below_entered p k [] h = h
 below_entered p k (e ∷ b) h =
-    grind (arith, h, below_entered p k b, same_path (p ++ k ∷ []) e.path, one_below_self p k)
-
--- In a forest, a path other than the root has an entry if a path one key below it has one.
-pub parent_entered : (f : Forest) (l : Key) (p : Path) → IsTrue (has_below (all f) (l ∷ p)) →
-    IsTrue (is_entered_in (all f) (l ∷ p))
-parent_entered f l p h = closed_all f (l ∷ p) h
+    grind (arith, h, below_entered p k b, same_path (p ++ k ∷ []) e.path, one_below_is p p k, same_path_itself p)
 
 -- If a bag has no entry one key below p, it has no bytes there.
 below_none : (b : Bag) (p : Path) → has_below b p ≡ false → below_in b p ≡ 0
@@ -261,8 +247,7 @@ below_none [] p h = refl
 below_none (e ∷ b) p h =
     grind (arith, h, below_none b p, sum_by-cons (λ e. cond (is_one_below p e.path) e.size 0) e b)
 
--- If a forest has no entry at a path other than the root, it has no bytes one key below that path.
-pub absent_below : (f : Forest) (k : Key) (p : Path) → is_entered_in (all f) (k ∷ p) ≡ false →
-    below_in (all f) (k ∷ p) ≡ 0
-absent_below f k p h = below_none (all f) (k ∷ p)
-    (false_from_ne_true _ (λ w. true≢false (sym (parent_entered f k p w) ∙ h)))
+-- If a path other than the root was not entered, it has no bytes below it.
+pub absent_below : (f : Forest) (k : Key) (p : Path) → get (sums_of (all f)) (k ∷ p) ≡ None →
+    below (sums_of (all f)) (k ∷ p) ≡ 0
+absent_below f k p h = grind (arith, h, get-sums_of (all f) (k ∷ p), below-sums_of (all f) (k ∷ p), below_none (all f) (k ∷ p), closed_all f (k ∷ p))

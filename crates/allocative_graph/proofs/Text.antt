@@ -1,16 +1,18 @@
 -- A text determines the sizes: it splits into lines at the line feeds, a line at its last space, and a path at each
 -- `;`. What the walk of `write` has written so far.
 use Rattle.std.proofs.Common.{◌≡◌, ◌≢◌, ℕ, zero, suc, ◌^◌, ◌<◌, ◌≤◌, ◌/◌, ◌%◌, ◌==◌, Bool, false, cond, not, ◌||◌, T}
-use Rattle.std.proofs.Common.{IsTrue, List, [], ◌∷◌, ◌++◌, map, flat_map, filter, refl, ap, sym, ◌∙◌, subst, arith}
+use Rattle.std.proofs.Common.{IsTrue, List, [], ◌∷◌, ◌++◌, map, flat_map, filter, refl, ap, sym, ◌∙◌, arith}
 use Rattle.std.proofs.Common.{unwrap_or, append_assoc, decimal, sum_by, eqb-true, if◌then◌else◌, ◌+◌, take, length}
-use Rattle.std.proofs.Common.{get_or, Bor, ◌-◌, length-append, append-nil, ne_eqb}
+use Rattle.std.proofs.Common.{get_or, Bor, ◌-◌, length-append, append-nil}
 use Rattle.allocative_graph.proofs.Common.{AllByRecursion, entries, get-entries, entries_sorted, find, is_sorted}
 use Rattle.allocative_graph.proofs.Common.{below_all, first, second, Key, Path, path_cmp, is_same_path, Graph}
 use Rattle.allocative_graph.proofs.Common.{text_of_entries, joined, is_root, size_at, Lacks, sum_by-cons, Child}
-use Rattle.allocative_graph.proofs.Common.{under_rows, rows_of, rows_of_child, joined_on, line_from, lines_from}
+use Rattle.allocative_graph.proofs.Common.{under_rows, rows_of, rows_of_child, joined_on, lines_from}
 use Rattle.allocative_graph.proofs.Common.{flat_map-append, sum_by-filter_both}
 use Rattle.std.specs.Fmt.{digits, digits_onto, digit_glyph}
 use Rattle.std.proofs.lemmas.Bool.{not-false, not-true}
+use Rattle.std.proofs.lemmas.Bool.Decides.{nat_tests}
+use Rattle.std.proofs.lemmas.Grind.{common_steps}
 use Rattle.std.proofs.lemmas.List.Elements.{All-weaker, filter_passes}
 use Rattle.std.proofs.lemmas.List.Sums.{sum_by-le}
 use Rattle.allocative_graph.proofs.Basics.{each-append, each-implies, on_test, same_path}
@@ -18,7 +20,6 @@ use Rattle.allocative_graph.proofs.Sums.{find-below_all}
 use Rattle.std.specs.List.{join_by}
 use Rattle.std.proofs.Math.Seq.{take-append_seam}
 pub use Rattle.allocative_graph.specs.Path.{texts}
-use Rattle.allocative_graph.specs.Representation.Children.{size_text}
 use Rattle.allocative_graph.proofs.Children.{rows-more}
 
 -- ---- lists parted at a byte
@@ -26,13 +27,6 @@ use Rattle.allocative_graph.proofs.Children.{rows-more}
 pub lacks_not : (c : ℕ) (a x : List ℕ) → Lacks c (a ++ c ∷ x) → ⊥
 lacks_not c [] x f = f.0 refl
 lacks_not c (d ∷ a) x f = lacks_not c a x f.1
-
--- A list can be split at the last place of a byte in only one way.
-pub last_split : (c : ℕ) (a b x y : List ℕ) → Lacks c x → Lacks c y → a ++ c ∷ x ≡ b ++ c ∷ y → (a ≡ b) × (x ≡ y)
-last_split c [] [] x y f g e = (refl, cc)
-last_split c [] (d ∷ b) x y f g e = absurd (lacks_not c b y (subst (Lacks c) (cc) f))
-last_split c (d ∷ a) [] x y f g e = absurd (lacks_not c a x (subst (Lacks c) (cc) g))
-last_split c (d ∷ a) (e ∷ b) x y f g h = let rest = last_split c a b x y f g (cc) in (cc (rest.0), rest.1)
 
 -- ---- decimals
 -- The glyph of a digit is at least the glyph of 0.
@@ -175,17 +169,8 @@ pub child_written : (F : Path × ℕ → List ℕ) (cs : List Child) (i : ℕ) (
 child_written F cs i d before h at =
     rw (rows-more cs i d h, ← at, flat_map-append F (rows_of (take i cs)) (rows_of_child d)) (append_assoc before _ _)
 
--- The line of a path with a size other than 0 is the path with its size.
-pub line_of_some : (t : List ℕ) (n : ℕ) → n ≢ 0 → line_from t ([], n) ≡ t ++ size_text n
-line_of_some t n some = ap (λ (b : Bool). cond b [] (t ++ size_text n)) (ne_eqb n 0 some)
-
--- A path with the size 0 has no line.
-pub line_of_none : (t before : List ℕ) (n : ℕ) → n ≡ 0 → before ≡ before ++ line_from t ([], n)
-line_of_none t before n none = sym (append-nil before) ∙ ap (λ (m : ℕ). before ++ line_from t ([], m)) (sym none)
-
--- Cutting back the start of a line returns it.
-pub cut_back : (t more : List ℕ) (n : ℕ) → n ≡ length t → take n (t ++ more) ≡ t
-cut_back t more n len = ap (λ k. take k (t ++ more)) len ∙ take-append_seam t more
+-- What the line of a path is, by the test of its size.
+pub ruleset of_lines = (nat_tests, common_steps)
 
 -- A key pushed after the others is removed again.
 pub popped : (xs ys zs : List (Bor (List ℕ))) (x : Bor (List ℕ)) (n : ℕ) → zs ≡ take (n - 1) ys → n ≡ length ys →

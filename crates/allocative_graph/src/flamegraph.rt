@@ -172,7 +172,7 @@ impl FlameGraph {
     /// time quadratic in their number. [`add_children`](FlameGraph::add_children) adds many at once.
     ///
     /// The errors, and what they leave, are those of [`add`](FlameGraph::add).
-    #[tactic(auto, using(crate::proofs::Nodes::total_of_node))]
+    #[tactic(auto, using(crate::proofs::Nodes::total_of_node, crate::proofs::Nodes::grown))]
     pub fn add_child(&mut self, key: Key, child: FlameGraph) -> Result<(), Refusal>
         ensures sum { OnOk result (self.new ≡ sum_of self.old (under key child)) }
         ensures too_large { IsErrOf result Refusal.TooLarge ↔ ExceedWord self.old child }
@@ -239,7 +239,7 @@ impl FlameGraph {
     // Adds another graph when the totals are known to fit. It is inlined, so that a level of the walk takes less of the
     // stack.
     #[cycle(merge)]
-    #[tactic(auto, using(crate::proofs::Nodes::total_of_both, crate::proofs::Nodes::merged_node))]
+    #[tactic(auto, using(crate::proofs::Nodes::total_of_both, crate::proofs::Nodes::len_of_node, crate::proofs::Nodes::merged_node))]
     #[inline(always)]
     fn merge(&mut self, other: FlameGraph) -> Result<(), AllocError>
         requires { total self.old + total other < 2 ^ 64 }
@@ -271,7 +271,7 @@ impl FlameGraph {
 
     /// The children of the root, in the order of their keys. No two have the same key. Together with the root's
     /// own size they are the whole graph. Each child has fewer paths, so a function may call itself on it.
-    #[tactic(auto, using(crate::proofs::Nodes::own_of_node))]
+    #[tactic(auto, using(crate::proofs::Nodes::own_of_node, crate::proofs::Behind::smaller_child))]
     pub fn children(&self) -> &[Child]
         ensures whole { self.now ≡ node (size_at self.now []) result.now }
         ensures children { AreChildren result.now }
@@ -409,6 +409,7 @@ impl Clone for FlameGraph {
 ///
 /// It requires that each key below the root comes before `key`, and that the sum of the two totals is at most
 /// `usize::MAX`. It returns an error only when memory runs out; then the graph is unchanged, and `child` is dropped.
+#[tactic(auto, using(crate::proofs::Nodes::total_of_node))]
 pub fn push_child(graph: &mut FlameGraph, key: Key, child: FlameGraph) -> Result<(), AllocError>
     requires last { ComesLast graph.old key }
     requires fits { total graph.old + total child < 2 ^ 64 }
@@ -422,7 +423,7 @@ pub fn push_child(graph: &mut FlameGraph, key: Key, child: FlameGraph) -> Result
 }
 
 // Appends the line of a path with a size other than 0.
-#[tactic(auto, using(crate::proofs::Text::line_of_some, crate::proofs::Text::line_of_none))]
+#[tactic(auto, using(crate::proofs::Text::of_lines))]
 fn push_line(path: &str, size: usize, text: &mut String) -> Result<(), AllocError>
     ensures { OnOk result (AppendsText text.old text.new (line_from path.now ([], size))) }
 {
@@ -482,7 +483,7 @@ fn place_by_halving(children: &[Child], key: &str) -> Result<usize, usize>
 
 // Adds a child: to the child with its key, or at its place among the others.
 #[cycle(merge)]
-#[tactic(auto, using(crate::proofs::Children::total_at_gap))]
+#[tactic(auto, using(crate::proofs::Children::total_at_gap, crate::proofs::Children::total_at_found, crate::proofs::Children::fits_at_found))]
 fn put_child(children: &mut Vec<Child>, size: &mut usize, child: Child) -> Result<(), AllocError>
     requires children { AreChildren children.old.items }
     requires size { size.old ≡ total_of children.old.items }
@@ -559,6 +560,7 @@ fn interleave(
 
 // Takes the next child of the merge from the lists. If both have its key, one is added to the other.
 #[cycle(merge)]
+#[tactic(auto, using(crate::proofs::Children::front_total, crate::proofs::Children::front_rows))]
 fn take_next(
     mine: &mut VecDeque<Child>,
     theirs: &mut VecDeque<Child>,

@@ -75,6 +75,7 @@ impl FlameGraph {
     /// may be empty, and may have spaces, but a path has at least one byte. Blank lines are skipped. It returns `Line`
     /// for any other line that is not of this form, or whose path has more than [`LEVELS`] keys, and `TooLarge` only if
     /// the bytes of all lines together exceed `usize::MAX`. The only other error is that memory runs out.
+    #[tactic(auto, using(crate::proofs::StackSums::of_lines))]
     pub fn read(alloc: Global, text: &'static str) -> Result<FlameGraph, ReadFault>
         ensures graph { IfOk result (λ graph. IsRead text.now graph) }
         ensures line { TellsFault text.now result }
@@ -82,9 +83,9 @@ impl FlameGraph {
         ensures reads_back { IfOk result (λ graph. ReadsBack text.now graph) }
     {
         let mut lines = read_lines(alloc, text)?;
-        if total_of(lines.as_slice()).is_none() {
+        let Some(_total) = total_of(lines.as_slice()) else {
             return Err(ReadFault::TooLarge);
-        }
+        };
         // Almost every key is then added behind those that are there. The result of a sum does not depend on it.
         lines.sort_unstable_by(|a: &Line, b: &Line| a.path.cmp(b.path));
         Ok(add_up(alloc, lines.as_slice())?)
@@ -166,7 +167,7 @@ fn total_of(lines: &[Line]) -> Option<usize>
 }
 
 // The sum of the graphs of some lines, whose bytes fit together.
-#[tactic(auto, using(std::proofs::Common::take_all))]
+#[tactic(auto, using(std::proofs::Common::take_all, crate::proofs::StackSums::line_fits))]
 fn add_up(alloc: Global, lines: &[Line]) -> Result<FlameGraph, AllocError>
     requires { sum_by (λ l. l.size) lines.now < 2 ^ 64 }
     ensures { IfOk result (λ graph. graph ≡ sum_of_stacks default (map line_stack lines.now)) }

@@ -15,6 +15,7 @@ use std::alloc::{AllocError, Global};
 /// It requires that the total remains at most `usize::MAX`. It returns an error only when memory runs out; then the
 /// graph is unchanged.
 #[cycle(walk)]
+#[tactic(auto, using(crate::proofs::Nodes::total_of_node))]
 pub fn add_at(graph: &mut FlameGraph, path: &[&'static str], size: usize) -> Result<(), AllocError>
     requires fits { total graph.old + size < 2 ^ 64 }
     ensures sum { OnOk result (graph.new ≡ sum_of graph.old (graph_of_path (texts path.now) size)) }
@@ -31,6 +32,7 @@ pub fn add_at(graph: &mut FlameGraph, path: &[&'static str], size: usize) -> Res
 
 // Adds bytes at a path below the child with the key, which is made if it is missing.
 #[cycle(walk)]
+#[tactic(auto, using(crate::proofs::Children::fits_at_found))]
 #[inline(always)]
 fn add_below(
     children: &mut Vec<Child>,

@@ -35,7 +35,7 @@ impl Described for FlameGraph {
 
 impl FlameGraph {
     /// The number of paths, with that of the root. `None` exactly if it exceeds `usize::MAX`. It allocates nothing.
-    #[tactic(auto, using(std::proofs::Common::take_all, crate::proofs::PathCount::paths_of_node))]
+    #[tactic(auto, using(std::proofs::Common::take_all, crate::proofs::Nodes::paths_of_node, crate::proofs::Nodes::child_within))]
     pub fn path_count(&self) -> Option<usize>
         ensures { SomeIff result (len self.now < 2 ^ 64) (len self.now) }
     {

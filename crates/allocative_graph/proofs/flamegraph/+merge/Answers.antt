@@ -2,9 +2,8 @@
 use Rattle.std.proofs.Common.{◌≡◌, rules, [], Some, refl, sym, ap, ◌∙◌, arith, is_ok}
 use Rattle.allocative_graph.proofs.Common.{Child, nil_from_length, total, total_of, sum_by_push}
 use Rattle.allocative_graph.proofs.Children.{merges_then, merges_all, is_ok-and, merged_same, next_less, next_greater}
-use Rattle.allocative_graph.proofs.Children.{next_equal, both_fit, rows_fit, front_is, one_of_length, put_at_found}
-use Rattle.allocative_graph.proofs.Children.{totals_found, put_at_gap}
-use Rattle.allocative_graph.proofs.Nodes.{len_of_node, total_of_both, merged_node, merged_graph, child_of_one}
+use Rattle.allocative_graph.proofs.Children.{next_equal, front_is, one_of_length, put_at_found, put_at_gap}
+use Rattle.allocative_graph.proofs.Nodes.{merged_node, merged_graph, child_of_one}
 use Rattle.allocative_graph.proofs.flamegraph.+merge.Goals as goal
 
 pub FlameGraph::merge-returns-in_default : goal.FlameGraph::merge-returns-in_default
@@ -35,12 +34,6 @@ FlameGraph::merge-invariant_of-self-then-len-lt2 t c =
     merged_node c.self.view_is c.self.invariant c.other.view_is c.other.invariant refl (sym one) c.requires
     c.put_child.ensures.merged c.put_child.ensures.size
 
-pub FlameGraph::merge-interleave-requires : goal.FlameGraph::merge-interleave-requires
-FlameGraph::merge-interleave-requires t c =
-    let fits = total_of_both c.self.view_is c.self.invariant c.other.view_is c.other.invariant in
-    let rows = len_of_node c.other.view_is c.other.invariant in
-    (omega (arith, c.decreases, rows), (c.self.invariant.children, (c.self.invariant.size, (c.other.invariant.children, omega (arith, fits, c.self.invariant.size, c.requires)))))
-
 pub FlameGraph::merge-returns : goal.FlameGraph::merge-returns
 FlameGraph::merge-returns t c =
     merged_graph c.self.view_is c.self.invariant c.other.view_is c.other.invariant refl refl c.interleave.ensures.merged
@@ -62,12 +55,6 @@ pub interleave-returns-clause-merged : goal.interleave-returns-clause-merged
 interleave-returns-clause-merged t c = let end = c.in_default.ensures.end in
     merges_all c.loop-child.invariant.merged end.0 end.1
 
-pub take_next-merge-added-requires : goal.take_next-merge-added-requires
-take_next-merge-added-requires t c =
-    let mine = front_is c.pop_front-in-Equal.ensures.items c.unwrap-child.ensures in
-    let theirs = front_is c.pop_front-in-Equal-2.ensures.items c.unwrap-in-Equal.ensures in
-    (omega (arith, c.decreases, rows_fit mine theirs), omega (arith, both_fit mine theirs, c.requires.fits))
-
 pub take_next-returns-in-Less-clause-next : goal.take_next-returns-in-Less-clause-next
 take_next-returns-in-Less-clause-next t c =
     next_less (front_is c.pop_front.ensures.items c.unwrap.ensures) c.requires.mine c.requires.theirs
@@ -85,32 +72,10 @@ take_next-returns-in-Equal-clause-next t c =
     c.requires.mine c.requires.theirs (sym c.fronts.ensures ∙ c.in_ok-fronts.was ∙ ap Some c.in-Equal.is)
     c.merge-added.ensures
 
-pub put_child-merge-result-requires : goal.put_child-merge-result-requires
-put_child-merge-result-requires t c =
-    let x : Child = c.index_mut-here.result.now in
-    let totals = totals_found c.args.child x x.graph c.deref.ensures.value c.in-Ok.ensures.found
-    c.index_mut-here.ensures.value in
-    (omega (arith, c.decreases), omega (arith, totals.1, c.requires.size, c.requires.fits))
-
-pub put_child-overflow_sub-size : goal.put_child-overflow_sub-size
-put_child-overflow_sub-size t c =
-    let x : Child = c.index_mut-here.result.now in
-    let totals = totals_found c.args.child x x.graph c.deref.ensures.value c.in-Ok.ensures.found
-    c.index_mut-here.ensures.value in
-    omega (arith, totals.1, c.requires.size, c.total_size-before.ensures.total)
-
 pub put_child-returns-in-Ok-clause-merged : goal.put_child-returns-in-Ok-clause-merged
 put_child-returns-in-Ok-clause-merged t c =
-    put_at_found c.args.child c.index_mut-here.result.now _ c.deref.ensures.value c.in-Ok.ensures.found
-    c.index_mut-here.ensures.value c.requires.children c.merge-result.ensures
-
-pub put_child-returns-in-Ok-clause-size : goal.put_child-returns-in-Ok-clause-size
-put_child-returns-in-Ok-clause-size t c =
-    let x : Child = c.index_mut-here.result.now in
-    let g = c.merge-result.new.self in
-    let totals = totals_found c.args.child x g c.deref.ensures.value c.in-Ok.ensures.found
-    c.index_mut-here.ensures.value in
-    omega (arith, totals.0, totals.1, c.requires.size, c.total_size-before.ensures.total, c.total_size.ensures.total)
+    put_at_found c.deref.ensures.value c.in-Ok.ensures.found c.index_mut-here.ensures.value _ c.args.child refl
+    c.requires.children c.merge-result.ensures
 
 pub put_child-returns-in_ok-put_at-in-Err-clause-merged : goal.put_child-returns-in_ok-put_at-in-Err-clause-merged
 put_child-returns-in_ok-put_at-in-Err-clause-merged t c =

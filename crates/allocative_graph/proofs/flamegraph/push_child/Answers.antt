@@ -1,11 +1,8 @@
 -- The child is put at the end of a list of children, all of which have smaller keys.
-use Rattle.std.proofs.Common.{ap, ◌∙◌, arith}
+use Rattle.std.proofs.Common.{ap, ◌∙◌}
 use Rattle.allocative_graph.proofs.Common.{Child, node}
-use Rattle.allocative_graph.proofs.Nodes.{total_of_node, pushed, node_grown, sum_grown}
+use Rattle.allocative_graph.proofs.Nodes.{pushed, node_grown, sum_grown}
 use Rattle.allocative_graph.proofs.flamegraph.push_child.Goals as goal
-
-pub overflow_add-graph : goal.overflow_add-graph
-overflow_add-graph c = omega (arith, total_of_node c.graph.view_is c.graph.invariant, c.graph.invariant.size, c.requires.fits, c.total_size-added.ensures.total)
 
 pub invariant_of-graph-2 : goal.invariant_of-graph-2
 invariant_of-graph-2 c =

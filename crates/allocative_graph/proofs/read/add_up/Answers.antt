@@ -5,21 +5,12 @@ use Rattle.std.proofs.lemmas.Iterator.Consumers.{YieldsList-at}
 use Rattle.allocative_graph.proofs.Common.{YieldsList-from_str_split, Line, Path, sum_of, graph_of_path, take_more}
 use Rattle.allocative_graph.specs.Read.{keys_of}
 use Rattle.allocative_graph.proofs.Text.{texts}
-use Rattle.allocative_graph.proofs.StackSums.{line_fits, line_more}
+use Rattle.allocative_graph.proofs.StackSums.{line_more}
 use Rattle.allocative_graph.proofs.read.add_up.Goals as goal
 
 -- What the code reads behind the last line.
 abbrev no_line : Line
 no_line = record { path = record { ref_ptr = (0, 0); now = [] }; size = 0 }
-
-pub add_at-requires : goal.add_at-requires
-add_at-requires c =
-    let lines = c.args.lines.now in
-    let i = c.loop-line.line-index in
-    record {
-      fits = line_fits lines i (get_or lines i no_line) c.loop-line.graph
-          (take_more lines i no_line c.loop-line-test.true) c.loop-line.invariant c.requires;
-    }
 
 pub loop-line-preserved : goal.loop-line-preserved
 loop-line-preserved c =

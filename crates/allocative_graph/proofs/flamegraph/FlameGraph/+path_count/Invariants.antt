@@ -1,6 +1,6 @@
 -- of path_count: what its loop keeps
 use Rattle.std.proofs.Common.{◌≡◌, ◌+◌, ◌<◌, ◌^◌, take}
-use Rattle.allocative_graph.proofs.PathCount.{paths_of}
+use Rattle.allocative_graph.proofs.Nodes.{paths_of}
 use Rattle.allocative_graph.proofs.flamegraph.FlameGraph.+path_count.Given as goal
 
 -- The root and the paths of the children before this one are counted, and their number fits.

@@ -5,7 +5,8 @@ use Rattle.std.proofs.lemmas.Str.{IsUtf8-append, IsUtf8-from_ascii, IsCharBounda
 use Rattle.std.specs.Str.{IsUtf8, IsCharBoundary}
 use Rattle.allocative_graph.proofs.Common.{entries, line_from, lines_from, rows_of}
 use Rattle.allocative_graph.proofs.Nodes.{entries_of_node}
-use Rattle.allocative_graph.proofs.Text.{child_lines, child_written, cut_back}
+use Rattle.allocative_graph.proofs.Text.{child_lines, child_written}
+use Rattle.std.proofs.Math.Seq.{take-append_seam}
 use Rattle.allocative_graph.proofs.flamegraph.FlameGraph.+write_lines.Goals as goal
 
 -- The start of a line with a `;` and the child's key.
@@ -42,7 +43,8 @@ loop-child-preserved t c =
     record {
       start = c.truncate.ensures.bytes
           ∙ ap (take c.len-length.result) (c.in_ok-write_lines.ensures.start ∙ key)
-          ∙ cut_back start (59 ∷ d.key) c.len-length.result (c.len-length.ensures ∙ c.args.start.now.bytes.ok.0);
+          ∙ ap (λ n. take n (start ++ 59 ∷ d.key)) (c.len-length.ensures ∙ c.args.start.now.bytes.ok.0)
+          ∙ take-append_seam start (59 ∷ d.key);
       text = c.in_ok-write_lines.ensures.text
           ∙ (λ j. c.loop-child.invariant.text j ++ lines_from (key j) es)
           ∙ ap (λ l. (before ++ lines_from start (rows_of (take i cs))) ++ l) (child_lines start d.key es)

@@ -1,19 +1,14 @@
 -- of read: too_large, graph and reads_back
-use Rattle.std.proofs.Common.{ℕ, List, not, map, ap, subst, ◌∙◌}
+use Rattle.std.proofs.Common.{ℕ, List, map, ap, subst, ◌∙◌}
 use Rattle.allocative_graph.proofs.Common.{Line, default, IsRead, sum_of_stacks, line_stack}
 use Rattle.allocative_graph.proofs.ReadBack.{reads_back}
-use Rattle.allocative_graph.proofs.StackSums.{is_read, sum_exceeds, sum_fits}
+use Rattle.allocative_graph.proofs.StackSums.{is_read, sum_exceeds}
 use Rattle.allocative_graph.proofs.flamegraph.FlameGraph.read.Goals as goal
 
-pub returns-then-is_none-clause-too_large : goal.returns-then-is_none-clause-too_large
-returns-then-is_none-clause-too_large c = λ e.
-    sum_exceeds c.args.text.now c.in_ok-lines.lines.items c.as_slice.result.now c.total_of.result
-    c.in_ok-lines.ensures.ok c.as_slice.ensures.value c.total_of.ensures (c.is_none.ensures ∙ ap not c.if-is_none.true)
-
-pub add_up-requires : goal.add_up-requires
-add_up-requires c =
-    sum_fits c.total_of.result c.as_slice.ensures.value c.sort_unstable_by.ensures.permutation
-    c.as_slice-2.ensures.value c.total_of.ensures (c.is_none.ensures ∙ ap not c.if-is_none.false)
+pub returns-in_default-clause-too_large : goal.returns-in_default-clause-too_large
+returns-in_default-clause-too_large c = λ e.
+    sum_exceeds c.args.text.now c.in_ok-lines.lines.items c.as_slice.result.now c.in_ok-lines.ensures.ok
+    c.as_slice.ensures.value c.in_default.ensures
 
 pub returns-clause-graph : goal.returns-clause-graph
 returns-clause-graph c =

@@ -4,36 +4,16 @@ use Rattle.std.proofs.lemmas.Result.{on_ok_weaker, on_err_weaker}
 use Rattle.allocative_graph.proofs.Common.{Child, Key, Path, sum_of, under, graph_of_path, child_of_path}
 use Rattle.allocative_graph.proofs.Common.{nil_from_length}
 use Rattle.allocative_graph.proofs.Children.{put_at_gap}
-use Rattle.allocative_graph.proofs.Nodes.{total_of_node, node_grown, sum_grown, tree-path, total-path, sum_raised}
-use Rattle.allocative_graph.proofs.Nodes.{path_merged, fits_below, nothing_merged}
+use Rattle.allocative_graph.proofs.Nodes.{node_grown, sum_grown, tree-path, total-path, sum_raised}
+use Rattle.allocative_graph.proofs.Nodes.{path_merged, nothing_merged}
 use Rattle.allocative_graph.proofs.Text.{texts}
 use Rattle.allocative_graph.proofs.flamegraph.at_path.+walk.Goals as goal
-
-pub add_at-overflow_add-graph : goal.add_at-overflow_add-graph
-add_at-overflow_add-graph t c = omega (arith, total_of_node c.graph.view_is c.graph.invariant, c.requires.fits)
-
-pub add_at-invariant_of-graph : goal.add_at-invariant_of-graph
-add_at-invariant_of-graph t c = record {
-  children = c.graph.invariant.children;
-  size = c.graph.invariant.size;
-  fits = omega (arith, total_of_node c.graph.view_is c.graph.invariant, c.graph.invariant.size, c.requires.fits);
-}
 
 pub add_at-returns-in_default-clause-sum : goal.add_at-returns-in_default-clause-sum
 add_at-returns-in_default-clause-sum t c =
     sum_raised c.graph.view_is c.graph.invariant c.args.size
     ∙ ap (λ (p : Path). sum_of c.args.graph.now (graph_of_path p c.args.size))
     (sym (ap texts (nil_from_length c.args.path.now c.in_default.ensures.cases)))
-
-pub add_at-add_below-requires : goal.add_at-add_below-requires
-add_at-add_below-requires t c = (
-  omega (arith, c.decreases, c.in-Some.ensures.cases.1),
-  (c.graph.invariant.children, omega (arith, total_of_node c.graph.view_is c.graph.invariant, c.requires.fits)),
-)
-
-pub add_at-overflow_add-graph-2 : goal.add_at-overflow_add-graph-2
-add_at-overflow_add-graph-2 t c = omega
-    (arith, total_of_node c.graph.view_is c.graph.invariant, c.graph.invariant.size, c.requires.fits)
 
 pub add_at-invariant_of-graph-2 : goal.add_at-invariant_of-graph-2
 add_at-invariant_of-graph-2 t c =
@@ -49,13 +29,6 @@ add_at-returns-clause-sum t c =
     ∙ ap (λ (k : Key). sum_of c.args.graph.now (under k (graph_of_path rest c.args.size))) c.new.ensures
     ∙ ap (λ (p : Path). sum_of c.args.graph.now (graph_of_path p c.args.size))
     (sym (ap texts c.in-Some.ensures.cases.0))
-
-pub add_below-add_at-requires : goal.add_below-add_at-requires
-add_below-add_at-requires t c =
-    let x : Child = c.index_mut-here.result.now in
-    let below = fits_below c.args.key (texts c.args.rest.now) c.args.size x c.deref.ensures.value c.in-Ok.ensures.found
-    c.index_mut-here.ensures.value in
-    (omega (arith, c.decreases), omega (arith, below, c.requires.fits))
 
 pub add_below-returns-in-Ok-clause-merged : goal.add_below-returns-in-Ok-clause-merged
 add_below-returns-in-Ok-clause-merged t c =
