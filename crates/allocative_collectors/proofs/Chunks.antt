@@ -4,9 +4,9 @@ use Rattle.std.proofs.Common.{Result, Ok, Err, Some, IfOk, IfErr, sym, ap, subst
 use Rattle.std.proofs.Common.{length-append, set, take, append_assoc, append-nil}
 use Rattle.allocative_collectors.proofs.Common.{Ordering, Less, Equal, Greater, is_lt, ordering_reverse, Key, key_cmp}
 use Rattle.allocative_collectors.proofs.Common.{key_in, KeysRise, IsKeyGap, cases_eq, cases_lt, get_or-map, length-map}
-use Rattle.allocative_collectors.proofs.Common.{flat_map-append, Chunk, numbers_in, flat, before, chunk_at, StandsIn}
+use Rattle.allocative_collectors.proofs.Common.{flat_map-append, Chunk, numbers_in, flat, before, chunk_at}
 use Rattle.std.proofs.Math.Seq.{take-length, drop-length}
-use Rattle.std.specs.List.{slice_get, insert}
+use Rattle.std.specs.List.{slice_get, insert, Contains}
 use Rattle.std.specs.List.Sorted.{IsSearchInRange, IsBinarySearchResult, IsSortedBy}
 use Rattle.std.proofs.lemmas.List.{get_or_past, take_all}
 use Rattle.std.proofs.lemmas.Option.{get_or_from_slice_get, slice_get_within, slice_get-get_or}
@@ -107,12 +107,8 @@ module _ (K : ℕ → Key) (xs : List ℕ) where
 
 -- ---- reads
 -- A number that is read is in the list.
-pub stands : (xs : List ℕ) (j n : ℕ) → slice_get xs j ≡ Some n → StandsIn xs n
-stands xs j n is = record {
-  place = j;
-  in_range = slice_get_within xs j n is;
-  is = get_or_from_slice_get xs j n 0 is;
-}
+pub stands : (xs : List ℕ) (j n : ℕ) → slice_get xs j ≡ Some n → Contains xs n
+stands xs j n is = (j, slice_get_within xs j n is, get_or_from_slice_get xs j n n is)
 
 -- All numbers come before a place behind the last chunk.
 pub before_all : (cs : List Chunk) (i : ℕ) → length cs ≤ i → before cs i ≡ length (flat cs)

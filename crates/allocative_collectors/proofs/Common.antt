@@ -14,14 +14,15 @@ pub use Rattle.allocative_graph.specs.declared.refusal.Refusal.TheVariants.{Memo
 pub use Rattle.allocative_collectors.specs.Warned.{size_at_place, is_std_data, is_std_entry, warning_of, warning_lines}
 pub use Rattle.allocative_collectors.specs.Warned.{MakesGraph, MakesPart, is_short, rows_behind}
 pub use Rattle.allocative_collectors.specs.Listed.{IsEntered, Listed, Sum, put, map_of, path_at, root_sum, row, sum_at}
-pub use Rattle.allocative_collectors.specs.Nodes.{IsTree, shape, sums_of, HasKey, IsArena, IsChild, IsKeyGap, KeysRise}
-pub use Rattle.allocative_collectors.specs.Nodes.{NodeShape, StandsIn, at, bytes_at, children_at, key_at, key_in, keys_at}
-pub use Rattle.allocative_collectors.specs.Nodes.{keys_of, leaf, no_shape, parent_at, sums, before, chunk_at, flat}
+pub use Rattle.allocative_collectors.specs.Nodes.{IsTree, sums, HasKey, IsArena, IsChild, IsKeyGap, KeysRise}
+pub use Rattle.allocative_collectors.specs.Nodes.{at, bytes_at, children_at, key_at, key_in, keys_at}
+pub use Rattle.allocative_collectors.specs.Nodes.{keys_of, leaf, no_node, parent_at, sums, before, chunk_at, flat}
 pub use Rattle.allocative_collectors.specs.Nodes.{numbers, numbers_in}
 pub use Rattle.allocative_collectors.specs.Places.{IsPlaced, live}
 pub use Rattle.allocative_collectors.specs.declared.output.WarnedPath.{WarnedPath}
 pub use Rattle.allocative_collectors.specs.declared.children.Children.{Children}
 pub use Rattle.allocative_collectors.specs.declared.children.Chunk.{Chunk}
+pub use Rattle.allocative_collectors.specs.declared.tree.Node.{Node}
 pub use Rattle.allocative_graph.specs.Rows.{ComesLast}
 pub use Rattle.std.proofs.lemmas.Bool.{cases_eq, cases_lt, cases_order, cond-false, cond-true, false_from_ne_true}
 pub use Rattle.std.proofs.lemmas.Bool.Decides.{nat_tests}

@@ -42,11 +42,15 @@ length_put i p n u [] = (omega arith, omega arith)
 length_put zero p n u (e ∷ s) = (omega arith, omega arith)
 length_put (suc i) p n u (e ∷ s) = let more = length_put i p n u s in (omega (arith, more.0), omega (arith, more.1))
 
+-- An entry of 0 bytes changes no sum.
+pub raise_nothing : (e : Sum) → raise 0 false e ≡ e
+raise_nothing e = λ k.
+    record { path = e.path; bytes = add-zero e.bytes k; is_unique = or-false e.is_unique k }
+
 -- an entry of 0 bytes at a place that is there changes nothing
 pub put_nothing : (i : ℕ) (p : Path) (s : Listed) → i < length s → put i p 0 false s ≡ s
 put_nothing i p [] h = absurd (omega arith)
-put_nothing zero p (e ∷ s) h = λ k.
-    record { path = e.path; bytes = add-zero e.bytes k; is_unique = or-false e.is_unique k } ∷ s
+put_nothing zero p (e ∷ s) h = λ k. raise_nothing e k ∷ s
 put_nothing (suc i) p (e ∷ s) h = ap (λ (t : Listed). e ∷ t) (put_nothing i p s (omega arith))
 
 -- an entry of 0 bytes before another one changes nothing

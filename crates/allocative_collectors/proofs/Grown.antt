@@ -1,22 +1,21 @@
--- An arena with one more node, which has no entry yet, and with one more entry at a node.
+-- An arena with one more node, which has no entry yet, and with a node that is written.
 use Rattle.std.proofs.Common.{◌≡◌, ◌≢◌, ℕ, ◌+◌, ◌-◌, ◌<◌, ◌≤◌, List, [], ◌∷◌, ◌++◌, length, get_or, set, take, drop}
 use Rattle.std.proofs.Common.{refl, sym, ap, subst, ◌∙◌, arith, inl, inr, get_or-set_same, get_or-set_other, length-set}
-use Rattle.std.proofs.Common.{Bool}
-use Rattle.allocative_collectors.proofs.Common.{key_at, Less, ordering_reverse, Key, key_cmp, NodeShape, leaf, no_shape, at}
-use Rattle.allocative_collectors.proofs.Common.{children_at, keys_of, keys_at, key_in, parent_at, KeysRise, StandsIn}
-use Rattle.allocative_collectors.proofs.Common.{IsChild, IsArena, IsKeyGap, put, path_at, sums, bytes_at, length-map}
+use Rattle.allocative_collectors.proofs.Common.{key_at, Less, ordering_reverse, Key, key_cmp, Node, leaf, no_node, at}
+use Rattle.allocative_collectors.proofs.Common.{children_at, keys_of, keys_at, key_in, parent_at, KeysRise}
+use Rattle.allocative_collectors.proofs.Common.{IsChild, IsArena, IsKeyGap, sums, bytes_at}
 use Rattle.allocative_collectors.proofs.Common.{get_or_append_left, get_or_push, length_push, cases_order, cases_eq}
-use Rattle.std.specs.List.{All, insert}
-use Rattle.std.proofs.lemmas.List.Elements.{All-append, All-cons, All-drop, All-take, All-weaker}
+use Rattle.std.specs.List.{All, Contains, insert}
+use Rattle.std.proofs.lemmas.List.Elements.{All-append, All-cons, All-drop, All-take, All-weaker, Contains-append_right}
 use Rattle.std.proofs.lemmas.List.Edits.{length-insert, get_or-insert_below, get_or-insert_at}
 use Rattle.allocative_collectors.proofs.Keys.{map_same, keys_of-insert, insert_above, stands_insert, pushed, key_total}
 use Rattle.allocative_collectors.proofs.Keys.{touched}
 use Rattle.std.proofs.lemmas.List.Sums.{get_or-le-sum_by}
 use Rattle.allocative_collectors.specs.Listed.{total}
-use Rattle.allocative_collectors.proofs.Labels.{raise_shape, grow_raise, total-grow}
+use Rattle.allocative_collectors.proofs.Labels.{total-grow}
 
 -- the nodes with a new one under p, whose key is k
-abbrev pub grown : List NodeShape → ℕ → Key → List NodeShape
+abbrev pub grown : List Node → ℕ → Key → List Node
 grown ns p k = ns ++ leaf p k ∷ []
 
 -- the lists of children if the number n is put at place g of that of p, and one more list is empty
@@ -43,9 +42,9 @@ rise_insert ks k g gap rise i j lt h =
           ])
     ]
 
-module _ (ns : List NodeShape) {cs : List (List ℕ)} (ok : IsArena ns cs) (p : ℕ) (hp : p < length ns) (k : Key) (g : ℕ)
+module _ (ns : List Node) {cs : List (List ℕ)} (ok : IsArena ns cs) (p : ℕ) (hp : p < length ns) (k : Key) (g : ℕ)
     (gap : IsKeyGap (keys_at ns cs p) k g) where
-  abbrev new : List NodeShape
+  abbrev new : List Node
   new = grown ns p k
 
   abbrev lists : List (List ℕ)
@@ -55,14 +54,14 @@ module _ (ns : List NodeShape) {cs : List (List ℕ)} (ok : IsArena ns cs) (p : 
   length_grown = length_push ns (leaf p k)
 
   at_leaf : at new (length ns) ≡ leaf p k
-  at_leaf = get_or_push ns (leaf p k) no_shape (length ns) refl
+  at_leaf = get_or_push ns (leaf p k) no_node (length ns) refl
 
   -- the nodes before are unchanged
   before : (i : ℕ) → i < length ns → at new i ≡ at ns i
-  before i h = get_or_append_left ns _ no_shape i h
+  before i h = get_or_append_left ns _ no_node i h
 
   parent_before : (i : ℕ) → i < length ns → parent_at new i ≡ parent_at ns i
-  parent_before i h = ap (λ (n : NodeShape). n.parent) (before i h)
+  parent_before i h = ap (λ (n : Node). n.parent) (before i h)
 
   children_other : (q : ℕ) → q ≢ p → children_at lists q ≡ children_at cs q
   children_other q ne = pushed (set cs p _) q ∙ get_or-set_other cs p q _ [] ne
@@ -73,11 +72,11 @@ module _ (ns : List NodeShape) {cs : List (List ℕ)} (ok : IsArena ns cs) (p : 
   -- the keys of the children before
   keys_stood : (q : ℕ) → keys_of new (children_at cs q) ≡ keys_at ns cs q
   keys_stood q = map_same (key_at new) (key_at ns) (children_at cs q)
-      (λ j h. ap (λ (n : NodeShape). n.key) (before (get_or (children_at cs q) j 0) (ok.children q j 0 h).in_range))
+      (λ j h. ap (λ (n : Node). n.key) (before (get_or (children_at cs q) j 0) (ok.children q j 0 h).in_range))
 
   keys_parent : keys_of new (insert (children_at cs p) g (length ns)) ≡ insert (keys_at ns cs p) g k
   keys_parent = keys_of-insert new (children_at cs p) g (length ns)
-      ∙ (λ i. insert (keys_stood p i) g (ap (λ (n : NodeShape). n.key) at_leaf i))
+      ∙ (λ i. insert (keys_stood p i) g (ap (λ (n : Node). n.key) at_leaf i))
 
   -- what holds of the new children of p and of the others as they were
   by_parent : (P : ℕ → List ℕ → Type 0) → P p (insert (children_at cs p) g (length ns)) →
@@ -87,38 +86,33 @@ module _ (ns : List NodeShape) {cs : List (List ℕ)} (ok : IsArena ns cs) (p : 
     | inr ne ↦ subst (P q) (sym (children_other q ne)) (others q ne)
   ]
 
-  gap_within : g ≤ length (children_at cs p)
-  gap_within = omega (arith, gap.in_range, length-map (children_at cs p) (key_at ns))
-
   child_before : (q i : ℕ) → IsChild ns q i → IsChild new q i
   child_before q i old = record { not_root = old.not_root; in_range = omega (arith, length_grown, old.in_range); parent = parent_before i old.in_range ∙ old.parent }
 
-  stood : (q i : ℕ) → i ≢ length ns → IsChild new q i → StandsIn (children_at cs q) i
+  stood : (q i : ℕ) → i ≢ length ns → IsChild new q i → Contains (children_at cs q) i
   stood q i ne c =
       let inside : i < length ns = omega (arith, length_grown, c.in_range) in
       ok.listed q i
       (record { not_root = c.not_root; in_range = inside; parent = sym (parent_before i inside) ∙ c.parent })
 
-  listed : (q i : ℕ) → IsChild new q i → StandsIn (children_at lists q) i
-  listed q i = by_parent (λ x xs. IsChild new x i → StandsIn xs i)
+  listed : (q i : ℕ) → IsChild new q i → Contains (children_at lists q) i
+  listed q i = by_parent (λ x xs. IsChild new x i → Contains xs i)
       (λ c. elim (cases_eq i (length ns)) [
-        | inl e ↦ record {
-          place = g;
-          in_range = omega (arith, gap_within, length-insert (children_at cs p) g (length ns) gap_within);
-          is = get_or-insert_at (children_at cs p) g (length ns) 0 gap_within ∙ sym e;
-        }
-        | inr ne ↦ stands_insert (children_at cs p) g (length ns) i gap_within (stood p i ne c)
+        | inl e ↦ subst (Contains (insert (children_at cs p) g (length ns))) (sym e)
+            (Contains-append_right (take g (children_at cs p)) (length ns ∷ drop g (children_at cs p)) (length ns)
+            (0, omega arith, refl))
+        | inr ne ↦ stands_insert (children_at cs p) g (length ns) i (stood p i ne c)
       ])
       (λ q other c. stood q i (λ e. other (sym c.parent
-      ∙ (ap (parent_at new) e ∙ ap (λ (n : NodeShape). n.parent) at_leaf))) c) q
+      ∙ (ap (parent_at new) e ∙ ap (λ (n : Node). n.parent) at_leaf))) c) q
 
   pub arena_grown : IsArena (grown ns p k) (with_child cs p g (length ns))
   arena_grown = record {
     rooted = omega (arith, length_grown);
-    root_empty = ap (λ (n : NodeShape). n.bytes) (before 0 ok.rooted) ∙ ok.root_empty;
+    root_empty = ap (λ (n : Node). n.bytes) (before 0 ok.rooted) ∙ ok.root_empty;
     root_parent = parent_before 0 ok.rooted ∙ ok.root_parent;
     parents = λ i pos h. elim (cases_eq i (length ns)) [
-      | inl e ↦ rw e (rw (ap (λ (n : NodeShape). n.parent) at_leaf) hp)
+      | inl e ↦ rw e (rw (ap (λ (n : Node). n.parent) at_leaf) hp)
       | inr ne ↦ let old : i < length ns = omega (arith, length_grown) in
           rw (parent_before i old) (ok.parents i pos old)
     ];
@@ -127,7 +121,7 @@ module _ (ns : List NodeShape) {cs : List (List ℕ)} (ok : IsArena ns cs) (p : 
     children = by_parent (λ q. All (IsChild new q))
         (let xs = children_at cs p in
         let old = All-weaker (IsChild ns p) (IsChild new p) (child_before p) xs (ok.children p) in
-        let one : IsChild new p (length ns) = record { not_root = ok.rooted; in_range = omega (arith, length_grown); parent = ap (λ (n : NodeShape). n.parent) at_leaf } in
+        let one : IsChild new p (length ns) = record { not_root = ok.rooted; in_range = omega (arith, length_grown); parent = ap (λ (n : Node). n.parent) at_leaf } in
         All-append (IsChild new p) (take g xs) (length ns ∷ drop g xs) (All-take (IsChild new p) g xs old)
         (All-cons (IsChild new p) (length ns) (drop g xs) one (All-drop (IsChild new p) g xs old)))
         (λ q ne. All-weaker (IsChild ns q) (IsChild new q) (child_before q) (children_at cs q) (ok.children q));
@@ -136,49 +130,34 @@ module _ (ns : List NodeShape) {cs : List (List ℕ)} (ok : IsArena ns cs) (p : 
         (λ q ne. subst KeysRise (sym (keys_stood q)) (ok.rise q));
   }
 
--- ---- one more entry at a node
--- the arena after an entry of n bytes at node i
-abbrev pub raised : List NodeShape → ℕ → ℕ → Bool → List NodeShape
-raised ns i n u = set ns i (raise_shape n u (at ns i))
-
+-- ---- a node that is written
 -- The bytes of a node are at most the total of the sums.
-pub bytes_le_total : (ns : List NodeShape) (i : ℕ) → i < length ns → bytes_at ns i ≤ total (sums ns)
-bytes_le_total ns i h = rw (total-grow [] ns) (get_or-le-sum_by (λ (n : NodeShape). n.bytes) ns i no_shape h)
+pub bytes_le_total : (ns : List Node) (i : ℕ) → i < length ns → bytes_at ns i ≤ total (sums ns)
+bytes_le_total ns i h = rw (total-grow [] ns) (get_or-le-sum_by (λ (n : Node). n.bytes) ns i no_node h)
 
-module _ (ns : List NodeShape) {cs : List (List ℕ)} (ok : IsArena ns cs) (i : ℕ) (pos : 0 < i) (hi : i < length ns) (n : ℕ)
-    (u : Bool) where
-  abbrev marked : List NodeShape
-  marked = raised ns i n u
+-- node i becomes m, with the same key and parent, and with the same bytes if it is the root
+module _ (ns : List Node) {cs : List (List ℕ)} (ok : IsArena ns cs) (i : ℕ) (m : Node) (key : m.key ≡ key_at ns i)
+    (parent : m.parent ≡ parent_at ns i) (bytes : 0 ≡ i → m.bytes ≡ bytes_at ns i) where
+  length_set : length (set ns i m) ≡ length ns
+  length_set = length-set ns i m
 
-  length_raised : length marked ≡ length ns
-  length_raised = length-set ns i (raise_shape n u (at ns i))
+  parent_kept : (j : ℕ) → parent_at (set ns i m) j ≡ parent_at ns j
+  parent_kept = touched (λ n. n.parent) ns i m parent
 
-  -- what depends neither on the bytes nor on the mark is unchanged
-  as_before : {X : Type 0} (f : NodeShape → X) → ((m : NodeShape) → f (raise_shape n u m) ≡ f m) → (j : ℕ) →
-      f (at marked j) ≡ f (at ns j)
-  as_before f same j = touched f ns i _ (same (at ns i)) j
-
-  parent_kept : (j : ℕ) → parent_at marked j ≡ parent_at ns j
-  parent_kept = as_before (λ m. m.parent) (λ m. refl)
-
-  keys_kept : (j : ℕ) → keys_at marked cs j ≡ keys_at ns cs j
-  keys_kept j = map_same (key_at marked) (key_at ns) (children_at cs j)
-      (λ a h. as_before (λ m. m.key) (λ m. refl) (get_or (children_at cs j) a 0))
-
-  pub arena_raised : IsArena (raised ns i n u) cs
-  arena_raised = record {
-    rooted = omega (arith, length_raised, ok.rooted);
-    root_empty = ap (λ (m : NodeShape). m.bytes) (get_or-set_other ns i 0 _ no_shape (λ e. omega arith)) ∙ ok.root_empty;
+  pub arena_set : IsArena (set ns i m) cs
+  arena_set = record {
+    rooted = omega (arith, length_set, ok.rooted);
+    root_empty = elim (cases_eq 0 i) [
+      | inl e ↦ touched (λ n. n.bytes) ns i m (bytes e) 0 ∙ ok.root_empty
+      | inr ne ↦ ap (λ (n : Node). n.bytes) (get_or-set_other ns i 0 m no_node ne) ∙ ok.root_empty
+    ];
     root_parent = parent_kept 0 ∙ ok.root_parent;
-    parents = λ j pj hj. rw (parent_kept j) (ok.parents j pj (omega (arith, length_raised)));
-    lists = omega (arith, length_raised, ok.lists);
+    parents = λ j pj hj. rw (parent_kept j) (ok.parents j pj (omega (arith, length_set)));
+    lists = omega (arith, length_set, ok.lists);
     listed = λ p j c. ok.listed p j
-        (record { not_root = c.not_root; in_range = omega (arith, length_raised, c.in_range); parent = sym (parent_kept j) ∙ c.parent });
-    children = λ p. All-weaker (IsChild ns p) (IsChild marked p)
-        (λ j old. record { not_root = old.not_root; in_range = omega (arith, length_raised, old.in_range); parent = parent_kept j ∙ old.parent }) (children_at cs p) (ok.children p);
-    rise = λ p. subst KeysRise (sym (keys_kept p)) (ok.rise p);
+        (record { not_root = c.not_root; in_range = omega (arith, length_set, c.in_range); parent = sym (parent_kept j) ∙ c.parent });
+    children = λ p. All-weaker (IsChild ns p) (IsChild (set ns i m) p)
+        (λ j old. record { not_root = old.not_root; in_range = omega (arith, length_set, old.in_range); parent = parent_kept j ∙ old.parent }) (children_at cs p) (ok.children p);
+    rise = λ p. subst KeysRise (sym (map_same (key_at (set ns i m)) (key_at ns) (children_at cs p)
+        (λ j h. touched (λ n. n.key) ns i m key _))) (ok.rise p);
   }
-
-  -- the bytes are added at the node's place
-  pub sums_raised : sums (raised ns i n u) ≡ put i (path_at (sums ns) i) n u (sums ns)
-  sums_raised = grow_raise [] ns i (path_at (sums ns) i) n u hi

@@ -2,14 +2,15 @@
 use Rattle.std.proofs.Common.{◌≡◌, true, false, refl, sym, subst, ℕ, zero, suc, set, inl, inr, ◌+◌, ◌-◌, ◌<◌, ◌≤◌}
 use Rattle.std.proofs.Common.{List, [], ◌∷◌, ◌++◌, length, map, get_or, drop, take, ◌∙◌, arith}
 use Rattle.allocative_collectors.proofs.Common.{Less, Equal, Key, Path}
-use Rattle.allocative_collectors.proofs.Common.{key_cmp, is_same_path, NodeShape, at, children_at, key_at, keys_of}
-use Rattle.allocative_collectors.proofs.Common.{StandsIn, tied_itself, false_from_ne_true, cases_lt, map-append}
+use Rattle.allocative_collectors.proofs.Common.{key_cmp, is_same_path, Node, at, children_at, key_at, keys_of}
+use Rattle.allocative_collectors.proofs.Common.{tied_itself, false_from_ne_true, map-append}
 pub use Rattle.std.specs.Cmp.Lexicographic.{nat_list_cmp_total as key_total}
 pub use Rattle.std.proofs.lemmas.Map.Lookups.{exact_bytes as key_same}
 use Rattle.allocative_graph.proofs.Basics.{same_path, same_path_itself}
-use Rattle.std.specs.List.{insert}
-use Rattle.std.proofs.lemmas.List.{take-map, drop-map}
-use Rattle.std.proofs.lemmas.List.Edits.{length-insert, get_or-insert_below, get_or-insert_above}
+use Rattle.std.specs.List.{insert, Contains}
+use Rattle.std.proofs.lemmas.List.{take-map, drop-map, take-append-drop}
+use Rattle.std.proofs.lemmas.List.Elements.{Contains-append_cases, Contains-append_left, Contains-append_right}
+use Rattle.std.proofs.lemmas.List.Edits.{get_or-insert_above}
 
 -- If two paths are equal, the test for the same path holds.
 pub same_path-same : (p q : Path) → p ≡ q → is_same_path p q ≡ true
@@ -33,7 +34,7 @@ map_same f g [] same = refl
 map_same f g (x ∷ xs) same = λ i. same 0 (omega arith) i ∷ map_same f g xs (λ j h. same (suc j) (omega arith)) i
 
 -- If the number of a node is put at place g, the node's key is put at place g of the keys.
-pub keys_of-insert : (ns : List NodeShape) (xs : List ℕ) (g i : ℕ) →
+pub keys_of-insert : (ns : List Node) (xs : List ℕ) (g i : ℕ) →
     keys_of ns (insert xs g i) ≡ insert (keys_of ns xs) g (key_at ns i)
 keys_of-insert ns xs g i = map-append (key_at ns) (take g xs) (i ∷ drop g xs)
     ∙ (λ j. sym (take-map (key_at ns) g xs) j ++ key_at ns i ∷ sym (drop-map (key_at ns) g xs) j)
@@ -46,17 +47,17 @@ insert_above xs g x d within j h =
     subst (λ (q : ℕ). get_or (insert xs g x) q d ≡ get_or xs (j - 1) d) index
     (get_or-insert_above xs g x d (j - 1) (omega arith) within)
 
--- a number keeps its standing when another one is put at place g
-pub stands_insert : (xs : List ℕ) (g n i : ℕ) → g ≤ length xs → StandsIn xs i → StandsIn (insert xs g n) i
-stands_insert xs g n i within was =
-    let len = length-insert xs g n within in
-    elim (cases_lt was.place g) [
-      | inl lt ↦ record { place = was.place; in_range = omega (arith, was.in_range); is = get_or-insert_below xs g n 0 was.place lt within ∙ was.is }
-      | inr ge ↦ record { place = was.place + 1; in_range = omega (arith, was.in_range); is = get_or-insert_above xs g n 0 was.place ge within ∙ was.is }
+-- A number is still in a list if another one is put in.
+pub stands_insert : (xs : List ℕ) (g n i : ℕ) → Contains xs i → Contains (insert xs g n) i
+stands_insert xs g n i was = elim (Contains-append_cases (take g xs) (drop g xs) i
+    (subst (λ (l : List ℕ). Contains l i) (sym (take-append-drop g xs)) was)) [
+      | inl lower ↦ Contains-append_left (take g xs) (n ∷ drop g xs) i lower
+      | inr upper ↦ Contains-append_right (take g xs) (n ∷ drop g xs) i
+          (Contains-append_right (n ∷ []) (drop g xs) i upper)
     ]
 
 -- a write keeps what it does not change
-pub touched : {X : Type 0} (f : NodeShape → X) (ns : List NodeShape) (i : ℕ) (m : NodeShape) → f m ≡ f (at ns i) → (j : ℕ) →
+pub touched : {X : Type 0} (f : Node → X) (ns : List Node) (i : ℕ) (m : Node) → f m ≡ f (at ns i) → (j : ℕ) →
     f (at (set ns i m) j) ≡ f (at ns j)
 touched f [] i m e j = refl
 touched f (n ∷ ns) zero m e zero = e

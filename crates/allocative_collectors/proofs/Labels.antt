@@ -1,20 +1,16 @@
 -- The sums that an arena stands for, and what one more entry does to a list of sums.
-use Rattle.std.proofs.Common.{◌≡◌, ℕ, zero, suc, ◌+◌, ◌<◌, ◌||◌, Bool, List, [], ◌∷◌, ◌++◌, length, get_or, set, map}
+use Rattle.std.proofs.Common.{◌≡◌, ℕ, zero, suc, ◌+◌, ◌<◌, Bool, List, [], ◌∷◌, ◌++◌, length, get_or, set, map}
 use Rattle.std.proofs.Common.{append_assoc, append-nil, sum_by, refl, sym, ap, ◌∙◌, arith, inl, inr}
-use Rattle.allocative_collectors.proofs.Common.{Key, Path, Sum, Listed, root_sum, put, path_at, NodeShape, at, sums}
+use Rattle.allocative_collectors.proofs.Common.{Key, Path, Sum, Listed, root_sum, put, path_at, Node, at, sums}
 use Rattle.allocative_collectors.proofs.Common.{bytes_at, children_at, key_at, key_in, keys_at, parent_at, IsArena}
 use Rattle.allocative_collectors.proofs.Common.{IsChild, KeysRise, length-map, get_or_append_left, get_or-map}
-use Rattle.allocative_collectors.proofs.Common.{length_push, same_from_push, sum_by-cons, cases_order}
-use Rattle.allocative_collectors.specs.Listed.{total}
+use Rattle.allocative_collectors.proofs.Common.{get_or_default, length_push, same_from_push, sum_by-cons, cases_order}
+use Rattle.allocative_collectors.specs.Listed.{total, raise}
 use Rattle.allocative_collectors.proofs.Keys.{key_not_before}
 use Rattle.allocative_collectors.specs.Nodes.{grow, path_from, sum_from}
 
-abbrev pub unique_at : List NodeShape → ℕ → Bool
+abbrev pub unique_at : List Node → ℕ → Bool
 unique_at ns i = let n = at ns i in n.is_unique
-
--- a node after one more entry of n bytes
-abbrev pub raise_shape : ℕ → Bool → NodeShape → NodeShape
-raise_shape n u m = record m { bytes = m.bytes + n; is_unique = m.is_unique || u }
 
 -- an entry at the place after the last is added at the end
 pub put_push : (i : ℕ) (q : Path) (n : ℕ) (u : Bool) (s : Listed) → i ≡ length s →
@@ -29,7 +25,7 @@ path_of e = e.path
 
 -- ---- the nodes ns, if ps are the paths of the nodes before them
 -- the sums have a place for each node
-length-grow : (ps : List Path) (ns : List NodeShape) → length (grow ps ns) ≡ length ns
+length-grow : (ps : List Path) (ns : List Node) → length (grow ps ns) ≡ length ns
 length-grow ps [] = refl
 length-grow ps (n ∷ ns) = ap suc (length-grow (ps ++ path_of (sum_from ps n) ∷ []) ns)
 
@@ -39,7 +35,7 @@ path_from-some [] i k some = absurd (omega arith)
 path_from-some (p ∷ ps) i k some = refl
 
 -- the path of a node after the first comes from that of a node before it
-path-grow : (ps : List Path) (ns : List NodeShape) (j : ℕ) → j < length ns → 0 < length ps + j →
+path-grow : (ps : List Path) (ns : List Node) (j : ℕ) → j < length ns → 0 < length ps + j →
     parent_at ns j < length ps + j
     → path_at (grow ps ns) j ≡ get_or (ps ++ map path_of (grow ps ns)) (parent_at ns j) [] ++ key_at ns j ∷ []
 path-grow ps [] j h some lt = absurd (omega arith)
@@ -52,14 +48,14 @@ path-grow ps (n ∷ ns) (suc j) h some lt =
     ∙ ap (λ (l : List Path). get_or l (parent_at ns j) [] ++ key_at ns j ∷ []) (append_assoc ps (p ∷ []) _)
 
 -- a node's own figures
-pub figures-grow : (ps : List Path) (ns : List NodeShape) (j : ℕ) →
+pub figures-grow : (ps : List Path) (ns : List Node) (j : ℕ) →
     (let e = get_or (grow ps ns) j root_sum in (e.bytes ≡ bytes_at ns j) × (e.is_unique ≡ unique_at ns j))
 figures-grow ps [] j = (refl, refl)
 figures-grow ps (n ∷ ns) zero = (refl, refl)
 figures-grow ps (n ∷ ns) (suc j) = figures-grow (ps ++ path_of (sum_from ps n) ∷ []) ns j
 
 -- a node at the end adds its sum at the end
-pub grow_push : (ps : List Path) (ns : List NodeShape) (n : NodeShape) →
+pub grow_push : (ps : List Path) (ns : List Node) (n : Node) →
     grow ps (ns ++ n ∷ []) ≡ grow ps ns ++ sum_from (ps ++ map path_of (grow ps ns)) n ∷ []
 grow_push ps [] n = ap (λ (l : List Path). sum_from l n ∷ []) (sym (append-nil ps))
 grow_push ps (m ∷ ns) n =
@@ -67,28 +63,29 @@ grow_push ps (m ∷ ns) n =
     ap (λ (t : Listed). sum_from ps m ∷ t) (grow_push (ps ++ p ∷ []) ns n
     ∙ ap (λ (l : List Path). grow (ps ++ p ∷ []) ns ++ sum_from l n ∷ []) (append_assoc ps (p ∷ []) _))
 
--- an entry at a node is one at its place
-pub grow_raise : (ps : List Path) (ns : List NodeShape) (i : ℕ) (q : Path) (n : ℕ) (u : Bool) → i < length ns →
-    grow ps (set ns i (raise_shape n u (at ns i))) ≡ put i q n u (grow ps ns)
-grow_raise ps [] i q n u h = absurd (omega arith)
-grow_raise ps (m ∷ ns) zero q n u h = refl
-grow_raise ps (m ∷ ns) (suc i) q n u h = ap (λ (t : Listed). sum_from ps m ∷ t)
-    (grow_raise (ps ++ path_of (sum_from ps m) ∷ []) ns i q n u (omega arith))
+-- an entry at a node, which becomes m, is one at its place
+pub grow_set : (ps : List Path) (ns : List Node) (i : ℕ) (m : Node) (q : Path) (n : ℕ) (u : Bool) → i < length ns →
+    ((qs : List Path) → sum_from qs m ≡ raise n u (sum_from qs (at ns i))) →
+    grow ps (set ns i m) ≡ put i q n u (grow ps ns)
+grow_set ps [] i m q n u h is = absurd (omega arith)
+grow_set ps (k ∷ ns) zero m q n u h is = λ j. is ps j ∷ grow (ps ++ path_of (is ps j) ∷ []) ns
+grow_set ps (k ∷ ns) (suc i) m q n u h is = ap (λ (t : Listed). sum_from ps k ∷ t)
+    (grow_set (ps ++ path_of (sum_from ps k) ∷ []) ns i m q n u (omega arith) is)
 
 -- The bytes of the sums of some nodes add up to the bytes of the nodes.
-pub total-grow : (ps : List Path) (ns : List NodeShape) → total (grow ps ns) ≡ sum_by (λ (n : NodeShape). n.bytes) ns
+pub total-grow : (ps : List Path) (ns : List Node) → total (grow ps ns) ≡ sum_by (λ (n : Node). n.bytes) ns
 total-grow ps [] = refl
 total-grow ps (n ∷ ns) =
     let more = ps ++ path_of (sum_from ps n) ∷ [] in
-    omega (arith, total-grow more ns, sum_by-cons (λ (s : Sum). s.bytes) (sum_from ps n) (grow more ns), sum_by-cons (λ (m : NodeShape). m.bytes) n ns)
+    omega (arith, total-grow more ns, sum_by-cons (λ (s : Sum). s.bytes) (sum_from ps n) (grow more ns), sum_by-cons (λ (m : Node). m.bytes) n ns)
 
 -- ---- all nodes
 -- There are as many sums as nodes.
-pub length_sums : (ns : List NodeShape) → length (sums ns) ≡ length ns
+pub length_sums : (ns : List Node) → length (sums ns) ≡ length ns
 length_sums = length-grow []
 
 -- The path at place 0 is the root.
-pub root_at : (ns : List NodeShape) → path_at (sums ns) 0 ≡ []
+pub root_at : (ns : List Node) → path_at (sums ns) 0 ≡ []
 root_at [] = refl
 root_at (n ∷ ns) = refl
 
@@ -106,7 +103,7 @@ pub not_nil : (p : Path) (k : Key) (q : Path) → p ++ k ∷ q ≡ [] → ⊥
 not_nil [] k q e = cc
 not_nil (x ∷ p) k q e = cc
 
-module _ (ns : List NodeShape) {cs : List (List ℕ)} (ok : IsArena ns cs) where
+module _ (ns : List Node) {cs : List (List ℕ)} (ok : IsArena ns cs) where
   -- the path of another node is its parent's with one more key
   pub step : (i : ℕ) → 0 < i → i < length ns →
       path_at (sums ns) i ≡ path_at (sums ns) (parent_at ns i) ++ key_at ns i ∷ []
@@ -117,19 +114,21 @@ module _ (ns : List NodeShape) {cs : List (List ℕ)} (ok : IsArena ns cs) where
 
   -- the key at a child's place
   pub key_place : (p i : ℕ) (c : IsChild ns p i) →
-      (let a = ok.listed p i c in (a.place < length (keys_at ns cs p))
-      × (key_in (keys_at ns cs p) a.place ≡ key_at ns i))
+      (let a = ok.listed p i c in (a.0 < length (keys_at ns cs p)) × (key_in (keys_at ns cs p) a.0 ≡ key_at ns i))
   key_place p i c =
       let a = ok.listed p i c in
-      (omega (arith, length-map (children_at cs p) (key_at ns), a.in_range), get_or-map (key_at ns) (children_at cs p) a.place 0 [] a.in_range ∙ ap (key_at ns) a.is)
+      (omega (arith, length-map (children_at cs p) (key_at ns), a.1), get_or-map (key_at ns) (children_at cs p) a.0 i [] a.1 ∙ ap (key_at ns) a.2)
 
   -- two children of one parent with one key are one
   one_child : (p i j : ℕ) → IsChild ns p i → IsChild ns p j → key_at ns i ≡ key_at ns j → i ≡ j
   one_child p i j ci cj keys =
+      let xs = children_at cs p in
+      let x = ok.listed p i ci in
+      let y = ok.listed p j cj in
       let a = key_place p i ci in
       let b = key_place p j cj in
       let place = one_place (keys_at ns cs p) (ok.rise p) _ _ a.0 b.0 (a.1 ∙ (keys ∙ sym b.1)) in
-      sym (ok.listed p i ci).is ∙ (ap (λ (q : ℕ). get_or (children_at cs p) q 0) place ∙ (ok.listed p j cj).is)
+      sym x.2 ∙ (get_or_default xs x.0 i j x.1 ∙ (ap (λ (q : ℕ). get_or xs q j) place ∙ y.2))
 
   distinct_below : (n i j : ℕ) → i < n → i < length ns → j < length ns → path_at (sums ns) i ≡ path_at (sums ns) j →
       i ≡ j

@@ -3,12 +3,12 @@
 use Rattle.std.proofs.Common.{◌≡◌, ◌≢◌, ℕ, zero, suc, ◌<◌, ◌≤◌, Bool, true, false, cond, T, ◌&&◌, ◌||◌, List, [], ◌∷◌}
 use Rattle.std.proofs.Common.{◌++◌, length, Option, Some, None, refl, sym, ap, subst, ◌∙◌, arith, inl, inr, true≢false}
 use Rattle.std.proofs.Common.{append_assoc, ◌+◌, map, flat_map, get_or, unwrap_or, sum_by, append-nil, add-zero}
-use Rattle.std.proofs.Common.{zero-add}
+use Rattle.std.proofs.Common.{zero-add, subst₂}
 use Rattle.allocative_collectors.proofs.Common.{Ordering, Less, is_eq, is_lt, ordering_then, Key, Path, key_cmp}
 use Rattle.allocative_collectors.proofs.Common.{path_cmp, key_in, KeysRise, is_same_path, is_one_below, Sums, Graph}
-use Rattle.allocative_collectors.proofs.Common.{graph, sum_of, under, default, add_self, get, entries, shape, sums_of}
+use Rattle.allocative_collectors.proofs.Common.{graph, sum_of, under, default, add_self, get, entries, sums}
 use Rattle.allocative_collectors.proofs.Common.{IsTree, Listed, row, sum_at, path_at, map_of, below, bytes_entered}
-use Rattle.allocative_collectors.proofs.Common.{sums, children_at, keys_at, IsArena, NodeShape, size_at_place}
+use Rattle.allocative_collectors.proofs.Common.{children_at, keys_at, IsArena, key_at, no_node, size_at_place, get_or-map, get_or_default}
 use Rattle.allocative_collectors.proofs.Common.{ordering_reverse, tied_itself, cases_eq, cond-true, cond-false}
 use Rattle.allocative_collectors.proofs.Common.{false_from_ne_true, MakesPart, MakesGraph, rows_behind, is_short}
 use Rattle.allocative_collectors.proofs.Common.{tied_then, flat_map-append, sum_by-cons, ComesLast, numbers, Children}
@@ -32,15 +32,11 @@ use Rattle.std.specs.Option.{is_some}
 use Rattle.allocative_collectors.specs.declared.tree.Node as nodes
 use Rattle.allocative_collectors.proofs.Entries.{IsListing, graph_hit, graph_none, get_at, get_none, nothing_left}
 use Rattle.allocative_collectors.proofs.Labels.{length_sums, step}
-use Rattle.allocative_collectors.proofs.NodeReads.{on_way, length_nodes, in_shapes, child_seen, listing}
+use Rattle.allocative_collectors.proofs.NodeReads.{on_way, in_nodes, listing}
 
 -- ---- keys
 abbrev same_key : Key → Key → Bool
 same_key k l = is_eq (key_cmp k l)
-
--- If two keys are equal, the test for the same key holds.
-same_key-same : (k l : Key) → k ≡ l → same_key k l ≡ true
-same_key-same k l e = rw (← e) (ap is_eq (tied_itself key_total k))
 
 -- If the test for the same key holds, the keys are equal.
 same_key_is : (k l : Key) → same_key k l ≡ true → k ≡ l
@@ -55,7 +51,8 @@ among ks (suc j) l = among ks j l || same_key l (key_in ks j)
 among_at : (ks : List Key) (a j : ℕ) (l : Key) → a < j → key_in ks a ≡ l → among ks j l ≡ true
 among_at ks a zero l h e = absurd (omega arith)
 among_at ks a (suc j) l h e = elim (cases_eq a j) [
-  | inl same ↦ or_right (among ks j l) _ (same_key-same l (key_in ks j) (sym e ∙ ap (key_in ks) same))
+  | inl same ↦ or_right (among ks j l) _ (ap (same_key l) (ap (key_in ks) (sym same) ∙ e)
+      ∙ ap is_eq (tied_itself key_total l))
   | inr other ↦ or_left _ _ (among_at ks a j l (omega arith) e)
 ]
 
@@ -199,22 +196,14 @@ module _ {X : Type 0} (m : FinMap path_cmp X) (p : Path) (ks : List Key) where
 abbrev size_in : Listed → Path × Node → ℕ
 size_in s e = remaining (map_of s) e.0 e.1
 
--- A size to which none is added stays the same.
-with_none : (x : Option ℕ) → sizes_together x None ≡ x
-with_none None = refl
-with_none (Some n) = ap Some (add-zero n)
-
--- A size that is added to none stays the same.
-none_with : (x : Option ℕ) → sizes_together None x ≡ x
-none_with None = refl
-none_with (Some n) = ap Some (zero-add n)
-
 -- sizes that pass one of two tests, but not both
 one_of : (a b : Bool) (x y : Option ℕ) → (b ≡ true → (a ≡ false) × (y ≡ x)) →
     sizes_together (cond a x None) (cond b y None) ≡ cond (a || b) x None
 one_of true true x y h = absurd (true≢false (h refl).0)
-one_of true false x y h = with_none x
-one_of false true x y h = none_with y ∙ (h refl).1
+one_of true false None y h = refl
+one_of true false (Some n) y h = ap Some (add-zero n)
+one_of false true x None h = (h refl).1
+one_of false true x (Some n) h = ap Some (zero-add n) ∙ (h refl).1
 one_of false false x y h = refl
 
 -- the sizes that were found are within the bytes of all entries
@@ -339,7 +328,7 @@ comes_last {s} {p} ks rise j hj part l q there = elim (cases_Bool (among ks j l)
 ]
 
 -- ---- at the nodes
-module _ (ns : List NodeShape) {cs : List (List ℕ)} (ok : IsArena ns cs) (i : ℕ) (hi : i < length ns) where
+module _ (ns : List nodes.Node) {cs : List (List ℕ)} (ok : IsArena ns cs) (i : ℕ) (hi : i < length ns) where
   -- after the last child, nothing is left
   passed_all : {X : Type 0} (f : Path → Option X) →
       ((q : Path) → ((a : ℕ) → a < length (sums ns) → path_at (sums ns) a ≢ q) → f q ≡ None) → (r : Path)
@@ -366,9 +355,9 @@ module _ (ns : List NodeShape) {cs : List (List ℕ)} (ok : IsArena ns cs) (i : 
       }
 
 module _ (items : List nodes.Node) {lists : List Children} (ok : IsTree items lists) {v : Listed}
-    (view : sums_of items ≡ v) (p : ℕ) where
+    (view : sums items ≡ v) (p : ℕ) where
   abbrev keys : List Key
-  keys = keys_at (map shape items) (map numbers lists) p
+  keys = keys_at items (map numbers lists) p
 
   -- a child of a node, in the sums, and its key
   pub child_read : (xs : List ℕ) → children_at (map numbers lists) p ≡ xs → (j : ℕ) → j < length xs
@@ -376,20 +365,23 @@ module _ (items : List nodes.Node) {lists : List Children} (ok : IsTree items li
       × (path_at v i ≡ path_at v p ++ key_in keys j ∷ [])
       × ((d : nodes.Node) → (let m = get_or items i d in m.key ≡ key_in keys j))
   child_read xs is j hj =
-      let ns = map shape items in
-      let c = child_seen items ok p xs is j hj in
-      let lt = ok.arena.parents _ c.0.not_root c.0.in_range in
-      let path = step ns ok.arena _ c.0.not_root c.0.in_range
-      ∙ (λ k. path_at (sums ns) (c.0.parent k) ++ sym c.2 k ∷ []) in
-      let same = ap length view in
-      let key = key_in keys j in
-      (omega (arith, c.0.parent), omega (arith, c.1, length_nodes items), subst (λ (s : Listed). path_at s (get_or xs j 0) ≡ path_at s p ++ key ∷ []) view path, λ d. sym (c.2 ∙ c.3 d))
+      let cs = map numbers lists in
+      let inside : j < length (children_at cs p) = rw is hj in
+      let c = ok.arena.children p j 0 inside in
+      let lt = ok.arena.parents _ c.not_root c.in_range in
+      let key = get_or-map (key_at items) (children_at cs p) j 0 [] inside in
+      let path = step items ok.arena _ c.not_root c.in_range
+      ∙ (λ k. path_at (sums items) (c.parent k) ++ sym key k ∷ []) in
+      subst₂ (λ (l : List ℕ) (s : Listed). let i = get_or l j 0 in (p < i) × (i < length s)
+      × (path_at s i ≡ path_at s p ++ key_in keys j ∷ [])
+      × ((d : nodes.Node) → (let m = get_or items i d in m.key ≡ key_in keys j))) is view
+      (omega (arith, c.parent), omega (arith, length_sums items, c.in_range), path, λ d. ap (λ (m : nodes.Node). m.key) (get_or_default items _ d no_node c.in_range) ∙ sym key)
 
   pub made_all : p < length v → (w w' : List Warned) (g : Graph) (j : ℕ) → j ≡ length keys →
       MakesPart v (path_at v p) (begun keys j) w w' g → MakesGraph v p w w' g
   made_all hp w w' g j whole part =
       subst (λ (s : Listed). MakesGraph s p w w' g) view
-      (part_all (map shape items) ok.arena p (in_shapes items p view hp) w w' g
+      (part_all items ok.arena p (in_nodes items p view hp) w w' g
       (subst (λ (e : Listed × ℕ). MakesPart e.0 (path_at e.0 p) (begun keys e.1) w w' g) (λ x. (sym view x, whole x))
       part))
 

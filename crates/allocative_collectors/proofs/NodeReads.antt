@@ -1,26 +1,27 @@
 -- What a read of a node says of the arena and the sums, and what a search among its children says.
 use Rattle.std.proofs.Common.{◌≡◌, ◌≢◌, ℕ, zero, suc, ◌<◌, false, List, [], ◌∷◌, ◌++◌, length, sym, ap, subst, ◌∙◌}
 use Rattle.std.proofs.Common.{arith, inl, inr, refl, append_assoc, map, Bool, not, ◌&&◌, get_or, sum_by, cond, ltb}
-use Rattle.std.proofs.Common.{lt-ltb, ◌+◌, ◌≤◌, ◌||◌, set, subst₂, length-set, get_or-set_same, get_or-set_other}
-use Rattle.allocative_collectors.proofs.Common.{Equal, Key, Path, key_cmp, path_at, IsEntered, Listed, root_sum, NodeShape}
+use Rattle.std.proofs.Common.{lt-ltb, ◌+◌, ◌≤◌, ◌||◌, set, length-set, get_or-set_same, get_or-set_other}
+use Rattle.allocative_collectors.proofs.Common.{Equal, Key, Path, key_cmp, path_at, IsEntered, Listed, root_sum, Node, put}
 use Rattle.allocative_collectors.proofs.Common.{leaf, sums, keys_at, key_in, key_at, parent_at, IsChild, IsArena}
-use Rattle.allocative_collectors.proofs.Common.{IsKeyGap, path_cmp, is_same_path, Sum, sum_at, map_of, no_shape, at}
-use Rattle.allocative_collectors.proofs.Common.{bytes_at, is_one_below, is_root, below, children_at, shape, sums_of}
+use Rattle.allocative_collectors.proofs.Common.{IsKeyGap, path_cmp, is_same_path, Sum, sum_at, map_of, no_node, at}
+use Rattle.allocative_collectors.proofs.Common.{bytes_at, is_one_below, is_root, below, children_at, get_or_default}
 use Rattle.allocative_collectors.proofs.Common.{IsTree, length-map, get_or-map, get_or_push, length_push}
 use Rattle.allocative_collectors.proofs.Common.{same_from_push, tied_itself, cases_lt, cases_eq, cond-true, cond-false}
 use Rattle.allocative_collectors.proofs.Common.{sum_by-cons, Children, numbers, tied_then}
-use Rattle.std.proofs.lemmas.List.{map-set, map_push, set-get_or}
+use Rattle.std.proofs.lemmas.List.{map-set, map_push}
+use Rattle.std.proofs.Math.Seq.{map-set_same}
 use Rattle.std.proofs.lemmas.Cmp.{eq_by_cmp_equiv}
 use Rattle.allocative_collectors.proofs.Keys.{key_total, key_not_before, same_path-same, same_path-apart}
-use Rattle.allocative_collectors.proofs.Entries.{put_nothing, IsListing, below_listed, not_below_root}
-use Rattle.allocative_collectors.proofs.Labels.{path_of, path_from-some, grow_push, put_push, length_sums, not_nil}
-use Rattle.allocative_collectors.proofs.Labels.{root_at, step, key_place, distinct, figures-grow, raise_shape}
-use Rattle.allocative_collectors.proofs.Grown.{grown, raised, bytes_le_total, with_child}
+use Rattle.allocative_collectors.proofs.Entries.{put_nothing, raise_nothing, IsListing, below_listed, not_below_root}
+use Rattle.allocative_collectors.proofs.Labels.{path_of, path_from-some, grow_push, grow_set, put_push, length_sums, not_nil}
+use Rattle.allocative_collectors.proofs.Labels.{root_at, step, key_place, distinct, figures-grow}
+use Rattle.allocative_collectors.proofs.Grown.{grown, arena_set, bytes_le_total, with_child}
 use Rattle.std.specs.Ordering.{eq_by_cmp}
 use Rattle.std.proofs.Math.Bool.{and-false}
-use Rattle.std.proofs.lemmas.List.Sums.{sum_by-set}
+use Rattle.std.proofs.lemmas.List.Sums.{sum_by-set, sum_by-le}
 use Rattle.std.specs.List.{insert}
-use Rattle.allocative_collectors.specs.declared.tree.Node.{Node}
+use Rattle.allocative_collectors.specs.Nodes.{sum_from}
 use Rattle.allocative_collectors.specs.Listed.{total}
 
 -- ---- what a search among a node's children says
@@ -39,7 +40,7 @@ last_of : (k : Key) (q : Path) → (q' : Path) × (l : Key) × (k ∷ q ≡ q' +
 last_of k [] = ([], k, refl)
 last_of k (x ∷ q) = let more = last_of x q in (k ∷ more.0, more.1, ap (λ (y : Path). k ∷ y) more.2)
 
-module _ (ns : List NodeShape) {cs : List (List ℕ)} (ok : IsArena ns cs) (p : ℕ) (hp : p < length ns) (k : Key) where
+module _ (ns : List Node) {cs : List (List ℕ)} (ok : IsArena ns cs) (p : ℕ) (hp : p < length ns) (k : Key) where
   -- an entry of 0 bytes at a child with the key
   pub was_entered : (i : ℕ) → IsChild ns p i → key_at ns i ≡ k → IsEntered (sums ns) (sums ns) p k 0 false i
   was_entered i c key =
@@ -107,16 +108,13 @@ module _ (ns : List NodeShape) {cs : List (List ℕ)} (ok : IsArena ns cs) (p : 
 
 -- ---- the bytes of a node's children are those one key below its path
 -- two sums are equal if their terms are
-pub same_sum : {X Y : Type 0} (f : X → ℕ) (g : Y → ℕ) (d : X) (e : Y) (xs : List X) (ys : List Y) →
-    length xs ≡ length ys → ((i : ℕ) → i < length xs → f (get_or xs i d) ≡ g (get_or ys i e)) →
-    sum_by f xs ≡ sum_by g ys
-same_sum f g d e [] [] l same = refl
-same_sum f g d e [] (y ∷ ys) l same = absurd (omega arith)
-same_sum f g d e (x ∷ xs) [] l same = absurd (omega arith)
-same_sum f g d e (x ∷ xs) (y ∷ ys) l same =
-    let rest = same_sum f g d e xs ys (omega arith) (λ i h. same (suc i) (omega arith)) in
-    let first : f x ≡ g y = same 0 (omega arith) in
-    omega (arith, sum_by-cons f x xs, sum_by-cons g y ys)
+same_sum : (f g : ℕ → ℕ) (xs : List ℕ) → ((i : ℕ) → i < length xs → f (get_or xs i 0) ≡ g (get_or xs i 0)) →
+    sum_by f xs ≡ sum_by g xs
+same_sum f g [] same = refl
+same_sum f g (x ∷ xs) same =
+    let rest = same_sum f g xs (λ i h. same (suc i) (omega arith)) in
+    let first : f x ≡ g x = same 0 (omega arith) in
+    omega (arith, sum_by-cons f x xs, sum_by-cons g x xs)
 
 -- The path q with one more key is one key below p exactly if q is p.
 step_push : (p q : Path) (k : Key) → is_one_below p (q ++ k ∷ []) ≡ is_same_path q p
@@ -129,21 +127,13 @@ step_push (j ∷ p) (l ∷ q) k = (λ i. (eq_by_cmp_equiv key_total).symm j l i 
     ∙ tied_then (key_cmp l j) (path_cmp q p)
 
 -- The sums of an arena are a listing: the root comes first and has no bytes, and all paths differ.
-pub listing : (ns : List NodeShape) {cs : List (List ℕ)} → IsArena ns cs → IsListing (sums ns)
+pub listing : (ns : List Node) {cs : List (List ℕ)} → IsArena ns cs → IsListing (sums ns)
 listing ns ok = record {
   rooted = omega (arith, length_sums ns, ok.rooted);
   root_path = root_at ns;
   root_bytes = (figures-grow [] ns 0).0 ∙ ok.root_empty;
   apart = λ i j hi hj. distinct ns ok i j (omega (arith, length_sums ns)) (omega (arith, length_sums ns));
 }
-
--- If no item of a list has a size, the sizes add up to 0.
-all_zero : {X : Type 0} (f : X → ℕ) (d : X) (ys : List X) → ((i : ℕ) → i < length ys → f (get_or ys i d) ≡ 0) →
-    sum_by f ys ≡ 0
-all_zero f d [] none = refl
-all_zero f d (y ∷ ys) none =
-    let first : f y ≡ 0 = none 0 (omega arith) in
-    omega (arith, sum_by-cons f y ys, first, all_zero f d ys (λ i h. none (suc i) (omega arith)))
 
 abbrev Apart : List ℕ → Type 0
 Apart xs = (a b : ℕ) → a < b → b < length xs → get_or xs a 0 ≢ get_or xs b 0
@@ -154,14 +144,14 @@ sum_at_numbers : {X : Type 0} (f : X → ℕ) (d : X) → f d ≡ 0 → (ys : Li
     → ((i : ℕ) → i < length ys → ((a : ℕ) → a < length xs → get_or xs a 0 ≢ i) → f (get_or ys i d) ≡ 0) →
     sum_by (λ i. f (get_or ys i d)) xs ≡ sum_by f ys
 sum_at_numbers f d none ys [] within apart others =
-    sym (all_zero f d ys (λ i h. others i h (λ a lt. absurd (omega arith))))
+    omega (arith, sum_by-le f 0 ys (λ i e h. omega (arith, ap f (get_or_default ys i e d h), others i h (λ a lt. absurd (omega arith)))))
 sum_at_numbers f d none ys (x ∷ xs) within apart others =
     let hx : x < length ys = within 0 (omega arith) in
     let rest = set ys x d in
     let len = length-set ys x d in
     let other : (a : ℕ) → a < length xs → get_or xs a 0 ≢ x =
     λ a h e. apart 0 (suc a) (omega arith) (omega arith) (sym e) in
-    let same = same_sum (λ i. f (get_or ys i d)) (λ i. f (get_or rest i d)) 0 0 xs xs refl
+    let same = same_sum (λ i. f (get_or ys i d)) (λ i. f (get_or rest i d)) xs
     (λ a h. ap f (sym (get_or-set_other ys x (get_or xs a 0) d d (other a h)))) in
     let more = sum_at_numbers f d none rest xs
     (λ a h. let lt : get_or xs a 0 < length ys = within (suc a) (omega arith) in omega arith)
@@ -177,7 +167,7 @@ sum_at_numbers f d none ys (x ∷ xs) within apart others =
     missing x xs i ne absent zero h e = ne (sym e)
     missing x xs i ne absent (suc a) h e = absent a (omega arith) e
 
-module _ (ns : List NodeShape) {cs : List (List ℕ)} (ok : IsArena ns cs) (i : ℕ) (hi : i < length ns) where
+module _ (ns : List Node) {cs : List (List ℕ)} (ok : IsArena ns cs) (i : ℕ) (hi : i < length ns) where
   -- the bytes of a sum that is one key below node i
   abbrev part : Sum → ℕ
   part e = cond (is_one_below (path_at (sums ns) i) e.path) e.bytes 0
@@ -213,10 +203,10 @@ module _ (ns : List NodeShape) {cs : List (List ℕ)} (ok : IsArena ns cs) (i : 
   below_is =
       let xs = children_at cs i in
       let child : (a : ℕ) → a < length xs → IsChild ns i (get_or xs a 0) = λ a h. ok.children i a 0 h in
-      same_sum (bytes_at ns) (λ j. part (sum_at (sums ns) j)) 0 0 xs xs refl (λ a h. sym (part_child _ (child a h)))
+      same_sum (bytes_at ns) (λ j. part (sum_at (sums ns) j)) xs (λ a h. sym (part_child _ (child a h)))
       ∙ (sum_at_numbers part root_sum (ap (λ (b : Bool). cond b 0 0) (not_below_root (path_at (sums ns) i))) (sums ns) xs (λ a h. omega (arith, length_sums ns, (child a h).in_range)) apart
       (λ j h absent. part_other j (omega (arith, length_sums ns))
-      (λ c. let s = ok.listed i j c in absent s.place s.in_range s.is))
+      (λ c. let s = ok.listed i j c in absent s.0 s.1 (get_or_default xs s.0 0 j s.1 ∙ s.2)))
       ∙ below_listed (sums ns) (listing ns ok) (path_at (sums ns) i))
 
 -- A path with one more key is not the root.
@@ -225,126 +215,95 @@ is_root-push [] k = refl
 is_root-push (l ∷ p) k = refl
 
 -- the root alone has the empty path
-pub has_key : (ns : List NodeShape) {cs : List (List ℕ)} → IsArena ns cs → (i : ℕ) → i < length ns →
+pub has_key : (ns : List Node) {cs : List (List ℕ)} → IsArena ns cs → (i : ℕ) → i < length ns →
     not (is_root (path_at (sums ns) i)) ≡ ltb 0 i
 has_key ns ok zero h = ap (λ (p : Path). not (is_root p)) (root_at ns)
 has_key ns ok (suc j) h = ap (λ (p : Path). not (is_root p)) (step ns ok (suc j) (omega arith) h)
     ∙ (ap not (is_root-push _ (key_at ns (suc j))) ∙ sym (lt-ltb 0 (suc j) (omega arith)))
 
--- If an item is replaced by one with the same image, the images are unchanged.
-same_images : {X Y : Type 0} (f : X → Y) (e : Y) (xs : List X) (i : ℕ) (x y : X) → i < length xs → x ≡ get_or xs i x →
-    f y ≡ f x → map f (set xs i y) ≡ map f xs
-same_images f e xs i x y h read same = map-set f xs i y
-    ∙ (ap (set (map f xs) i) (same ∙ (ap f read ∙ sym (get_or-map f xs i x e h))) ∙ set-get_or (map f xs) i e)
+-- ---- a tree's nodes and lists
+-- A node that is read is the one at its number.
+pub at_read : (items : List Node) (i : ℕ) (n : Node) → i < length items → n ≡ get_or items i n → at items i ≡ n
+at_read items i n h read = get_or_default items i no_node n h ∙ sym read
 
-module _ (items : List Node) where
-  pub length_nodes : length (sums_of items) ≡ length items
-  length_nodes = length_sums (map shape items) ∙ length-map items shape
-
-  -- a place of the sums is that of a node
-  pub in_nodes : {v : Listed} (i : ℕ) → sums_of items ≡ v → i < length v → i < length items
-  in_nodes i view h = let same = ap length view in omega (arith, length_nodes)
-
-  pub in_shapes : {v : Listed} (i : ℕ) → sums_of items ≡ v → i < length v → i < length (map shape items)
-  in_shapes i view h = omega (arith, length-map items shape, in_nodes i view h)
-
-  pub shape_read : (i : ℕ) (n : Node) → i < length items → n ≡ get_or items i n → at (map shape items) i ≡ shape n
-  shape_read i n h read = get_or-map shape items i n no_shape h ∙ ap shape (sym read)
-
-  -- a node replaced by one of the same shape
-  same_shapes : (i : ℕ) (n m : Node) → i < length items → n ≡ get_or items i n → shape m ≡ shape n →
-      map shape (set items i m) ≡ map shape items
-  same_shapes i n m = same_images shape no_shape items i n m
-
-  pub same_view : {v : Listed} (i : ℕ) (n m : Node) → i < length items → n ≡ get_or items i n → shape m ≡ shape n →
-      sums_of items ≡ v → sums_of (set items i m) ≡ v
-  same_view i n m h read same view = ap sums (same_shapes i n m h read same) ∙ view
-
-module _ (items : List Node) {lists : List Children} where
-  -- a tree whose nodes and lists are those of an arena
-  pub tree_of : {ns : List NodeShape} {cs : List (List ℕ)} → map shape items ≡ ns → map numbers lists ≡ cs → IsArena ns cs →
-      IsTree items lists
-  tree_of nodes children ok = record {
-    arena = subst₂ IsArena (sym nodes) (sym children) ok;
-    size = length_nodes items;
-    lists = omega (arith, ok.lists, ap length nodes, ap length children, length-map items shape, length-map lists numbers);
-  }
-
-  module _ (ok : IsTree items lists) where
-    -- The sums of a tree are a listing.
-    pub listing_of : {v : Listed} → sums_of items ≡ v → IsListing v
-    listing_of view = subst IsListing view (listing (map shape items) ok.arena)
-
-    -- a place of the sums is that of a list
-    pub in_lists : {v : Listed} (i : ℕ) → sums_of items ≡ v → i < length v → i < length lists
-    in_lists i view h = omega (arith, ok.lists, in_nodes items i view h)
-
-    -- If a node is replaced by one of the same shape, the nodes are still a tree.
-    pub same_tree : (i : ℕ) (n m : Node) → i < length items → n ≡ get_or items i n → shape m ≡ shape n →
-        IsTree (set items i m) lists
-    same_tree i n m h read same = record {
-      arena = subst (λ (ns : List NodeShape). IsArena ns (map numbers lists)) (sym (same_shapes items i n m h read same)) ok.arena;
-      size = length_nodes (set items i m);
-      lists = omega (arith, ok.lists, length-set items i m);
-    }
-
-    -- So are they if a list is replaced by one with the same numbers.
-    pub same_lists : (i : ℕ) (c d : Children) → i < length lists → c ≡ get_or lists i c → numbers d ≡ numbers c →
-        IsTree items (set lists i d)
-    same_lists i c d h read same = record {
-      arena = subst (IsArena (map shape items)) (sym (same_images numbers [] lists i c d h read same)) ok.arena;
-      size = ok.size;
-      lists = omega (arith, ok.lists, length-set lists i d);
-    }
-
-    -- the child at place j, and its key
-    pub child_seen : (p : ℕ) (xs : List ℕ) → children_at (map numbers lists) p ≡ xs → (j : ℕ) → j < length xs →
-        let i = get_or xs j 0 in (IsChild (map shape items) p i) × (i < length items)
-        × (key_in (keys_at (map shape items) (map numbers lists) p) j ≡ key_at (map shape items) i)
-        × ((d : Node) → (let m = get_or items i d in key_at (map shape items) i ≡ m.key))
-    child_seen p xs is j hj =
-        let ns = map shape items in
-        let cs = map numbers lists in
-        let inside : j < length (children_at cs p) = rw is hj in
-        let child = ok.arena.children p j 0 inside in
-        let within : get_or (children_at cs p) j 0 < length items =
-        omega (arith, child.in_range, length-map items shape) in
-        subst (λ (l : List ℕ). let i = get_or l j 0 in
-        (IsChild ns p i) × (i < length items) × (key_in (keys_at ns cs p) j ≡ key_at ns i)
-        × ((d : Node) → (let m = get_or items i d in key_at ns i ≡ m.key))) is
-        (child, within, get_or-map (key_at ns) (children_at cs p) j 0 [] inside, λ d. ap (λ (s : NodeShape). s.key) (get_or-map shape items (get_or (children_at cs p) j 0) d no_shape within))
+-- a place of the sums is that of a node
+pub in_nodes : (items : List Node) {v : Listed} (i : ℕ) → sums items ≡ v → i < length v → i < length items
+in_nodes items i view h = let same = ap length view in omega (arith, length_sums items)
 
 -- the numbers of a list that was read
 pub children_read : (lists : List Children) (p : ℕ) (c : Children) → p < length lists → c ≡ get_or lists p c →
     children_at (map numbers lists) p ≡ numbers c
 children_read lists p c h read = get_or-map numbers lists p c [] h ∙ ap numbers (sym read)
 
+-- Nodes and lists that are an arena are a tree.
+pub tree_of : (items : List Node) (lists : List Children) → IsArena items (map numbers lists) → IsTree items lists
+tree_of items lists ok = record {
+  arena = ok;
+  size = length_sums items;
+  lists = omega (arith, ok.lists, length-map lists numbers);
+}
+
+module _ (items : List Node) {lists : List Children} (ok : IsTree items lists) {v : Listed} (view : sums items ≡ v) where
+  -- The sums of a tree are a listing.
+  pub listing_of : IsListing v
+  listing_of = subst IsListing view (listing items ok.arena)
+
+  -- a place of the sums is that of a list
+  pub in_lists : (i : ℕ) → i < length v → i < length lists
+  in_lists i h = omega (arith, ok.lists, in_nodes items i view h)
+
+-- If a list is replaced by one with the same numbers, the nodes are still a tree.
+pub same_lists : (items : List Node) {lists : List Children} → IsTree items lists → (i : ℕ) (c d : Children) →
+    c ≡ get_or lists i c → numbers d ≡ numbers c → IsTree items (set lists i d)
+same_lists items {lists} ok i c d read same = tree_of items (set lists i d)
+    (subst (IsArena items) (sym (map-set_same numbers lists i d c (same ∙ ap numbers read))) ok.arena)
+
+-- A node without its guesses.
+abbrev plain : Node → Node
+plain n = record n { last = 0; next = 0; follower = 0 }
+
+-- node i, which was read as n, becomes m, which differs by its guesses alone
+module _ (items : List Node) (i : ℕ) (n m : Node) (h : i < length items) (read : n ≡ get_or items i n)
+    (same : plain m ≡ plain n) where
+  as_before : plain m ≡ plain (at items i)
+  as_before = same ∙ ap plain (sym (at_read items i n h read))
+
+  -- the sums are unchanged
+  pub same_view : {v : Listed} → sums items ≡ v → sums (set items i m) ≡ v
+  same_view view = grow_set [] items i m [] 0 false h (λ qs. ap (sum_from qs) as_before ∙ sym (raise_nothing _))
+      ∙ (put_nothing i [] (sums items) (omega (arith, length_sums items)) ∙ view)
+
+  -- the nodes are still a tree
+  pub same_tree : {lists : List Children} → IsTree items lists → IsTree (set items i m) lists
+  same_tree ok = tree_of (set items i m) _ (arena_set items ok.arena i m (ap (λ (s : Node). s.key) as_before)
+      (ap (λ (s : Node). s.parent) as_before) (λ e. ap (λ (s : Node). s.bytes) as_before))
+
+-- a node whose bytes grow, with a new mark
 abbrev pub raise_node : ℕ → Bool → Node → Node
 raise_node size b n = record n { bytes = n.bytes + size; is_unique = b }
 
 -- an entry at the node i, which was read as n
-module _ (items : List Node) {v : Listed} (view : sums_of items ≡ v) (i : ℕ) (h : i < length v) (n : Node)
-    (read : n ≡ get_or items i n) where
-  is : at (map shape items) i ≡ shape n
-  is = shape_read items i n (in_nodes items i view h) read
+module _ (items : List Node) {lists : List Children} (ok : IsTree items lists) {v : Listed} (view : sums items ≡ v)
+    (i : ℕ) (h : i < length v) (n : Node) (read : n ≡ get_or items i n) where
+  is : at items i ≡ n
+  is = at_read items i n (in_nodes items i view h) read
 
   pub bytes_fit : n.bytes ≤ total v
-  bytes_fit = let same = ap (λ (s : NodeShape). s.bytes) is in
-      omega (arith, bytes_le_total (map shape items) i (in_shapes items i view h), ap total view)
+  bytes_fit = let same = ap (λ (s : Node). s.bytes) is in
+      omega (arith, bytes_le_total items i (in_nodes items i view h), ap total view)
 
-  -- the write, seen as shapes
-  pub raised_nodes : (size : ℕ) (u b : Bool) → b ≡ (n.is_unique || u) →
-      map shape (set items i (raise_node size b n)) ≡ raised (map shape items) i size u
-  raised_nodes size u b mark =
-      let one : shape (raise_node size b n) ≡ raise_shape size u (at (map shape items) i) = rw (mark, is) refl in
-      map-set shape items i (raise_node size b n) ∙ ap (set (map shape items) i) one
+  pub raised_tree : 0 < i → (size : ℕ) (b : Bool) → IsTree (set items i (raise_node size b n)) lists
+  raised_tree pos size b = tree_of _ _ (arena_set items ok.arena i _ (sym (ap (λ (s : Node). s.key) is))
+      (sym (ap (λ (s : Node). s.parent) is)) (λ e. absurd (omega arith)))
 
--- a new node, seen as shapes
-pub grown_nodes : (items : List Node) (p : ℕ) (k : Key) (fresh : Node) → shape fresh ≡ leaf p k →
-    map shape (items ++ fresh ∷ []) ≡ grown (map shape items) p k
-grown_nodes items p k fresh is = map_push shape items fresh ∙ ap (λ (s : NodeShape). map shape items ++ s ∷ []) is
+  -- the bytes are added at the node's place
+  pub raised_view : (size : ℕ) (u b : Bool) → b ≡ (n.is_unique || u) →
+      sums (set items i (raise_node size b n)) ≡ put i (path_at v i) size u v
+  raised_view size u b mark =
+      grow_set [] items i _ (path_at v i) size u (in_nodes items i view h) (λ qs. rw (mark, is) refl)
+      ∙ ap (put i (path_at v i) size u) view
 
--- the two writes of its number, seen as numbers
+-- the two writes of a new node's number, seen as numbers
 pub grown_lists : (lists : List Children) (p : ℕ) (c d fresh : Children) → p < length lists → c ≡ get_or lists p c →
     numbers fresh ≡ [] → (g n : ℕ) → numbers d ≡ insert (numbers c) g n →
     map numbers (set lists p d ++ fresh ∷ []) ≡ with_child (map numbers lists) p g n
@@ -354,23 +313,22 @@ grown_lists lists p c d fresh h read none g n is =
     ++ none j ∷ [])
 
 -- what the sums say of a node that was read
-pub figures_read : (items : List Node) {lists : List Children} (ok : IsTree items lists) (v : Listed) (view : sums_of items ≡ v) (i : ℕ)
+pub figures_read : (items : List Node) {lists : List Children} (ok : IsTree items lists) (v : Listed) (view : sums items ≡ v) (i : ℕ)
     (h : i < length v) (n : Node) (read : n ≡ get_or items i n) →
     (let e = sum_at v i in (e.bytes ≡ n.bytes) × (e.is_unique ≡ n.is_unique) × (not (is_root e.path) ≡ ltb 0 i))
 figures_read items ok v view i h n read =
-    let ns = map shape items in
-    let is = shape_read items i n (in_nodes items i view h) read in
+    let is = at_read items i n (in_nodes items i view h) read in
     subst (λ (s : Listed). (let e = sum_at s i in
     (e.bytes ≡ n.bytes) × (e.is_unique ≡ n.is_unique) × (not (is_root e.path) ≡ ltb 0 i))) view (
-      (figures-grow [] ns i).0 ∙ ap (λ (s : NodeShape). s.bytes) is,
-      (figures-grow [] ns i).1 ∙ ap (λ (s : NodeShape). s.is_unique) is,
-      has_key ns ok.arena i (in_shapes items i view h),
+      (figures-grow [] items i).0 ∙ ap (λ (s : Node). s.bytes) is,
+      (figures-grow [] items i).1 ∙ ap (λ (s : Node). s.is_unique) is,
+      has_key items ok.arena i (in_nodes items i view h),
     )
 
 -- the bytes of the children of a node, read one by one
 pub below_read : (items : List Node) {lists : List Children} (ok : IsTree items lists) {v : Listed}
-    (view : sums_of items ≡ v) (i : ℕ) →
-    i < length v → sum_by (bytes_at (map shape items)) (children_at (map numbers lists) i)
+    (view : sums items ≡ v) (i : ℕ) →
+    i < length v → sum_by (bytes_at items) (children_at (map numbers lists) i)
     ≡ below (map_of v) (path_at v i)
-below_read items ok view i h = below_is (map shape items) ok.arena i (in_shapes items i view h)
+below_read items ok view i h = below_is items ok.arena i (in_nodes items i view h)
     ∙ ap (λ (s : Listed). below (map_of s) (path_at s i)) view

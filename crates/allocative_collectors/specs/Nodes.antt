@@ -1,7 +1,7 @@
--- The nodes of a tree, as plain values, and the numbers of their children, as one list or in chunks.
-use Rattle.std.specs.Prelude.{◌≡◌, ℕ, ◌-◌, ◌^◌, ◌<◌, ◌≤◌, List, [], ◌∷◌, ◌++◌, Bool, false, slice_index, slice_index_or}
+-- The nodes of a tree, and the numbers of their children, as one list or in chunks.
+use Rattle.std.specs.Prelude.{◌≡◌, ℕ, ◌-◌, ◌^◌, ◌<◌, ◌≤◌, List, [], ◌∷◌, ◌++◌, false, slice_index_or}
 use Rattle.std.specs.Prelude.{length, map, ◌+◌, take}
-use Rattle.std.specs.List.{All, flat_map}
+use Rattle.std.specs.List.{All, Contains, flat_map}
 use Rattle.std.specs.declared.cmp.Ordering.TheVariants.{Less, Greater}
 use Rattle.allocative_graph.specs.Path.{Key, Path, key_cmp}
 use Rattle.allocative_collectors.specs.Listed.{Listed, Sum}
@@ -11,24 +11,17 @@ use Rattle.allocative_collectors.specs.declared.children.Chunk.{Chunk}
 use Rattle.allocative_collectors.specs.declared.children.Place.{Place}
 use Rattle.allocative_collectors.specs.declared.tree.Node.{Node}
 
--- A node: its key, the number of its parent, the bytes entered at it, and whether it was ever entered as unique.
-pub record NodeShape : Type 0 where
-  pub key : Key
-  pub parent : ℕ
-  pub bytes : ℕ
-  pub is_unique : Bool
-
--- A node with no bytes.
-abbrev pub leaf : ℕ → Key → NodeShape
-leaf p k = record { key = k; parent = p; bytes = 0; is_unique = false }
+-- A node with no bytes. Its guesses are 0.
+abbrev pub leaf : ℕ → Key → Node
+leaf p k = record { key = k; parent = p; bytes = 0; last = 0; next = 0; follower = 0; is_unique = false }
 
 -- The node that stands for a missing one.
-abbrev pub no_shape : NodeShape
-no_shape = leaf 0 []
+abbrev pub no_node : Node
+no_node = leaf 0 []
 
 -- The node with the number i.
-abbrev pub at : List NodeShape → ℕ → NodeShape
-at ns i = slice_index_or ns i no_shape
+abbrev pub at : List Node → ℕ → Node
+at ns i = slice_index_or ns i no_node
 
 -- ---- the sums
 -- The path of a node with parent i and key k, if ps are the paths of the nodes before it: its parent's with one more
@@ -38,25 +31,25 @@ path_from [] i k = []
 path_from (p ∷ ps) i k = slice_index_or (p ∷ ps) i [] ++ k ∷ []
 
 -- The sum of a node, if ps are the paths of the nodes before it.
-abbrev pub sum_from : List Path → NodeShape → Sum
+abbrev pub sum_from : List Path → Node → Sum
 sum_from ps n = record { path = path_from ps n.parent n.key; bytes = n.bytes; is_unique = n.is_unique }
 
 -- The sums of the nodes ns, if ps are the paths of the nodes before them.
-abbrev pub grow : List Path → List NodeShape → Listed
+abbrev pub grow : List Path → List Node → Listed
 grow ps [] = []
 grow ps (n ∷ ns) = let e = sum_from ps n in e ∷ grow (ps ++ e.path ∷ []) ns
 
 -- The sums that the nodes stand for.
-abbrev pub sums : List NodeShape → Listed
+abbrev pub sums : List Node → Listed
 sums ns = grow [] ns
 
 -- ---- what a node has
 -- The key of node i.
-abbrev pub key_at : List NodeShape → ℕ → Key
+abbrev pub key_at : List Node → ℕ → Key
 key_at ns i = let n = at ns i in n.key
 
 -- The number of the parent of node i.
-abbrev pub parent_at : List NodeShape → ℕ → ℕ
+abbrev pub parent_at : List Node → ℕ → ℕ
 parent_at ns i = let n = at ns i in n.parent
 
 -- The numbers of the children of node i, if cs has those of each node.
@@ -64,15 +57,15 @@ abbrev pub children_at : List (List ℕ) → ℕ → List ℕ
 children_at cs i = slice_index_or cs i []
 
 -- The bytes entered at node i.
-abbrev pub bytes_at : List NodeShape → ℕ → ℕ
+abbrev pub bytes_at : List Node → ℕ → ℕ
 bytes_at ns i = let n = at ns i in n.bytes
 
 -- The keys of the nodes that have the numbers xs.
-abbrev pub keys_of : List NodeShape → List ℕ → List Key
+abbrev pub keys_of : List Node → List ℕ → List Key
 keys_of ns xs = map (key_at ns) xs
 
 -- The keys of the children of node p.
-abbrev pub keys_at : List NodeShape → List (List ℕ) → ℕ → List Key
+abbrev pub keys_at : List Node → List (List ℕ) → ℕ → List Key
 keys_at ns cs p = keys_of ns (children_at cs p)
 
 -- ---- the arena
@@ -84,31 +77,25 @@ key_in ks j = slice_index_or ks j []
 abbrev pub KeysRise : List Key → Type 0
 KeysRise ks = (i j : ℕ) → i < j → j < length ks → key_cmp (key_in ks i) (key_in ks j) ≡ Less
 
--- The number i is in the list.
-pub record StandsIn (xs : List ℕ) (i : ℕ) : Type 0 where
-  pub place : ℕ
-  pub in_range : place < length xs
-  pub is : slice_index xs place ≡ i
-
 -- The number i is in the list, and is that of a node with the key k.
-abbrev pub HasKey : List NodeShape → List ℕ → Key → ℕ → Type 0
-HasKey ns xs k i = StandsIn xs i × (key_at ns i ≡ k)
+abbrev pub HasKey : List Node → List ℕ → Key → ℕ → Type 0
+HasKey ns xs k i = Contains xs i × (key_at ns i ≡ k)
 
 -- Node i is not the root, and its parent is p.
-pub record IsChild (ns : List NodeShape) (p i : ℕ) : Type 0 where
+pub record IsChild (ns : List Node) (p i : ℕ) : Type 0 where
   pub not_root : 0 < i
   pub in_range : i < length ns
   pub parent : parent_at ns i ≡ p
 
 -- The root comes first and has no bytes and no parent, which is the number 2^64 - 1. Each other node comes after its
 -- parent and is one of its children. The numbers of each node's children are in cs, in the order of their keys.
-pub record IsArena (ns : List NodeShape) (cs : List (List ℕ)) : Type 0 where
+pub record IsArena (ns : List Node) (cs : List (List ℕ)) : Type 0 where
   pub rooted : 0 < length ns
   pub root_empty : bytes_at ns 0 ≡ 0
   pub root_parent : parent_at ns 0 ≡ 2 ^ 64 - 1
   pub parents : (i : ℕ) → 0 < i → i < length ns → parent_at ns i < i
   pub lists : length cs ≡ length ns
-  pub listed : (p i : ℕ) → IsChild ns p i → StandsIn (children_at cs p) i
+  pub listed : (p i : ℕ) → IsChild ns p i → Contains (children_at cs p) i
   pub children : (p : ℕ) → All (IsChild ns p) (children_at cs p)
   pub rise : (p : ℕ) → KeysRise (keys_at ns cs p)
 
@@ -169,22 +156,9 @@ flat_place (Many cs) p = place_in cs.value.items p
 flat_place c p = p.index
 
 -- ---- the nodes of a tree
--- A node without its guesses.
-abbrev pub shape : Node → NodeShape
-shape n = record {
-  key = n.key;
-  parent = n.parent;
-  bytes = n.bytes;
-  is_unique = n.is_unique;
-}
-
--- The sums that a tree's nodes stand for.
-abbrev pub sums_of : List Node → Listed
-sums_of ns = sums (map shape ns)
-
 -- The nodes are an arena. That the sums and the lists of children have a place for each follows from it, and is stated
 -- for proofs that index them.
 pub record IsTree (ns : List Node) (cs : List Children) : Type 0 where
-  pub arena : IsArena (map shape ns) (map numbers cs)
-  pub size : length (sums_of ns) ≡ length ns
+  pub arena : IsArena ns (map numbers cs)
+  pub size : length (sums ns) ≡ length ns
   pub lists : length cs ≡ length ns

@@ -8,7 +8,7 @@ ghost use Rattle.allocative_graph.specs.Visits.{IsProfile};
 ghost use Rattle.allocative_collectors.specs.Listed.{root_sum, put, total, path_at, map_of, IsEntered, IsAbove};
 ghost use Rattle.allocative_collectors.specs.Places.{AddedAt, TellsWhy};
 ghost use Rattle.allocative_collectors.specs.Warned.{size_at_place, is_short, MakesGraph, MakesGraphAlone, warning_of};
-ghost use Rattle.allocative_collectors.specs.Nodes.{leaf, bytes_at, keys_of, key_at, KeysRise, HasKey, IsKeyGap, numbers, numbers_in, flat, IsPlace, IsPlaceIn, place_in, flat_place, shape, IsTree};
+ghost use Rattle.allocative_collectors.specs.Nodes.{leaf, bytes_at, keys_of, key_at, KeysRise, HasKey, IsKeyGap, numbers, numbers_in, flat, IsPlace, IsPlaceIn, place_in, flat_place, IsTree};
 
 use crate::children::{Children, Chunk, LONGEST_LIST, Place, last_in, number_at, start_of};
 use crate::output::{FlameGraphOutput, WarnedPath};
@@ -38,7 +38,7 @@ struct Node {
 impl Node {
     /// A node with no bytes.
     fn new(key: Key, parent: usize) -> Node
-        ensures { shape result ≡ leaf parent key }
+        ensures { result ≡ leaf parent key }
     {
         Node {
             key,
@@ -69,9 +69,9 @@ impl Model for Tree {
 
     ghost Value = { Listed };
 
-    ghost use Rattle.allocative_collectors.specs.Nodes.{sums_of, IsTree};
+    ghost use Rattle.allocative_collectors.specs.Nodes.{sums, IsTree};
 
-    ghost view = { λ t. sums_of t.nodes.items };
+    ghost view = { λ t. sums t.nodes.items };
 
     ghost invariant = { λ t. IsTree t.nodes.items t.children.items };
 }
@@ -100,6 +100,7 @@ impl Tree {
     ///
     /// Entries often come in the same order as before, so the child that followed the last one is tried first.
     #[inline(always)]
+    #[tactic(auto, using(crate::proofs::Entries::entered_twice))]
     pub(crate) fn enter(
         &mut self,
         room: &mut usize,
@@ -193,8 +194,9 @@ impl Tree {
         let children = self.children[at].list(&mut copies)?;
         let size_below = bytes_of(&self.nodes, children);
         *graph = FlameGraph::with_capacity(self.alloc, children.len())?;
-        graph.add_self(self.size(at, size_below))?;
-        if self.is_short(at, size_below) {
+        let (size, is_short) = self.figures(at, size_below);
+        graph.add_self(size)?;
+        if is_short {
             push_warned(keys.as_slice(), self.nodes[at].bytes, size_below, warned)?;
         }
         for &child in children {
@@ -229,28 +231,20 @@ impl Tree {
         }
     }
 
-    /// The size that the graph has at the path of a node whose children have `size_below` bytes.
-    fn size(&self, at: usize, size_below: usize) -> usize
+    /// The size that the graph has at the path of a node whose children have `size_below` bytes, and whether the path has
+    /// a warning.
+    fn figures(&self, at: usize, size_below: usize) -> (usize, bool)
         requires within { at < length self.now }
         requires below { size_below ≡ bytes_below (map_of self.now) (path_at self.now at) }
-        ensures { result ≡ size_at_place self.now at }
+        ensures size { result.0 ≡ size_at_place self.now at }
+        ensures short { result.1 ≡ is_short self.now at }
     {
         let node = &self.nodes[at];
         if node.is_unique {
-            node.bytes
-        } else {
-            node.bytes.saturating_sub(size_below)
+            return (node.bytes, false);
         }
-    }
-
-    /// Whether a node whose children have `size_below` bytes has a warning.
-    fn is_short(&self, at: usize, size_below: usize) -> bool
-        requires within { at < length self.now }
-        requires below { size_below ≡ bytes_below (map_of self.now) (path_at self.now at) }
-        ensures { result ≡ is_short self.now at }
-    {
-        let node = &self.nodes[at];
-        at != 0 && !node.is_unique && node.bytes < size_below
+        let size = node.bytes.saturating_sub(size_below);
+        (size, at != 0 && node.bytes < size_below)
     }
 
     /// Whether the node `number` is the child of the node `at` that has the key.
@@ -295,6 +289,7 @@ impl Tree {
     /// Enters under a key that was not expected. The room has the bytes.
     #[cold]
     #[inline(never)]
+    #[tactic(auto, using(crate::proofs::Entries::length_entered, crate::proofs::Entries::total_entered))]
     fn enter_unexpected(
         &mut self,
         room: &mut usize,
@@ -365,7 +360,7 @@ fn guess(number: usize) -> u32
 
 /// How the key of a node compares with a key. A node that is missing has the empty key.
 fn compare(nodes: &[Node], number: u32, key: &Key) -> Ordering
-    ensures { result ≡ key_cmp (key_at (map shape nodes.now) number) key.now }
+    ensures { result ≡ key_cmp (key_at nodes.now number) key.now }
 {
     match nodes.get(number as usize) {
         Some(node) => node.key.cmp(key),
@@ -375,11 +370,11 @@ fn compare(nodes: &[Node], number: u32, key: &Key) -> Ordering
 
 /// The one of the children that has the key, or the place where the key belongs among them.
 fn find(nodes: &[Node], children: &Children, key: &Key) -> Result<u32, Place>
-    requires rise { KeysRise (keys_of (map shape nodes.now) (numbers children.now)) }
-    ensures found { IfOk result (HasKey (map shape nodes.now) (numbers children.now) key.now) }
+    requires rise { KeysRise (keys_of nodes.now (numbers children.now)) }
+    ensures found { IfOk result (HasKey nodes.now (numbers children.now) key.now) }
     ensures place { IfErr result (IsPlace children.now) }
     ensures absent { IfErr result (λ place.
-        IsKeyGap (keys_of (map shape nodes.now) (numbers children.now)) key.now (flat_place children.now place)) }
+        IsKeyGap (keys_of nodes.now (numbers children.now)) key.now (flat_place children.now place)) }
 {
     if let Children::Many(chunks) = children {
         return find_in_chunks(nodes, chunks.as_slice(), key);
@@ -391,10 +386,11 @@ fn find(nodes: &[Node], children: &Children, key: &Key) -> Result<u32, Place>
 }
 
 /// The one of some numbers whose node has the key, or the place where the key belongs among them.
+#[inline(never)]
 fn find_in_list(nodes: &[Node], list: &[u32], key: &Key) -> Result<u32, usize>
-    requires rise { KeysRise (keys_of (map shape nodes.now) list.now) }
-    ensures found { IfOk result (HasKey (map shape nodes.now) list.now key.now) }
-    ensures absent { IfErr result (IsKeyGap (keys_of (map shape nodes.now) list.now) key.now) }
+    requires rise { KeysRise (keys_of nodes.now list.now) }
+    ensures found { IfOk result (HasKey nodes.now list.now key.now) }
+    ensures absent { IfErr result (IsKeyGap (keys_of nodes.now list.now) key.now) }
 {
     // A key that comes in order needs one comparison.
     if let Some(last) = list.last()
@@ -402,20 +398,10 @@ fn find_in_list(nodes: &[Node], list: &[u32], key: &Key) -> Result<u32, usize>
     {
         return Err(list.len());
     }
-    search_list(nodes, list, key)
-}
-
-/// What `find_in_list` finds, by a binary search.
-#[inline(never)]
-fn search_list(nodes: &[Node], list: &[u32], key: &Key) -> Result<u32, usize>
-    requires rise { KeysRise (keys_of (map shape nodes.now) list.now) }
-    ensures found { IfOk result (HasKey (map shape nodes.now) list.now key.now) }
-    ensures absent { IfErr result (IsKeyGap (keys_of (map shape nodes.now) list.now) key.now) }
-{
     match list.binary_search_by(
         |number: &u32| -> Ordering
             ensures { result
-                ≡ key_cmp (key_at (map shape nodes.entry.now) number.entry.now) key.entry.now }
+                ≡ key_cmp (key_at nodes.entry.now number.entry.now) key.entry.now }
         { compare(nodes, *number, key) },
     ) {
         Ok(place) => Ok(list[place]),
@@ -427,11 +413,11 @@ fn search_list(nodes: &[Node], list: &[u32], key: &Key) -> Result<u32, usize>
 /// are searched by the keys alone.
 #[inline(never)]
 fn find_in_chunks(nodes: &[Node], chunks: &[Chunk], key: &Key) -> Result<u32, Place>
-    requires rise { KeysRise (keys_of (map shape nodes.now) (flat chunks.now)) }
-    ensures found { IfOk result (HasKey (map shape nodes.now) (flat chunks.now) key.now) }
+    requires rise { KeysRise (keys_of nodes.now (flat chunks.now)) }
+    ensures found { IfOk result (HasKey nodes.now (flat chunks.now) key.now) }
     ensures place { IfErr result (IsPlaceIn chunks.now) }
     ensures absent { IfErr result (λ place.
-        IsKeyGap (keys_of (map shape nodes.now) (flat chunks.now)) key.now (place_in chunks.now place)) }
+        IsKeyGap (keys_of nodes.now (flat chunks.now)) key.now (place_in chunks.now place)) }
 {
     // A key that comes in order needs one comparison.
     if let Some((last, end)) = last_in(chunks)
@@ -440,10 +426,14 @@ fn find_in_chunks(nodes: &[Node], chunks: &[Chunk], key: &Key) -> Result<u32, Pl
         return Err(end);
     }
     let place = guess_place(nodes, chunks, key);
-    match find_at(nodes, chunks, key, place) {
-        Some(found) => found,
-        None => search_chunks(nodes, chunks, key),
+    if let Some(number) = number_at(chunks, place) {
+        match compare(nodes, number, key) {
+            Ordering::Equal => return Ok(number),
+            Ordering::Greater if is_behind(nodes, chunks, key, place) => return Err(place),
+            _ => {}
+        }
     }
+    search_chunks(nodes, chunks, key)
 }
 
 /// The place where the starts of the keys say that a key is or belongs. A guess; callers check it.
@@ -483,27 +473,10 @@ fn guess_index(nodes: &[Node], chunk: &Chunk, key: &Key, start: u64) -> usize {
     low
 }
 
-/// What a search finds if it ends at this place. None if it may end elsewhere.
-fn find_at(nodes: &[Node], chunks: &[Chunk], key: &Key, place: Place) -> Option<Result<u32, Place>>
-    requires rise { KeysRise (keys_of (map shape nodes.now) (flat chunks.now)) }
-    ensures found { IfSome result (λ end. IfOk end
-        (HasKey (map shape nodes.now) (flat chunks.now) key.now)) }
-    ensures place { IfSome result (λ end. IfErr end (IsPlaceIn chunks.now)) }
-    ensures absent { IfSome result (λ end. IfErr end (λ place.
-        IsKeyGap (keys_of (map shape nodes.now) (flat chunks.now)) key.now (place_in chunks.now place))) }
-{
-    let number = number_at(chunks, place)?;
-    match compare(nodes, number, key) {
-        Ordering::Equal => Some(Ok(number)),
-        Ordering::Greater if is_behind(nodes, chunks, key, place) => Some(Err(place)),
-        _ => None,
-    }
-}
-
 /// Whether the number before a place has a smaller key, or there is none.
 fn is_behind(nodes: &[Node], chunks: &[Chunk], key: &Key, place: Place) -> bool
     ensures { IsTrue result → (j : ℕ) → place_in chunks.now place ≡ j + 1 → key_cmp
-        (key_at (map shape nodes.now) (slice_index_or (flat chunks.now) j 0)) key.now ≡ Ordering.Less }
+        (key_at nodes.now (slice_index_or (flat chunks.now) j 0)) key.now ≡ Ordering.Less }
 {
     let Some(index) = place.index.checked_sub(1) else {
         return place.chunk == 0;
@@ -520,11 +493,11 @@ fn is_behind(nodes: &[Node], chunks: &[Chunk], key: &Key, place: Place) -> bool
 #[cold]
 #[inline(never)]
 fn search_chunks(nodes: &[Node], chunks: &[Chunk], key: &Key) -> Result<u32, Place>
-    requires rise { KeysRise (keys_of (map shape nodes.now) (flat chunks.now)) }
-    ensures found { IfOk result (HasKey (map shape nodes.now) (flat chunks.now) key.now) }
+    requires rise { KeysRise (keys_of nodes.now (flat chunks.now)) }
+    ensures found { IfOk result (HasKey nodes.now (flat chunks.now) key.now) }
     ensures place { IfErr result (IsPlaceIn chunks.now) }
     ensures absent { IfErr result (λ place.
-        IsKeyGap (keys_of (map shape nodes.now) (flat chunks.now)) key.now (place_in chunks.now place)) }
+        IsKeyGap (keys_of nodes.now (flat chunks.now)) key.now (place_in chunks.now place)) }
 {
     for chunk in 0..chunks.len() {
         let numbers = chunks[chunk].numbers.as_slice();
@@ -566,8 +539,8 @@ fn chunks_of(alloc: Global, nodes: &[Node], list: &[u32]) -> Result<Box<Vec<Chun
 /// The bytes of some nodes together.
 fn bytes_of(nodes: &[Node], numbers: &[u32]) -> usize
     requires within { All (λ i. i < length nodes.now) numbers.now }
-    requires fits { sum_by (bytes_at (map shape nodes.now)) numbers.now < 2 ^ 63 }
-    ensures { result ≡ sum_by (bytes_at (map shape nodes.now)) numbers.now }
+    requires fits { sum_by (bytes_at nodes.now) numbers.now < 2 ^ 63 }
+    ensures { result ≡ sum_by (bytes_at nodes.now) numbers.now }
 {
     let mut sum = 0;
     for &number in numbers {

@@ -2,7 +2,7 @@
 use Rattle.std.proofs.Common.{◌≡◌, ◌-◌, ◌+◌, ◌<◌, ℕ, Bool, cond, List, [], ◌∷◌, ◌++◌, map, length, get_or, sum_by, Bor}
 use Rattle.std.proofs.Common.{Vec, Global, arith, sym, ap, subst, ◌∙◌, refl, Err, IfErr, ◌^◌, ◌≤◌, add-one}
 use Rattle.allocative_collectors.proofs.Common.{Key, IsChild, below, bytes_at, map_of, under, sum_of, default, add_self}
-use Rattle.allocative_collectors.proofs.Common.{WarnedPath, shape, path_at, keys_at, key_at, children_at, key_in}
+use Rattle.allocative_collectors.proofs.Common.{WarnedPath, path_at, keys_at, key_at, children_at, key_in}
 use Rattle.allocative_collectors.proofs.Common.{size_at_place, warning_of, Refusal, Memory, length-map, map-append}
 use Rattle.allocative_collectors.proofs.Common.{ComesLast, numbers, MakesGraph, MakesPart}
 use Rattle.std.specs.List.{All}
@@ -25,18 +25,18 @@ abbrev lists : (t : ℕ) → In_ok-children t → List (List ℕ)
 lists t c = map numbers c.self.inside.children.items
 
 abbrev keys : (t : ℕ) → In_ok-children t → List Key
-keys t c = keys_at (map shape c.self.inside.nodes.items) (lists t c) c.args.at
+keys t c = keys_at c.self.inside.nodes.items (lists t c) c.args.at
 
 -- the children that are walked
 children : (t : ℕ) (c : In_ok-children t) → children_at (lists t c) c.args.at ≡ c.in_ok-children.children.now
 children t c = children_read c.self.inside.children.items c.args.at c.index.result.now
-    (in_lists c.self.inside.nodes.items c.self.invariant c.args.at c.self.view_is c.requires.within)
+    (in_lists c.self.inside.nodes.items c.self.invariant c.self.view_is c.args.at c.requires.within)
     c.index.ensures
     ∙ sym c.in_ok-children.ensures
 
 -- there are as many keys as children
 count : (t : ℕ) (c : In_ok-children t) → length (keys t c) ≡ length c.in_ok-children.children.now
-count t c = length-map (children_at (lists t c) c.args.at) (key_at (map shape c.self.inside.nodes.items))
+count t c = length-map (children_at (lists t c) c.args.at) (key_at c.self.inside.nodes.items)
     ∙ ap length (children t c)
 
 -- A step of `build_graph`: child j comes later in the list than its node, and its path is the node's with key j.
@@ -49,17 +49,15 @@ child t c = child_read c.self.inside.nodes.items c.self.invariant c.self.view_is
     (children t c)
 
 -- the bytes of the children
-whole : (t : ℕ) (c : In_ok-children t) → sum_by (bytes_at (map shape c.self.inside.nodes.items))
+whole : (t : ℕ) (c : In_ok-children t) → sum_by (bytes_at c.self.inside.nodes.items)
     c.in_ok-children.children.now ≡ below (map_of c.args.self.now) (path_at c.args.self.now c.args.at)
-whole t c = ap (sum_by (bytes_at (map shape c.self.inside.nodes.items))) (sym (children t c))
+whole t c = ap (sum_by (bytes_at c.self.inside.nodes.items)) (sym (children t c))
     ∙ below_read c.self.inside.nodes.items c.self.invariant c.self.view_is c.args.at c.requires.within
 
 pub bytes_of-size_below-requires-clause-within : goal.bytes_of-size_below-requires-clause-within
 bytes_of-size_below-requires-clause-within t c =
     let items = c.self.inside.nodes.items in
-    let ns = map shape items in
-    let all = All-weaker (IsChild ns c.args.at) (λ (i : ℕ). i < length items)
-    (λ i is. omega (arith, is.in_range, length-map items shape))
+    let all = All-weaker (IsChild items c.args.at) (λ (i : ℕ). i < length items) (λ i is. is.in_range)
     (children_at (map numbers c.self.inside.children.items) c.args.at)
     (c.self.invariant.arena.children c.args.at) in
     subst (λ (l : List Node). All (λ (i : ℕ). i < length l) c.in_ok-children.children.now) (sym c.deref.ensures.value)
@@ -68,24 +66,19 @@ bytes_of-size_below-requires-clause-within t c =
 
 pub bytes_of-size_below-requires-clause-fits : goal.bytes_of-size_below-requires-clause-fits
 bytes_of-size_below-requires-clause-fits t c =
-    omega (arith, ap (λ (l : List Node). sum_by (bytes_at (map shape l)) c.in_ok-children.children.now) c.deref.ensures.value, whole t (goal.at.bytes_of-size_below-requires-clause-fits t c).In_ok-children, below_fits (map_of c.args.self.now) (path_at c.args.self.now c.args.at), c.requires.fits)
+    omega (arith, ap (λ (l : List Node). sum_by (bytes_at l) c.in_ok-children.children.now) c.deref.ensures.value, whole t (goal.at.bytes_of-size_below-requires-clause-fits t c).In_ok-children, below_fits (map_of c.args.self.now) (path_at c.args.self.now c.args.at), c.requires.fits)
 
 -- so many bytes were found
 found_below : (t : ℕ) (c : After-bytes_of-size_below t) →
-    (sum_by (bytes_at (map shape c.self.inside.nodes.items)) c.in_ok-children.children.now
+    (sum_by (bytes_at c.self.inside.nodes.items) c.in_ok-children.children.now
     ≡ below (map_of c.args.self.now) (path_at c.args.self.now c.args.at)) →
     c.bytes_of-size_below.result ≡ below (map_of c.args.self.now) (path_at c.args.self.now c.args.at)
 found_below t c is = c.bytes_of-size_below.ensures
-    ∙ (ap (λ (l : List Node). sum_by (bytes_at (map shape l)) c.in_ok-children.children.now) c.deref.ensures.value ∙ is)
+    ∙ (ap (λ (l : List Node). sum_by (bytes_at l) c.in_ok-children.children.now) c.deref.ensures.value ∙ is)
 
-pub size-requires-clause-below : goal.size-requires-clause-below
-size-requires-clause-below t c =
-    let here = goal.at.size-requires-clause-below t c in
-    found_below t here.After-bytes_of-size_below (whole t here.In_ok-children)
-
-pub is_short-requires-clause-below : goal.is_short-requires-clause-below
-is_short-requires-clause-below t c =
-    let here = goal.at.is_short-requires-clause-below t c in
+pub figures-size-requires-clause-below : goal.figures-size-requires-clause-below
+figures-size-requires-clause-below t c =
+    let here = goal.at.figures-size-requires-clause-below t c in
     found_below t here.After-bytes_of-size_below (whole t here.In_ok-children)
 
 pub index-requires-in-loop-child : goal.index-requires-in-loop-child
@@ -95,13 +88,13 @@ index-requires-in-loop-child t c =
 
 pub returns-in_err-add_self-clause-err : goal.returns-in_err-add_self-clause-err
 returns-in_err-add_self-clause-err t c =
-    let large : 2 ^ 64 ≤ total c.in_ok-graph.field-0 + c.size.result =
+    let large : 2 ^ 64 ≤ total c.in_ok-graph.field-0 + c.figures-size.result.0 =
     c.in_err-add_self.ensures.too_large.0 (ap (λ (r : Refusal). Err r) c.in_err-add_self.ensures.no_other) in
     let own = own_fits c.args.self.now (listing_of c.self.inside.nodes.items c.self.invariant c.self.view_is) c.args.at
     c.requires.within [] in
     let none : total c.in_ok-graph.field-0 ≡ 0 = ap total c.in_ok-graph.ensures ∙ total-default in
     absurd {A = IfErr c.from_residual-in_err-add_self.result (λ e. e ≡ Memory)}
-    (omega (arith, large, own, none, c.size.ensures, c.requires.fits))
+    (omega (arith, large, own, none, c.figures-size.ensures.size, c.requires.fits))
 
 pub loop-child-init : goal.loop-child-init
 loop-child-init t c =
@@ -111,7 +104,7 @@ loop-child-init t c =
     let i = c.args.at in
     let start = map warning_of c.args.warned.now.items in
     let is : c.add_self.new.self ≡ add_self (size_at_place v i) default =
-    c.in_ok-add_self.ensures.sum ∙ (λ j. add_self (c.size.ensures j) (c.in_ok-graph.ensures j)) in
+    c.in_ok-add_self.ensures.sum ∙ (λ j. add_self (c.figures-size.ensures.size j) (c.in_ok-graph.ensures j)) in
     let found : map warning_of c.if-is_short.warned.items ≡ start ++ warned_at v i = elim c.if-is_short.branch [
       | then-is_short+in_ok-push_warned w ↦
           (let figures = figures_read c.self.inside.nodes.items c.self.invariant v c.self.view_is i c.requires.within
@@ -120,9 +113,9 @@ loop-child-init t c =
           ap (λ (x : Vec WarnedPath Global). map warning_of x.items) w.warned-is
           ∙ (w.in_ok-push_warned.ensures
           ∙ ((λ j. start ++ record { path = keys j; self_size = sym figures.0 j; children_size = size_below j } ∷ [])
-          ∙ ap (λ (b : Bool). start ++ cond b (own_warning v i) []) w.if-is_short.ensures)))
+          ∙ ap (λ (b : Bool). start ++ cond b (own_warning v i) []) (sym w.if-is_short.true ∙ c.figures-size.ensures.short))))
       | else-is_short w ↦ ap (λ (x : Vec WarnedPath Global). map warning_of x.items) w.warned-is
-          ∙ none_warned v i start w.if-is_short.ensures
+          ∙ none_warned v i start (sym w.if-is_short.false ∙ c.figures-size.ensures.short)
     ] in
     record { keys = refl; made = part_start v (listing_of c.self.inside.nodes.items c.self.invariant c.self.view_is) i c.requires.within (keys t here.In_ok-children) _ _ _ is found }
 
@@ -150,7 +143,11 @@ abbrev Part : (t : ℕ) → In_ok-children t → ℕ → List Warned → List Wa
 Part t c j = MakesPart c.args.self.now (path_at c.args.self.now c.args.at) (begun (keys t c) j)
 
 module _ (t : ℕ) (c : In_ok-children t) (j : ℕ) (h : j < length c.in_ok-children.children.now) {w w' : List Warned}
-    {g : Graph} (part : Part t c j w w' g) (k : Key) (key : k ≡ key_in (keys t c) j) where
+    {g : Graph} (part : Part t c j w w' g) {n : Node} (read : n ≡ get_or c.self.inside.nodes.items (get_or c.in_ok-children.children.now j 0) n)
+    {k : Key} (copied : k ≡ n.key) where
+  key : k ≡ key_in (keys t c) j
+  key = copied ∙ (ap (λ (m : Node). m.key) read ∙ (child t c j h).3 n)
+
   within : j < length (keys t c)
   within = omega (arith, count t c)
 
@@ -170,10 +167,8 @@ pub push_child-requires : goal.push_child-requires
 push_child-requires t c =
     let here = (goal.at.push_child-requires t c).In_ok-children in
     let j = c.loop-child.child-index in
-    let key = c.copy.ensures ∙ (ap (λ (n : Node). n.key) c.index-in-loop-child.ensures
-    ∙ (child t here j c.loop-child-test.true).3 c.index-in-loop-child.result.now) in
     record {
-      last = next t here j c.loop-child-test.true c.loop-child.invariant.made _ key;
+      last = next t here j c.loop-child-test.true c.loop-child.invariant.made c.index-in-loop-child.ensures c.copy.ensures;
       fits = omega (arith, part_fits c.loop-child.invariant.made, part_fits (c.in-Some.ensures []), c.requires.fits);
     }
 
@@ -181,21 +176,17 @@ pub loop-child-preserved-in-Some : goal.loop-child-preserved-in-Some
 loop-child-preserved-in-Some t c =
     let here = (goal.at.loop-child-preserved-in-Some t c).In_ok-children in
     let j = c.loop-child.child-index in
-    let key = c.copy.ensures ∙ (ap (λ (n : Node). n.key) c.index-in-loop-child.ensures
-    ∙ (child t here j c.loop-child-test.true).3 c.index-in-loop-child.result.now) in
     record {
       keys = c.loop-child.invariant.keys;
-      made = more t here j c.loop-child-test.true c.loop-child.invariant.made _ key (c.in-Some.ensures _) c.in_ok-push_child.ensures.sum;
+      made = more t here j c.loop-child-test.true c.loop-child.invariant.made c.index-in-loop-child.ensures c.copy.ensures (c.in-Some.ensures _) c.in_ok-push_child.ensures.sum;
     }
 
 pub push_child-requires-in-loop-child : goal.push_child-requires-in-loop-child
 push_child-requires-in-loop-child t c =
     let here = (goal.at.push_child-requires-in-loop-child t c).In_ok-children in
     let j = c.loop-child.child-index in
-    let key = c.copy-in-loop-child.ensures ∙ (ap (λ (n : Node). n.key) c.index-in-loop-child.ensures
-    ∙ (child t here j c.loop-child-test.true).3 c.index-in-loop-child.result.now) in
     record {
-      last = next t here j c.loop-child-test.true c.loop-child.invariant.made _ key;
+      last = next t here j c.loop-child-test.true c.loop-child.invariant.made c.index-in-loop-child.ensures c.copy-in-loop-child.ensures;
       fits = omega (arith, part_fits c.loop-child.invariant.made, part_fits c.in_ok-build_graph.ensures.made, c.requires.fits);
     }
 
@@ -203,12 +194,10 @@ pub loop-child-preserved : goal.loop-child-preserved
 loop-child-preserved t c =
     let here = (goal.at.loop-child-preserved t c).In_ok-children in
     let j = c.loop-child.child-index in
-    let key = c.copy-in-loop-child.ensures ∙ (ap (λ (n : Node). n.key) c.index-in-loop-child.ensures
-    ∙ (child t here j c.loop-child-test.true).3 c.index-in-loop-child.result.now) in
     record {
       keys = popped c.loop-child.keys.items c.build_graph.new.keys.items c.pop.new.self.items c.as_str.result _ c.pop.ensures.rest
           c.build_graph.new.keys.ok.0 (c.in_ok-build_graph.ensures.keys ∙ c.in_ok-push.ensures.items) ∙ c.loop-child.invariant.keys;
-      made = more t here j c.loop-child-test.true c.loop-child.invariant.made _ key c.in_ok-build_graph.ensures.made c.in_ok-push_child-2.ensures.sum;
+      made = more t here j c.loop-child-test.true c.loop-child.invariant.made c.index-in-loop-child.ensures c.copy-in-loop-child.ensures c.in_ok-build_graph.ensures.made c.in_ok-push_child-2.ensures.sum;
     }
 
 pub returns-clause-made : goal.returns-clause-made

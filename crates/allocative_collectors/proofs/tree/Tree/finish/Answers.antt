@@ -2,10 +2,10 @@
 use Rattle.std.proofs.Common.{arith, ◌≡◌, ◌<◌, ◌^◌, ℕ, true, List, ◌++◌, map, Bor, sym, ap, subst, ◌∙◌, flat_map, Bool}
 use Rattle.std.proofs.Common.{false, not, ◌&&◌, cond, [], ◌∷◌, refl, nat_lt, append-nil}
 use Rattle.allocative_collectors.proofs.Common.{get, Path, Graph, graph, map_of, warning_of, warning_lines, entries}
-use Rattle.allocative_collectors.proofs.Common.{newline, Sums, below, is_root, warning_text, Listed, rows_behind}
+use Rattle.allocative_collectors.proofs.Common.{newline, Sums, below, is_root, warning_text, rows_behind}
 use Rattle.allocative_collectors.proofs.Common.{flat_map-append}
 use Rattle.std.specs.FinMap.{same_map}
-use Rattle.allocative_graph.specs.Graph.{total, warned, warning, warning_line, warnings, warned_paths}
+use Rattle.allocative_graph.specs.Graph.{total, warned, warning, warning_line, warned_paths}
 use Rattle.allocative_graph.proofs.Basics.{path_total, path_antisymmetric}
 use Rattle.allocative_collectors.proofs.Made.{part_fits}
 use Rattle.allocative_collectors.proofs.NodeReads.{listing_of}
@@ -17,10 +17,6 @@ use Rattle.allocative_collectors.proofs.tree.Tree.finish.Goals as goal
 all_kept : {X : Type 0} (xs : List X) → filter (λ x. true) xs ≡ xs
 all_kept [] = refl
 all_kept (x ∷ xs) = ap (λ (ys : List _). x ∷ ys) (all_kept xs)
-
--- The rows of a walk from the root are all rows.
-warned_walk : (s : Listed) → flat_map (warned (map_of s)) (rows_behind s [] (λ q. true)) ≡ warned_paths (map_of s)
-warned_walk s = ap (flat_map (warned (map_of s))) (all_kept (entries (map_of s)))
 
 -- ---- the text of the warnings
 -- The line of an entry's warned path is the text of its warning, and empty if it has none.
@@ -39,10 +35,6 @@ lines_of s (e ∷ es) =
     flat_map-append (λ w. warning_text w ++ newline ∷ []) (warned s e) (flat_map (warned s) es)
     ∙ (λ i. line_of s e i ++ lines_of s es i)
 
--- The lines of the paths that have a warning are the text of the warnings.
-lines-warned_paths : (s : Sums) → warning_lines (warned_paths s) ≡ warnings s
-lines-warned_paths s = lines_of s (entries s)
-
 pub build_graph-requires-clause-within : goal.build_graph-requires-clause-within
 build_graph-requires-clause-within c = (listing_of c.self.inside.nodes.items c.self.invariant c.self.view_is).rooted
 
@@ -58,10 +50,10 @@ returns-clause-made c =
     let made = c.in_ok-build_graph.ensures.made in
     let found : map warning_of c.build_graph.new.warned.items ≡ warned_paths (map_of v) =
     made.warned_are ∙ ((λ j. map warning_of (c.new-warned.ensures.items j)
-    ++ flat_map (warned (map_of v)) (rows_behind v (root j) (λ q. true))) ∙ warned_walk v) in (
+    ++ flat_map (warned (map_of v)) (rows_behind v (root j) (λ q. true))) ∙ ap (flat_map (warned (map_of v))) (all_kept (entries (map_of v)))) in (
       c.in_ok-new.ensures.graph ∙ same_map path_total path_antisymmetric c.build_graph.new.graph (graph (map_of v))
           (λ q. made.graph_is q ∙ ap (λ (p : Path). get (graph (map_of v)) (p ++ q)) root),
-      c.in_ok-new.ensures.warnings ∙ (ap warning_lines found ∙ lines-warned_paths (map_of v)),
+      c.in_ok-new.ensures.warnings ∙ (ap warning_lines found ∙ lines_of (map_of v) (entries (map_of v))),
       c.in_ok-new.ensures.warned ∙ found,
     )
 

@@ -1,4 +1,4 @@
--- A write of guesses changes no shape.
+-- A write of guesses changes no sum.
 use Rattle.std.proofs.Common.{◌≡◌, ◌<◌, length, sym, subst, ◌∙◌, refl, arith}
 use Rattle.allocative_collectors.proofs.Common.{Listed}
 use Rattle.allocative_collectors.proofs.NodeReads.{same_tree, same_view}
@@ -6,9 +6,9 @@ use Rattle.allocative_collectors.proofs.tree.Tree.follow_last.Goals as goal
 use Rattle.allocative_collectors.proofs.tree.Tree.follow_last.Goals.{Joined-last-len, then-last-len, else-last-len}
 
 pub invariant_of-self : goal.invariant_of-self
-invariant_of-self c = same_tree c.self.inside.nodes.items c.self.invariant c.index.result.now.last
-    c.index_mut.result.now _ (omega (arith, c.self.inside.nodes.ok.0, c.len.ensures, c.if-last-len.true))
-    c.index_mut.ensures.value refl
+invariant_of-self c = same_tree c.self.inside.nodes.items c.index.result.now.last c.index_mut.result.now
+    _ (omega (arith, c.self.inside.nodes.ok.0, c.len.ensures, c.if-last-len.true)) c.index_mut.ensures.value refl
+    c.self.invariant
 
 -- the sums are unchanged
 same : (c : Joined-last-len) → c.if-last-len.self ≡ c.args.self.now
