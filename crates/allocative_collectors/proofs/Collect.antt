@@ -13,6 +13,7 @@ use Rattle.allocative_graph.specs.Forest.{Entry}
 use Rattle.allocative_graph.specs.Sums as bag
 use Rattle.allocative_graph.specs.Collector.{last_of, without_last}
 use Rattle.allocative_graph.proofs.Basics.{identity_total, identity_antisymmetric, same_identity_turned}
+use Rattle.allocative_collectors.specs.Listed.{IsAbove}
 use Rattle.allocative_collectors.specs.Places.{to_root, outside, back_from, back_at, AddedAt}
 use Rattle.allocative_collectors.proofs.Entries.{total_entered, length_entered, path_entered, map_of-entered, mark_of}
 use Rattle.allocative_graph.proofs.Sums.{bytes_entered-add}
@@ -71,12 +72,18 @@ module _ (t : Listed) (met : List Identity) where
     }
 
   -- a node and the one above it
-  pub one_up : (outer inner : ℕ) (places : List ℕ) (rooted : Bool) (k : Key) →
+  one_up : (outer inner : ℕ) (places : List ℕ) (rooted : Bool) (k : Key) →
       path_at t inner ≡ path_at t outer ++ k ∷ [] →
       back_at t inner places rooted ≡ path_at t outer ∷ back_at t outer places rooted
   one_up outer inner places rooted k path =
       let rest = back_from (reverse (map (path_at t) places)) (to_root rooted) in
       ap (λ (q : Path). outside q ++ rest) path ∙ ap (λ (l : List Path). l ++ rest) (outside_push (path_at t outer) k)
+
+  -- back to the node above
+  pub came_up : (places : List ℕ) (rooted : Bool) {inner outer : ℕ} → IsAbove t inner outer →
+      live t met outer places rooted ≡ leave_live (live t met inner places rooted)
+  came_up places rooted {inner} {outer} above =
+      came_back outer inner places places rooted (one_up outer inner places rooted above.key above.path)
 
   pub at_root : (current : ℕ) → path_at t current ≡ [] →
       live t met current [] true ≡ go [] (live t met current [] false)

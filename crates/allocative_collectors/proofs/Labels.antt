@@ -2,15 +2,12 @@
 use Rattle.std.proofs.Common.{◌≡◌, ℕ, zero, suc, ◌+◌, ◌<◌, Bool, List, [], ◌∷◌, ◌++◌, length, get_or, set, map}
 use Rattle.std.proofs.Common.{append_assoc, append-nil, sum_by, refl, sym, ap, ◌∙◌, arith, inl, inr}
 use Rattle.allocative_collectors.proofs.Common.{Key, Path, Sum, Listed, root_sum, put, path_at, Node, at, sums}
-use Rattle.allocative_collectors.proofs.Common.{bytes_at, children_at, key_at, key_in, keys_at, parent_at, IsArena}
+use Rattle.allocative_collectors.proofs.Common.{children_at, key_at, key_in, keys_at, parent_at, IsArena}
 use Rattle.allocative_collectors.proofs.Common.{IsChild, KeysRise, length-map, get_or_append_left, get_or-map}
 use Rattle.allocative_collectors.proofs.Common.{get_or_default, length_push, same_from_push, sum_by-cons, cases_order}
 use Rattle.allocative_collectors.specs.Listed.{total, raise}
 use Rattle.allocative_collectors.proofs.Keys.{key_not_before}
 use Rattle.allocative_collectors.specs.Nodes.{grow, path_from, sum_from}
-
-abbrev pub unique_at : List Node → ℕ → Bool
-unique_at ns i = let n = at ns i in n.is_unique
 
 -- an entry at the place after the last is added at the end
 pub put_push : (i : ℕ) (q : Path) (n : ℕ) (u : Bool) (s : Listed) → i ≡ length s →
@@ -49,7 +46,7 @@ path-grow ps (n ∷ ns) (suc j) h some lt =
 
 -- a node's own figures
 pub figures-grow : (ps : List Path) (ns : List Node) (j : ℕ) →
-    (let e = get_or (grow ps ns) j root_sum in (e.bytes ≡ bytes_at ns j) × (e.is_unique ≡ unique_at ns j))
+    (let e = get_or (grow ps ns) j root_sum in let n = at ns j in (e.bytes ≡ n.bytes) × (e.is_unique ≡ n.is_unique))
 figures-grow ps [] j = (refl, refl)
 figures-grow ps (n ∷ ns) zero = (refl, refl)
 figures-grow ps (n ∷ ns) (suc j) = figures-grow (ps ++ path_of (sum_from ps n) ∷ []) ns j

@@ -26,7 +26,7 @@ pub(crate) enum Children {
     Many(Box<Vec<Chunk>>),
 }
 
-/// Numbers that follow one another. There is at least one, which no proof needs.
+/// Numbers that follow one another. There is at least one, though no proof rests on it.
 #[derive(Drop)]
 pub(crate) struct Chunk {
     pub(crate) numbers: Vec<u32>,

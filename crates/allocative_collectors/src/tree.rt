@@ -145,6 +145,7 @@ impl Tree {
 
     /// The node one key above, or None for the root.
     #[inline(always)]
+    #[tactic(auto, using(crate::proofs::Labels::root_at))]
     pub(crate) fn parent(&self, node: usize) -> Option<usize>
         requires { node < length self.now }
         ensures above { IfSome result (IsAbove self.now node) }
@@ -231,8 +232,8 @@ impl Tree {
         }
     }
 
-    /// The size that the graph has at the path of a node whose children have `size_below` bytes, and whether the path has
-    /// a warning.
+    /// The size that the graph has at the path of a node whose children have `size_below` bytes, and whether the path
+    /// has a warning.
     fn figures(&self, at: usize, size_below: usize) -> (usize, bool)
         requires within { at < length self.now }
         requires below { size_below ≡ bytes_below (map_of self.now) (path_at self.now at) }
@@ -262,6 +263,7 @@ impl Tree {
 
     /// Stores that `child` was entered last, and that the one that followed it before is expected next.
     #[inline(always)]
+    #[tactic(auto, using(crate::proofs::NodeReads::in_nodes, crate::proofs::NodeReads::same_view))]
     fn expect_follower(&mut self, at: usize, child: usize)
         requires parent { at < length self.old }
         requires child { child < length self.old }
@@ -409,8 +411,8 @@ fn find_in_list(nodes: &[Node], list: &[u32], key: &Key) -> Result<u32, usize>
     }
 }
 
-/// The same for numbers in chunks. The starts of the keys give a place, which is tested. If it is not the one, all chunks
-/// are searched by the keys alone.
+/// The same for numbers in chunks. The starts of the keys give a place, which is tested. If it is not the one, all
+/// chunks are searched by the keys alone.
 #[inline(never)]
 fn find_in_chunks(nodes: &[Node], chunks: &[Chunk], key: &Key) -> Result<u32, Place>
     requires rise { KeysRise (keys_of nodes.now (flat chunks.now)) }

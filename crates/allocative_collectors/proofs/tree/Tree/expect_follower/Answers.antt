@@ -1,12 +1,8 @@
--- A write of guesses changes no sum.
+-- A write of guesses keeps the tree.
 use Rattle.std.proofs.Common.{refl}
-use Rattle.allocative_collectors.proofs.NodeReads.{in_nodes, same_tree, same_view}
+use Rattle.allocative_collectors.proofs.NodeReads.{in_nodes, same_tree}
 use Rattle.allocative_collectors.proofs.tree.Tree.expect_follower.Goals as goal
 
 pub invariant_of-self : goal.invariant_of-self
 invariant_of-self c = same_tree c.self.inside.nodes.items c.args.at c.index_mut-node.result.now
     _ (in_nodes _ c.args.at c.self.view_is c.requires.parent) c.index_mut-node.ensures.value refl c.self.invariant
-
-pub returns : goal.returns
-returns c = same_view c.self.inside.nodes.items c.args.at c.index_mut-node.result.now
-    _ (in_nodes _ c.args.at c.self.view_is c.requires.parent) c.index_mut-node.ensures.value refl c.self.view_is

@@ -1,16 +1,10 @@
 -- The path of a node from its number and that of its parent.
-use Rattle.std.proofs.Common.{◌≡◌, ◌≢◌, ◌<◌, ℕ, [], arith, ap, subst, subst₂, ◌∙◌}
-use Rattle.allocative_collectors.proofs.Common.{Listed, Node, path_at, sums, key_at}
+use Rattle.std.proofs.Common.{◌≢◌, ◌<◌, ℕ, arith, ap, subst₂}
+use Rattle.allocative_collectors.proofs.Common.{Listed, Node, key_at}
 use Rattle.allocative_collectors.specs.Listed.{IsAbove}
-use Rattle.allocative_collectors.proofs.Labels.{length_sums, root_at, step}
+use Rattle.allocative_collectors.proofs.Labels.{length_sums, step}
 use Rattle.allocative_collectors.proofs.NodeReads.{in_nodes, at_read}
 use Rattle.allocative_collectors.proofs.tree.Tree.parent.Goals as goal
-
-pub returns-then-node-eq0-clause-root : goal.returns-then-node-eq0-clause-root
-returns-then-node-eq0-clause-root c =
-    let items = c.self.inside.nodes.items in
-    subst (λ (s : Listed). path_at s c.args.node ≡ []) c.self.view_is
-    (ap (path_at (sums items)) c.if-node-eq0.true ∙ root_at items)
 
 pub returns-else-node-eq0-clause-above : goal.returns-else-node-eq0-clause-above
 returns-else-node-eq0-clause-above c =
