@@ -20,7 +20,7 @@ use Rattle.std.proofs.lemmas.Slice.Eq.{bytes_eq-Decides}
 use Rattle.allocative_service.specs.declared.ledger.Ledger.{Ledger}
 use Rattle.allocative_service.specs.AccountData.{most_of, sum_of}
 use Rattle.allocative_service.specs.Accounts.{SameTerms, Stores, StoresBy, overgrown_of, total_of}
-use Rattle.allocative_service.specs.Rejected.{HasRoomBy}
+use Rattle.allocative_service.specs.Rejected.{HasRoom}
 use Rattle.allocative_service.specs.Store.{is_tenant}
 
 -- Values by the names of tenants.
@@ -68,12 +68,18 @@ module _ {A : Type 0} (size : A → ℕ) where
   abbrev sum_all : List (String Global × A) → ℕ
   sum_all accounts = sum_by size (values_of accounts)
 
+  -- Without one account the sum is less by its bytes.
+  pub all_bytes-close : (tenant : List ℕ) (old : ByName A) (h : A) → Some h ≡ get_by_text old tenant →
+      sum_all (remove_entry (is_tenant tenant) old.entries) + size h ≡ sum_all old.entries
+  all_bytes-close tenant old h account = rw (sym account) at (sum_by-remove_entry size (is_tenant tenant) old.entries)
+
   -- What is written through the account that `get_mut` lent: the account changes and no other. The sum of all changes
-  -- by as much as that of the account. If the account stays as it is, so do all.
+  -- by as much as that of the account, which was a part of it. If the account stays as it is, so do all.
   pub record Written (tenant : List ℕ) (before now : A) (old new : ByName A) : Type 0 where
     pub one : ChangesOne tenant (Some now) old new
     pub is : new.entries ≡ set_value (is_tenant tenant) old.entries now
     pub all : sum_all new.entries + size before ≡ sum_all old.entries + size now
+    pub part : size before ≤ sum_all old.entries
     pub same : now ≡ before → new.entries ≡ old.entries
 
   -- A write through the account that `get_mut` lent changes this account, and the sum by as much.
@@ -84,6 +90,7 @@ module _ {A : Type 0} (size : A → ℕ) where
     one = changes tenant (Some now) old new (w.3 (rw (← account) refl));
     is = w.0;
     all = rw w.0 (sum_by-set_value size (is_tenant tenant) old.entries before now (sym account));
+    part = omega (arith, all_bytes-close tenant old before account);
     same = λ is. w.0 ∙ set_value_same _ old.entries now (sym account ∙ ap Some (sym is));
   }
 
@@ -98,20 +105,11 @@ module _ {A : Type 0} (size : A → ℕ) where
       let sum = rw here at (sum_by-insert_entry size string_cmp_total old.entries name now sorted) in
       omega (arith, sum, empty)
 
-  -- Without one account the sum is less by its bytes.
-  pub all_bytes-close : (tenant : List ℕ) (old : ByName A) (h : A) → Some h ≡ get_by_text old tenant →
-      sum_all (remove_entry (is_tenant tenant) old.entries) + size h ≡ sum_all old.entries
-  all_bytes-close tenant old h account = rw (sym account) at (sum_by-remove_entry size (is_tenant tenant) old.entries)
-
-  -- The bytes of one account are part of the sum.
-  pub account_within : (tenant : List ℕ) (old : ByName A) (h : A) → get_by_text old tenant ≡ Some h →
-      size h ≤ sum_all old.entries
-  account_within tenant old h account = omega (arith, all_bytes-close tenant old h (sym account))
-
 -- ---- entries
 -- What is stored is within the limits, if there was room for it.
 pub stored_by : (most : Option ℕ) (tenant : List ℕ) (number bytes : ℕ) (had : Option ℕ) (old new : Ledger) (total : ℕ)
-    (s : Stores tenant number bytes had old new total) → HasRoomBy (total_of old) most (unwrap_or had 0) bytes s.before
+    (s : Stores tenant number bytes had old new total)
+    → HasRoom (total_of old) most (sum_of s.before.entries) s.before.limit (unwrap_or had 0) bytes
     → sum_of s.before.entries ≤ most_of s.before → StoresBy most tenant number bytes had old new total
 stored_by None tenant number bytes had old new total s room within = (s, within)
 stored_by (Some most) tenant number bytes had old new total s room within = record {

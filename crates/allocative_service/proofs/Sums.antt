@@ -1,13 +1,17 @@
 -- The sum of an account's entries after each change of them.
-use Rattle.std.proofs.Common.{◌≡◌, ℕ, ◌+◌, ◌≤◌, List, arith, nat_cmp}
+use Rattle.std.proofs.Common.{◌≡◌, ℕ, ◌+◌, ◌≤◌, List, [], ◌∷◌, Some, None, arith, nat_cmp}
 use Rattle.allocative_service.proofs.Common.{is_at, lookup, remove_entry}
 use Rattle.std.specs.BTreeMap.{insert_entry}
 use Rattle.std.specs.Cmp.{nat_cmp_total}
 use Rattle.std.specs.List.Sorted.{IsStrictlySortedBy}
-use Rattle.std.specs.Map.{keys_of}
+use Rattle.std.specs.Map.{keys_of, set_value}
 use Rattle.std.specs.Option.{unwrap_or}
+use Rattle.std.specs.declared.cmp.Ordering.TheVariants.{Less}
 use Rattle.std.proofs.lemmas.Iterator.Adapters.{option_map_id}
-use Rattle.std.proofs.lemmas.Map.Entries.{sum_by-insert_entry, sum_by-remove_entry}
+use Rattle.std.proofs.lemmas.Map.{lookup-none}
+use Rattle.std.proofs.lemmas.Map.Entries.{none_below_head, sum_by-insert_entry, sum_by-remove_entry}
+use Rattle.std.proofs.lemmas.Map.Keys.{sorted_tail}
+use Rattle.std.proofs.lemmas.Map.Steps.{set_value_same}
 use Rattle.allocative_service.specs.AccountData.{sum_of}
 
 -- An insertion adds the bytes of the entry to the sum, and takes off those that it had.
@@ -27,6 +31,29 @@ sum_of-remove_entry number entries = rw option_map_id at (sum_by-remove_entry (�
 pub had_within : (number : ℕ) (entries : List (ℕ × ℕ)) →
     unwrap_or (lookup (is_at (nat_cmp number)) entries) 0 ≤ sum_of entries
 had_within number entries = omega (arith, sum_of-remove_entry number entries)
+
+-- Writing over the bytes under a number is an insertion, which changes the sum by as much.
+pub overwritten : (number had bytes : ℕ) (entries : List (ℕ × ℕ)) → IsStrictlySortedBy nat_cmp (keys_of entries) →
+    Some had ≡ lookup (is_at (nat_cmp number)) entries
+    → (set_value (is_at (nat_cmp number)) entries bytes ≡ insert_entry nat_cmp entries number bytes) × (had ≤ sum_of entries)
+    × (sum_of (insert_entry nat_cmp entries number bytes) + had ≡ sum_of entries + bytes)
+overwritten number had bytes entries sorted found = (
+  written entries sorted found,
+  rw (← found) at (had_within number entries),
+  rw (← found) at (sum_of-insert_entry number bytes entries sorted),
+)
+  where
+    written : (es : List (ℕ × ℕ)) → IsStrictlySortedBy nat_cmp (keys_of es) → Some had ≡ lookup (is_at (nat_cmp number)) es →
+        set_value (is_at (nat_cmp number)) es bytes ≡ insert_entry nat_cmp es number bytes
+    written [] sorted found = absurd cc
+    written (e ∷ es) sorted found =
+        let rest = written es (sorted_tail nat_cmp e.0 (keys_of es) sorted) in
+        let below : nat_cmp number e.0 ≡ Less → lookup (is_at (nat_cmp number)) (e ∷ es) ≡ None =
+        λ less. lookup-none _ (e ∷ es) (none_below_head nat_cmp_total number e es sorted less) in
+        grind (arith, rest, below)
+
+-- The lemmas on an entry that is put.
+pub ruleset puts = (set_value_same, sum_of-insert_entry, had_within)
 
 -- The lemmas on the sum of an account.
 pub ruleset sums = (sum_of-remove_entry, sum_of-insert_entry, had_within)

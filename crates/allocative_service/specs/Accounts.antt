@@ -10,7 +10,7 @@ use Rattle.allocative_service.specs.declared.ledger.rejection.Rejection.{Rejecti
 use Rattle.allocative_service.specs.declared.ledger.rejection.Rejection.TheVariants.{TooLarge}
 use Rattle.allocative_service.specs.declared.measure.Measure.{Measure}
 use Rattle.allocative_service.specs.AccountData.{AccountData, all_bytes, bytes_at, most_of, sum_of, without, Puts}
-use Rattle.allocative_service.specs.Rejected.{RejectsAdded, RejectsWithin}
+use Rattle.allocative_service.specs.Rejected.{RejectsAdded, RejectsRoom}
 
 -- All accounts, each with its tenant's name.
 abbrev pub accounts_of : Ledger → List (String Global × AccountData)
@@ -126,7 +126,7 @@ pub record Releases (tenant : List ℕ) (number : ℕ) (old new : Ledger) (bytes
 -- Replacing the `had` bytes of one entry of this account by `bytes` is rejected. The bytes and the limit of all accounts
 -- are the ledger's.
 abbrev pub RejectsPut : Ledger → ℕ → ℕ → AccountData → Rejection → Type 0
-RejectsPut l = RejectsWithin (total_of l) (limit_of l)
+RejectsPut l had bytes h = RejectsRoom (total_of l) (Some (limit_of l)) (sum_of h.entries) h.limit had bytes
 
 -- A new entry of `bytes` in this account is rejected. The bytes and the limit of all accounts are the ledger's.
 abbrev pub RejectsNewBytes : Ledger → ℕ → AccountData → Rejection → Type 0

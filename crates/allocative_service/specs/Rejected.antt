@@ -24,27 +24,29 @@ RejectsValue measure is_strict size p limit (OverBudget b l) =
 RejectsValue measure is_strict size p limit (NotMeasured e) = MayRefuseMeasure measure is_strict size p e
 RejectsValue measure is_strict size p limit _ = ⊥
 
--- Replacing the `had` bytes of one entry of an account by `bytes` is rejected, where all accounts have `all` bytes and
--- may have `most`, by the first of these that holds: the new sum of all accounts does not fit a word, that of the account
--- exceeds its limit, that of all accounts exceeds `most`.
-abbrev pub RejectsWithin : ℕ → ℕ → ℕ → ℕ → AccountData → Rejection → Type 0
-RejectsWithin all most had bytes h TooLarge = 2 ^ 64 + had ≤ all + bytes
-RejectsWithin all most had bytes h (OverBudget b l) =
-    (all + bytes < 2 ^ 64 + had) × (b + had ≡ sum_of h.entries + bytes) × (l ≡ h.limit) × (h.limit < b)
-RejectsWithin all most had bytes h (LedgerFull b l) = (all + bytes < 2 ^ 64 + had)
-    × (sum_of h.entries + bytes ≤ h.limit + had) × (b + had ≡ all + bytes) × (l ≡ most) × (most < b)
-RejectsWithin all most had bytes h _ = ⊥
+-- Replacing the `had` bytes of one entry by `bytes` is rejected, where the account has `sum` bytes and may have `limit`,
+-- and all accounts have `all` bytes, by the first of these that holds: the new sum of all accounts does not fit a word,
+-- and if all may have `most`, that of the account exceeds its limit, that of all accounts exceeds `most`.
+abbrev pub RejectsRoom : ℕ → Option ℕ → ℕ → ℕ → ℕ → ℕ → Rejection → Type 0
+RejectsRoom all most sum limit had bytes TooLarge = 2 ^ 64 + had ≤ all + bytes
+RejectsRoom all (Some most) sum limit had bytes (OverBudget b l) =
+    (all + bytes < 2 ^ 64 + had) × (b + had ≡ sum + bytes) × (l ≡ limit) × (limit < b)
+RejectsRoom all (Some most) sum limit had bytes (LedgerFull b l) = (all + bytes < 2 ^ 64 + had)
+    × (sum + bytes ≤ limit + had) × (b + had ≡ all + bytes) × (l ≡ most) × (most < b)
+RejectsRoom all most sum limit had bytes _ = ⊥
 
--- None of these holds if `bytes` take the place of `had` bytes of one entry of the account.
-pub record HasRoom (all most had bytes : ℕ) (h : AccountData) : Type 0 where
+-- There is room for `bytes` in place of the `had` bytes of one entry: the new sum of all accounts fits a word, and if all
+-- may have `most`, neither limit is exceeded.
+pub record HasRoom (all : ℕ) (most : Option ℕ) (sum limit had bytes : ℕ) : Type 0 where
   pub fits : all + bytes < 2 ^ 64 + had
-  pub within : sum_of h.entries + bytes ≤ h.limit + had
-  pub all_within : all + bytes ≤ most + had
+  pub within : OnSome most (sum + bytes ≤ limit + had)
+  pub all_within : IfSome most (λ m. all + bytes ≤ m + had)
 
 -- A new entry of an account is rejected, where all accounts have `all` bytes and may have `most`: so are its bytes, or
 -- there is room for them and memory runs out.
 abbrev pub RejectsAdded : ℕ → ℕ → ℕ → AccountData → Rejection → Type 0
-RejectsAdded all most bytes h r = RejectsWithin all most 0 bytes h r ⊎ ((r ≡ NotKept) × HasRoom all most 0 bytes h)
+RejectsAdded all most bytes h r = RejectsRoom all (Some most) (sum_of h.entries) h.limit 0 bytes r
+    ⊎ ((r ≡ NotKept) × HasRoom all (Some most) (sum_of h.entries) h.limit 0 bytes)
 
 -- Taking `less` bytes off the `had` bytes of an entry is rejected: there are fewer, as the rejection says.
 abbrev pub RejectsCredit : ℕ → ℕ → AccountData → Rejection → Type 0
@@ -88,22 +90,8 @@ RejectsOpening had HasAccount = IsSome had
 RejectsOpening had NotKept = had ≡ None
 RejectsOpening had _ = ⊥
 
--- There is room for `bytes` in place of `had` bytes of one entry of the account: the new sum of all accounts fits a
--- word, and if all may have `most`, neither limit is exceeded.
-pub record HasRoomBy (all : ℕ) (most : Option ℕ) (had bytes : ℕ) (h : AccountData) : Type 0 where
-  pub fits : all + bytes < 2 ^ 64 + had
-  pub within : OnSome most (sum_of h.entries + bytes ≤ h.limit + had)
-  pub all_within : IfSome most (λ m. all + bytes ≤ m + had)
-
--- There is no such room, as the rejection says.
-abbrev pub RejectsRoom : ℕ → Option ℕ → ℕ → ℕ → AccountData → Rejection → Type 0
-RejectsRoom all (Some most) had bytes h r = RejectsWithin all most had bytes h r
-RejectsRoom all None had bytes h TooLarge = 2 ^ 64 + had ≤ all + bytes
-RejectsRoom all None had bytes h _ = ⊥
-
 -- Storing the bytes that P makes of those of an entry is rejected: by P, for want of room, or memory runs out.
-abbrev pub RejectsBy : ℕ → Option ℕ → (Option ℕ → Result ℕ Rejection → Type 0) → Option ℕ → AccountData → Rejection →
-    Type 0
-RejectsBy all most P had h r = P had (Err r) ⊎ ((bytes : ℕ) × P had (Ok bytes)
-    × (RejectsRoom all most (unwrap_or had 0) bytes h r
-    ⊎ ((r ≡ NotKept) × (had ≡ None) × HasRoomBy all most (unwrap_or had 0) bytes h)))
+abbrev pub RejectsBy : ℕ → Option ℕ → (Option ℕ → Result ℕ Rejection → Type 0) → Option ℕ → ℕ → ℕ → Rejection → Type 0
+RejectsBy all most P had sum limit r = P had (Err r) ⊎ ((bytes : ℕ) × P had (Ok bytes)
+    × (RejectsRoom all most sum limit (unwrap_or had 0) bytes r
+    ⊎ ((r ≡ NotKept) × (had ≡ None) × HasRoom all most sum limit (unwrap_or had 0) bytes)))

@@ -415,7 +415,7 @@ impl Ledger {
         ensures standing { IfOk result (StandsAt tenant.now self.new) }
         ensures part { unwrap_or (entry_of tenant.now number self.old) 0 ≤ total_of self.old }
         ensures rejected { IfErr result (RejectsIn (λ h. RejectsBy (total_of self.old) most (F.post bytes_of)
-            (bytes_at number h) h) (account_of tenant.now self.old)) }
+            (bytes_at number h) (sum_of h.entries) h.limit) (account_of tenant.now self.old)) }
         ensures unchanged { OnErr result (IsUnchanged self.old self.new) }
     {
         let Some(account) = self.accounts.get_mut(tenant) else {

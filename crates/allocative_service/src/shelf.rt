@@ -244,11 +244,8 @@ impl<K: Eq + Hash + Drop, V: Allocative + Described> Shelf<K, V> {
         ensures rejected { IfErr result (IsOverBudget (bytes_of self.old.entries) budget.limit) }
         ensures unchanged { OnErr result (self.new ≡ self.old) }
     {
-        let (bytes, limit) = (self.bytes, budget.limit);
-        if bytes > limit {
-            return Err(Rejection::OverBudget { bytes, limit });
-        }
-        self.limit = limit;
+        budget.check(self.bytes)?;
+        self.limit = budget.limit;
         self.overgrown = 0;
         Ok(())
     }

@@ -1,7 +1,9 @@
 //! The bytes of one tenant's entries, and their limit.
 ghost use Rattle.std.specs.Prelude.{◌≡◌, ℕ, ◌+◌, ◌-◌, ◌^◌, ◌<◌, ◌≤◌, ◌↔◌, [], Some, None, Ok, MatchOption, IsSome, IsTrue, IfOk, IfErr, IfNone, OnOk, OnErr, unwrap_or};
+ghost use Rattle.std.specs.BTreeMap.{get, insert_entry};
+ghost use Rattle.std.specs.Ordering.{nat_cmp};
 ghost use Rattle.allocative_service.specs.AccountData.{IsLargest, IsSummed, bytes_at, most_of, new_account, sum_of, with_limit, with_peak_reset, with_soft_limit, without, Puts};
-ghost use Rattle.allocative_service.specs.Rejected.{HasRoomBy, RejectsAdded, RejectsBy, RejectsChange, RejectsLimit, RejectsNew, RejectsRoom, RejectsWithin};
+ghost use Rattle.allocative_service.specs.Rejected.{HasRoom, RejectsAdded, RejectsBy, RejectsChange, RejectsLimit, RejectsNew, RejectsRoom};
 
 use crate::ledger::budget::Budget;
 use crate::ledger::rejection::Rejection;
@@ -74,10 +76,7 @@ impl Account {
         ensures rejected { IfErr result (RejectsLimit budget.limit self.old) }
         ensures unchanged { OnErr result (self.new ≡ self.old) }
     {
-        let (bytes, limit) = (self.bytes, budget.limit);
-        if bytes > limit {
-            return Err(Rejection::OverBudget { bytes, limit });
-        }
+        budget.check(self.bytes)?;
         self.budget = budget;
         self.overgrown = 0;
         Ok(())
@@ -216,7 +215,8 @@ impl Account {
             (λ total. (had : ℕ) × Puts number bytes (Some had) self.old self.new total) }
         ensures within { IfOk result (λ total. total ≤ self.old.limit) }
         ensures rejected { IfErr result
-            (RejectsChange number (λ had. RejectsWithin (sum_of self.old.entries) (2 ^ 64 - 1) had bytes) self.old) }
+            (RejectsChange number (λ had h. RejectsRoom (sum_of h.entries) (Some (2 ^ 64 - 1)) (sum_of h.entries) h.limit
+            had bytes) self.old) }
         ensures unchanged { OnErr result (self.new ≡ self.old) }
     {
         self.put_with(number, self.bytes, Some(usize::MAX), |had| match had {
@@ -229,8 +229,7 @@ impl Account {
     /// bytes of all entries together. All accounts have `all` bytes together and may have `most`; without `most` no
     /// limit counts.
     ///
-    /// The error is that of `bytes_of`, otherwise that of `check_room`, and otherwise `NotKept` if the number has no entry
-    /// and memory runs out. After it the account is unchanged.
+    /// The errors are those of `put_entry`. After one the account is unchanged.
     #[tactic(auto, using(crate::proofs::Sums::sums))]
     pub(crate) fn put_with<F: FnOnce(Option<usize>) -> Result<usize, Rejection>>(
         &mut self,
@@ -242,58 +241,28 @@ impl Account {
         requires called { F.IsAlwaysCallable bytes_of }
         requires within { sum_of self.old.entries ≤ all }
         ensures put { IfOk result (λ total. (bytes : ℕ) × F.post bytes_of (bytes_at number self.old) (Ok bytes)
-            × HasRoomBy all most (unwrap_or (bytes_at number self.old) 0) bytes self.old
+            × HasRoom all most (sum_of self.old.entries) self.old.limit (unwrap_or (bytes_at number self.old) 0) bytes
             × Puts number bytes (bytes_at number self.old) self.old self.new total) }
         ensures sum { IfOk result (λ total. sum_of self.new.entries ≡ total) }
         ensures part { unwrap_or (bytes_at number self.old) 0 ≤ sum_of self.old.entries }
         ensures within { sum_of self.old.entries ≤ most_of self.old }
-        ensures rejected { IfErr result (RejectsBy all most (F.post bytes_of) (bytes_at number self.old) self.old) }
+        ensures rejected { IfErr result (RejectsBy all most (F.post bytes_of) (bytes_at number self.old)
+            (sum_of self.old.entries) self.old.limit) }
         ensures unchanged { OnErr result (self.new ≡ self.old) }
     {
-        let had = self.entries.get(&number).copied();
-        let bytes = bytes_of(had)?;
-        let had = had.unwrap_or(0);
-        self.check_room(had, bytes, all, most)?;
-        let total = self.bytes - had + bytes;
-        let Ok(_had) = self.entries.insert(number, bytes) else {
-            return Err(Rejection::NotKept);
-        };
+        let total = put_entry(
+            &mut self.entries,
+            number,
+            self.budget,
+            self.bytes,
+            all,
+            most,
+            bytes_of,
+        )?;
         self.bytes = total;
         self.peak = self.peak.max(total);
         self.overgrown = self.overgrown.max(total.saturating_sub(self.budget.limit));
         Ok(total)
-    }
-
-    /// Checks that there is room for `bytes` in place of `had` bytes of an entry, as `put_with` says.
-    ///
-    /// The error is `TooLarge` if the new bytes of all accounts do not fit a word, otherwise, with `most`, `OverBudget`
-    /// if those of this account exceed its limit, and otherwise `LedgerFull` if those of all accounts exceed `most`.
-    fn check_room(
-        &self,
-        had: usize,
-        bytes: usize,
-        all: usize,
-        most: Option<usize>,
-    ) -> Result<(), Rejection>
-        requires part { had ≤ sum_of self.now.entries }
-        requires within { sum_of self.now.entries ≤ all }
-        ensures room { OnOk result (HasRoomBy all most had bytes self.now) }
-        ensures rejected { IfErr result (RejectsRoom all most had bytes self.now) }
-    {
-        let Some(sum) = (all - had).checked_add(bytes) else {
-            return Err(Rejection::TooLarge);
-        };
-        let Some(most) = most else {
-            return Ok(());
-        };
-        self.budget.check(self.bytes - had + bytes)?;
-        if sum > most {
-            return Err(Rejection::LedgerFull {
-                bytes: sum,
-                limit: most,
-            });
-        }
-        Ok(())
     }
 
     /// Removes the entry under the number. It returns the bytes of the entry, or None if there is none. The peak stays.
@@ -308,4 +277,46 @@ impl Account {
         self.bytes -= bytes;
         Some(bytes)
     }
+}
+
+/// Stores under the number the bytes that `bytes_of` makes of those that it has, if there is room. It returns the bytes of
+/// all entries together, which were `sum`. A number that is there is searched once.
+///
+/// The error is that of `bytes_of`, otherwise that of `Budget::check_room`, and otherwise `NotKept` if the number has no
+/// entry and memory runs out. After it the entries are unchanged.
+#[tactic(auto, using(crate::proofs::Sums::puts))]
+fn put_entry<F: FnOnce(Option<usize>) -> Result<usize, Rejection>>(
+    entries: &mut BTreeMap<u64, usize>,
+    number: u64,
+    budget: Budget,
+    sum: usize,
+    all: usize,
+    most: Option<usize>,
+    bytes_of: F,
+) -> Result<usize, Rejection>
+    requires called { F.IsAlwaysCallable bytes_of }
+    requires sum { sum ≡ sum_of entries.old.entries }
+    requires within { sum ≤ all }
+    ensures put { IfOk result (λ total. (bytes : ℕ) × F.post bytes_of (get nat_cmp entries.old number) (Ok bytes)
+        × HasRoom all most sum budget.limit (unwrap_or (get nat_cmp entries.old number) 0) bytes
+        × (entries.new.entries ≡ insert_entry nat_cmp entries.old.entries number bytes)
+        × (total + unwrap_or (get nat_cmp entries.old number) 0 ≡ sum + bytes)) }
+    ensures sum { IfOk result (λ total. total ≡ sum_of entries.new.entries) }
+    ensures rejected { IfErr result
+        (RejectsBy all most (F.post bytes_of) (get nat_cmp entries.old number) sum budget.limit) }
+    ensures unchanged { OnErr result (entries.new.entries ≡ entries.old.entries) }
+{
+    let Some(entry) = entries.get_mut(&number) else {
+        let bytes = bytes_of(None)?;
+        budget.check_room(sum, all, most, 0, bytes)?;
+        let Ok(_none) = entries.insert(number, bytes) else {
+            return Err(Rejection::NotKept);
+        };
+        return Ok(sum + bytes);
+    };
+    let had = *entry;
+    let bytes = bytes_of(Some(had))?;
+    budget.check_room(sum, all, most, had, bytes)?;
+    *entry = bytes;
+    Ok(sum - had + bytes)
 }

@@ -1,7 +1,7 @@
 //! A limit in bytes and the check against it.
-ghost use Rattle.std.specs.Prelude.{◌≡◌, ◌^◌, ◌<◌, ◌≤◌, IfOk, IfErr};
+ghost use Rattle.std.specs.Prelude.{◌≡◌, ◌^◌, ◌<◌, ◌≤◌, IfOk, IfErr, OnOk};
 ghost use Rattle.allocative_service.specs.Measured.{Declares};
-ghost use Rattle.allocative_service.specs.Rejected.{IsOverBudget, RejectsValue};
+ghost use Rattle.allocative_service.specs.Rejected.{HasRoom, IsOverBudget, RejectsRoom, RejectsValue};
 
 use crate::ledger::rejection::Rejection;
 use crate::measure::Measure;
@@ -30,6 +30,41 @@ impl Budget {
             });
         }
         Ok(bytes)
+    }
+
+    /// Checks that there is room for `bytes` in place of the `had` bytes of one entry, where this is the budget of an
+    /// account of `sum` bytes, and all accounts have `all` bytes together and may have `most`; without `most` no limit
+    /// counts.
+    ///
+    /// The error is `TooLarge` if the new bytes of all accounts do not fit a word, otherwise, with `most`, `OverBudget`
+    /// if those of the account exceed the limit, and otherwise `LedgerFull` if those of all accounts exceed `most`.
+    pub(crate) fn check_room(
+        &self,
+        sum: usize,
+        all: usize,
+        most: Option<usize>,
+        had: usize,
+        bytes: usize,
+    ) -> Result<(), Rejection>
+        requires part { had ≤ sum }
+        requires within { sum ≤ all }
+        ensures room { OnOk result (HasRoom all most sum self.now.limit had bytes) }
+        ensures rejected { IfErr result (RejectsRoom all most sum self.now.limit had bytes) }
+    {
+        let Some(new_all) = (all - had).checked_add(bytes) else {
+            return Err(Rejection::TooLarge);
+        };
+        let Some(most) = most else {
+            return Ok(());
+        };
+        self.check(sum - had + bytes)?;
+        if new_all > most {
+            return Err(Rejection::LedgerFull {
+                bytes: new_all,
+                limit: most,
+            });
+        }
+        Ok(())
     }
 
     /// Measures one value by itself, for example all that a tenant has. If the bytes that it declares are within the

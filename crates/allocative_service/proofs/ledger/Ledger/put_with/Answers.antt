@@ -1,7 +1,7 @@
 -- of Ledger::put_with: invariants, unchanged and stored
 use Rattle.std.proofs.Common.{arith, refl, sym}
 use Rattle.std.proofs.lemmas.Result.{on_err_weaker}
-use Rattle.allocative_service.proofs.Accounts.{account_bytes, OnErr-always, account_within, stored_by, written}
+use Rattle.allocative_service.proofs.Accounts.{account_bytes, OnErr-always, stored_by, written}
 use Rattle.allocative_service.proofs.ledger.Ledger.put_with.Goals as goal
 
 -- If the entry is not stored, the sum is as it was.
@@ -26,12 +26,11 @@ invariant_of-self-2 g c =
     let old = c.args.self.now in
     let w = written account_bytes c.args.tenant.now _ _ old.accounts (c.get_mut.follows.lender c.put_with.new.self)
     c.in-Some.ensures.value (c.get_mut.follows.holds c.put_with.new.self) in
-    let part = account_within account_bytes c.args.tenant.now old.accounts c.in-Some.account.now (sym c.in-Some.ensures.value) in
     let stored = c.in_ok-total.ensures.put in
     record {
-      summed = omega (arith, w.all, part, c.bytes.ensures.0, c.in_ok-total.ensures.sum, old.summed);
+      summed = omega (arith, w.all, w.part, c.bytes.ensures.0, c.in_ok-total.ensures.sum, old.summed);
       within = omega arith;
-      fits = omega (arith, part, c.bytes.ensures.0, stored.2.fits, stored.3.total_is, old.summed);
+      fits = omega (arith, w.part, c.bytes.ensures.0, stored.2.fits, stored.3.total_is, old.summed);
     }
 
 -- The entry has the new bytes, and no other account changes.
@@ -42,7 +41,6 @@ returns-clause-stored g c =
     let value = c.in-Some.ensures.value in
     let w = written account_bytes c.args.tenant.now _ _ old.accounts (c.get_mut.follows.lender c.put_with.new.self) value
     (c.get_mut.follows.holds c.put_with.new.self) in
-    let part = account_within account_bytes c.args.tenant.now old.accounts before (sym value) in
     let put = c.in_ok-total.ensures.put in
     let room = put.2 in
     let puts = put.3 in
@@ -58,6 +56,6 @@ returns-clause-stored g c =
         others = w.one.others;
         terms = (refl, refl);
         all_is = omega (arith, w.all, c.in_ok-total.ensures.sum, puts.total_is);
-        overgrown = omega (arith, w.all, part, c.bytes.ensures.0, c.in_ok-total.ensures.sum, old.summed);
+        overgrown = omega (arith, w.all, w.part, c.bytes.ensures.0, c.in_ok-total.ensures.sum, old.summed);
       }) (rw old.summed at room) c.in_ok-total.ensures.within,
     )
