@@ -77,9 +77,6 @@ pub All-recent : {F K V : Type 0} (step : F → K → V → F → Type 0) (on_ev
     (before after : Entries K V) → KeepsRecent step on_evict room before after → All P (values_of before) →
     All P (values_of after)
 All-recent {F} {K} {V} step on_evict room P before after recent h =
-    let parted : All P (values_of (after ++ recent.gone)) =
-    subst (λ (l : Entries K V). All P (values_of l)) recent.parts h in
-    let split : values_of (after ++ recent.gone) ≡ values_of after ++ values_of recent.gone =
-    map-append (λ (e : K × Kept V). e.1) after recent.gone in
+    let split = map-append (λ (e : K × Kept V). e.1) after recent.gone in
     subst (All P) (take-append_seam (values_of after) (values_of recent.gone))
-    (All-take P _ _ (subst (All P) split parted))
+    (All-take P _ _ (rw (recent.parts, split) at h))

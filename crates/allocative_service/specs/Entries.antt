@@ -118,10 +118,14 @@ module _ {V : Type 0} (size : Option ℕ) (may_show : V → Forest → Type 0) w
 
   module _ {K : Type 0} where
     -- ---- what the cache promises
+    -- The figures together are at most `most`, and each is one of its value.
+    pub record AreKept (m : Measure) (es : Entries K V) (most : ℕ) : Type 0 where
+      pub within : bytes_of es ≤ most
+      pub measured : All (IsMeasured m) (values_of es)
+
     -- The figures together are within the bound, and each is one of its value.
-    pub record IsBounded (c : Bounded K V) : Type 0 where
-      pub within : bytes_of c.entries ≤ c.bound
-      pub measured : All (IsMeasured c.measure) (values_of c.entries)
+    abbrev pub IsBounded : Bounded K V → Type 0
+    IsBounded c = AreKept c.measure c.entries c.bound
 
     module _ {F : Type 0} (eq : K → K → Bool) (step : F → K → V → F → Type 0) where
       -- The key now has v with a figure of v, as the most recently used entry. The old entry of the key is gone. Of

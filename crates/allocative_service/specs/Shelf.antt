@@ -1,9 +1,9 @@
 -- The model of a shelf, and what its calls do.
-use Rattle.std.specs.Prelude.{◌≡◌, ◌⊎◌, ℕ, ◌+◌, ◌-◌, ◌^◌, ◌<◌, ◌≤◌, Bool, Option, Some, ◌∷◌, All, max}
-use Rattle.std.specs.Map.{lookup, lookup_entry, remove_entry, set_value, values_of}
+use Rattle.std.specs.Prelude.{◌≡◌, ◌⊎◌, ℕ, ◌+◌, ◌-◌, ◌^◌, ◌<◌, ◌≤◌, Bool, Option, Some, ◌∷◌, max}
+use Rattle.std.specs.Map.{lookup, lookup_entry, remove_entry, set_value}
 use Rattle.allocative.specs.Forest.{Forest}
 use Rattle.allocative_service.specs.Measured.{MayRefuseMeasure}
-use Rattle.allocative_service.specs.Entries.{Entries, IsFigure, IsMeasured, bytes_of, kept, stored_key}
+use Rattle.allocative_service.specs.Entries.{AreKept, Entries, IsFigure, bytes_of, kept, stored_key}
 use Rattle.allocative_service.specs.declared.cache.Kept.{Kept}
 use Rattle.allocative_service.specs.declared.measure.Measure.{Measure}
 use Rattle.allocative_service.specs.declared.cache.error.Refused.{Refused}
@@ -63,9 +63,8 @@ module _ {V : Type 0} (size : Option ℕ) (may_show : V → Forest → Type 0) w
 
   module _ {K : Type 0} where
     -- The figures together are within the limit, or exceed it by no more than growth did, and each is one of its value.
-    pub record IsKept (s : Shelved K V) : Type 0 where
-      pub within : bytes_of s.entries ≤ s.limit + s.overgrown
-      pub measured : All (IsMeasured size may_show s.measure) (values_of s.entries)
+    abbrev pub IsKept : Shelved K V → Type 0
+    IsKept s = AreKept size may_show s.measure s.entries (s.limit + s.overgrown)
 
     -- Why a shelf refuses v under the key that passes the test, where the values of all other shelves have `rest` bytes
     -- and all may have `most`: v could not be measured, a figure of it, with the bytes of all other values, does not fit

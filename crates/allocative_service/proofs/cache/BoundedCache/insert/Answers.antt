@@ -1,23 +1,19 @@
 -- Putting a value first and then evicting others is an insertion, and keeps the cache within its bound.
 use Rattle.std.proofs.Common.{arith}
-use Rattle.allocative_service.proofs.Common.{bounded}
 use Rattle.allocative_service.proofs.Inserting.{insertion, Inserts-bounded}
 use Rattle.allocative_service.proofs.cache.BoundedCache.insert.Goals as goal
 
 -- A value that is put first, before others are evicted, is inserted.
 pub returns-in-Ok-put-clause-ok : goal.returns-in-Ok-put-clause-ok
-returns-in-Ok-put-clause-ok g c =
-    let old = bounded c.self.inside.entries.entries c.self.inside.bound c.self.inside.measure in
-    rw (← c.self.view_is) (insertion g.V.Described.size g.V.Allocative.may_show g.K.PartialEq.eq _ _ c.args.key
-    c.args.value c.in-Ok.bytes old _ _ (rw (← c.self.view_is) at c.in-Ok.ensures.figure)
-    (rw (← c.self.view_is) at c.in-Ok.ensures.fits) c.in-Ok-put.ensures.first c.evict-self-inside.ensures.recent
-    (omega arith))
+returns-in-Ok-put-clause-ok g c = rw (← c.self.view_is) (insertion c.in-Ok.bytes _ _
+    (rw (← c.self.view_is) at c.in-Ok.ensures.figure) (rw (← c.self.view_is) at c.in-Ok.ensures.fits)
+    c.in-Ok-put.ensures.first c.evict-self-inside.ensures.recent (omega arith))
 
 -- The cache is within its bound after an insertion.
 pub invariant_of-self : goal.invariant_of-self
 invariant_of-self g c =
     let made = rw (← c.self.view_is) at (returns-in-Ok-put-clause-ok g c) in
-    (omega (arith, c.evict-self-inside.ensures.capacity, c.put.ensures.capacity, c.self.invariant.0), c.evict-self-inside.ensures.bytes, Inserts-bounded g.V.Described.size g.V.Allocative.may_show _ _ _ _ _ _ _ made c.self.invariant.2)
+    (omega (arith, c.evict-self-inside.ensures.capacity, c.put.ensures.capacity, c.self.invariant.0), c.evict-self-inside.ensures.bytes, Inserts-bounded made c.self.invariant.2)
 
 -- The values are within the bound after an insertion.
 pub returns-in-Ok-put-clause-bounded : goal.returns-in-Ok-put-clause-bounded

@@ -1,9 +1,10 @@
 -- The fields of the cache after `LruCache::promote`.
 use Rattle.std.proofs.Common.{◌∙◌, sym}
-use Rattle.allocative_service.proofs.Common.{bounded}
-use Rattle.allocative_service.proofs.Using.{bytes_of-promoted, used-bounded}
+use Rattle.allocative_service.proofs.Using.{promoted-kept}
 use Rattle.allocative_service.proofs.cache.BoundedCache.promote.Goals as goal
 
 -- The cache keeps its sum and its bound.
 pub invariant_of-self : goal.invariant_of-self
-invariant_of-self g c = rw c.promote.ensures.entries (c.self.invariant.0, c.self.invariant.1 ∙ sym (bytes_of-promoted (g.K.PartialEq.eq c.args.key.now) c.self.inside.entries.entries), used-bounded g.V.Described.size g.V.Allocative.may_show (g.K.PartialEq.eq c.args.key.now) (bounded c.self.inside.entries.entries c.self.inside.bound c.self.inside.measure) c.self.invariant.2)
+invariant_of-self g c =
+    let p = promoted-kept (g.K.PartialEq.eq c.args.key.now) c.self.inside.entries.entries c.self.invariant.2 in
+    rw c.promote.ensures.entries (c.self.invariant.0, c.self.invariant.1 ∙ sym p.0, p.1)

@@ -1,7 +1,6 @@
 -- The sum of the bytes is less by those of the removed entry.
 use Rattle.std.proofs.Common.{arith}
-use Rattle.allocative_service.proofs.Common.{bounded}
-use Rattle.allocative_service.proofs.Inserting.{without-bounded}
+use Rattle.allocative_service.proofs.Inserting.{without-kept}
 use Rattle.allocative_service.proofs.Using.{bytes_of-taken}
 use Rattle.allocative_service.proofs.cache.BoundedCache.remove.Goals as goal
 
@@ -10,7 +9,7 @@ pub invariant_of-self-2 : goal.invariant_of-self-2
 invariant_of-self-2 g c =
     let s = bytes_of-taken (g.K.PartialEq.eq c.args.key.now) c.self.inside.entries.entries
     (c.in_ok-key.key, c.in_ok-key.kept) c.in_ok-key.ensures.value in
-    rw c.pop_entry.ensures.entries (c.self.invariant.0, omega (arith, s, c.self.invariant.1), without-bounded g.V.Described.size g.V.Allocative.may_show (g.K.PartialEq.eq c.args.key.now) (bounded c.self.inside.entries.entries c.self.inside.bound c.self.inside.measure) c.self.invariant.2)
+    rw c.pop_entry.ensures.entries (c.self.invariant.0, omega (arith, s, c.self.invariant.1), without-kept _ c.self.invariant.2)
 
 -- The values are within the bound after a removal.
 pub returns-clause-bounded : goal.returns-clause-bounded

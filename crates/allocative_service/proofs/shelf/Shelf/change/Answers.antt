@@ -3,8 +3,9 @@ use Rattle.std.proofs.Common.{◌≡◌, ◌∙◌, ℕ, ◌+◌, ◌-◌, ◌^�
 use Rattle.std.specs.Map.{set_value}
 use Rattle.allocative_service.proofs.Common.{remove_entry, bytes_of}
 use Rattle.allocative_service.proofs.Accounts.{OnErr-always}
-use Rattle.allocative_service.proofs.Inserting.{bytes_of-remove_entry}
-use Rattle.allocative_service.proofs.Shelving.{changed-kept, found_is, lookup_entry-set_value, remove_entry-set_value, without-kept, written_bytes}
+use Rattle.std.proofs.lemmas.Option.{some_pair_parts}
+use Rattle.allocative_service.proofs.Inserting.{bytes_of-remove_entry, without-kept}
+use Rattle.allocative_service.proofs.Shelving.{changed-kept, lookup_entry-set_value, remove_entry-set_value, written_bytes}
 use Rattle.allocative_service.specs.Entries.{kept}
 use Rattle.allocative_service.specs.Shelf.{RefusesFigure, shelved}
 use Rattle.allocative_service.proofs.shelf.Shelf.change.Goals.{in-Some-pop_entry, in-None}
@@ -45,9 +46,7 @@ invariant_of-self-in-Ok g c =
     let sums = written_bytes test es c.in-Some.kept.now w c.in-Some.ensures.value in (
       c.self.invariant.0,
       omega (arith, sums, c.self.invariant.1),
-      changed-kept g.V.Described.size g.V.Allocative.may_show test w es c.self.inside.limit c.self.inside.overgrown
-          c.max-self-inside.result c.self.inside.measure c.in-Ok.ensures.figure
-          (omega (arith, sums, c.self.invariant.1)) c.self.invariant.2,
+      changed-kept test w _ c.in-Ok.ensures.figure (omega (arith, sums, c.self.invariant.1)) c.self.invariant.2,
     )
 
 -- All bytes still fit a word.
@@ -71,8 +70,7 @@ invariant_of-self-2 g c =
     rw is (
       c.self.invariant.0,
       omega (arith, part, c.self.invariant.1),
-      without-kept g.V.Described.size g.V.Allocative.may_show (g.K.PartialEq.eq c.args.key.now)
-          (shelved c.self.inside.entries.entries c.self.inside.limit c.self.inside.overgrown c.self.inside.measure) c.self.invariant.2,
+      without-kept _ c.self.invariant.2,
     )
 
 -- A value that was found is found again.
@@ -100,7 +98,7 @@ returns-clause-refused g c =
     c.self.inside.measure n c.change.new.arg2 c.in-Err.error) room c.in-Err.ensures.refused in
     elim c.match-pop_entry.branch [
       | in-Some-pop_entry b ↦
-          let s = found_is _ _ _ _ (b.in-Some-pop_entry.ensures.value ∙ l.2) in
+          let s = some_pair_parts _ _ _ _ (b.in-Some-pop_entry.ensures.value ∙ l.2) in
           rw (b.result-is, ← c.self.view_is) (had, l.1 ∙ ap (λ k. Some (k, had)) (sym s.0), rw s.1 (search rules), rw s.1 refused)
       | in-None b ↦ let no = sym b.in-None.is ∙ c.pop_entry.ensures.value ∙ l.2 in absurd cc
     ]

@@ -1,6 +1,6 @@
 -- of Store::change: an invariant, refused, err, none, changed and standing
 use Rattle.std.proofs.Common.{◌≡◌, ◌-◌, true, false, arith, ap, max, refl, rules, sym}
-use Rattle.allocative_service.proofs.Accounts.{OnErr-always, account_within, written}
+use Rattle.allocative_service.proofs.Accounts.{OnErr-always, written}
 use Rattle.allocative_service.proofs.Common.{bytes_of}
 use Rattle.allocative_service.proofs.Storing.{passed_on, replaces, shelf_bytes}
 use Rattle.allocative_service.specs.Store.{all_kept, stored}
@@ -11,12 +11,10 @@ pub invariant_of-self-in_err-changed : goal.invariant_of-self-in_err-changed
 invariant_of-self-in_err-changed g c =
     let w = written shelf_bytes c.args.tenant.now _ _ c.self.inside.shelves
     (c.get_mut.follows.lender c.change-changed.new.self) c.in-Some.ensures.value (c.get_mut.follows.holds c.change-changed.new.self) in
-    let part = account_within shelf_bytes c.args.tenant.now c.self.inside.shelves c.in-Some.shelf.now
-    (sym c.in-Some.ensures.value) in
     record {
-      sum = omega (arith, w.all, part, c.bytes.ensures.sum, c.bytes-bytes.ensures.sum, c.self.invariant.sum);
+      sum = omega (arith, w.all, w.part, c.bytes.ensures.sum, c.bytes-bytes.ensures.sum, c.self.invariant.sum);
       within = omega arith;
-      fits = omega (arith, part, c.bytes.ensures.sum, c.bytes-bytes.ensures.sum, c.change-changed.ensures.fits, c.self.invariant.sum);
+      fits = omega (arith, w.part, c.bytes.ensures.sum, c.bytes-bytes.ensures.sum, c.change-changed.ensures.fits, c.self.invariant.sum);
     }
 
 -- The same if there is no such value.
@@ -24,12 +22,10 @@ pub invariant_of-self-then-not-branch : goal.invariant_of-self-then-not-branch
 invariant_of-self-then-not-branch g c =
     let w = written shelf_bytes c.args.tenant.now _ _ c.self.inside.shelves
     (c.get_mut.follows.lender c.change-changed.new.self) c.in-Some.ensures.value (c.get_mut.follows.holds c.change-changed.new.self) in
-    let part = account_within shelf_bytes c.args.tenant.now c.self.inside.shelves c.in-Some.shelf.now
-    (sym c.in-Some.ensures.value) in
     record {
-      sum = omega (arith, w.all, part, c.bytes.ensures.sum, c.bytes-bytes.ensures.sum, c.self.invariant.sum);
+      sum = omega (arith, w.all, w.part, c.bytes.ensures.sum, c.bytes-bytes.ensures.sum, c.self.invariant.sum);
       within = omega arith;
-      fits = omega (arith, part, c.bytes.ensures.sum, c.bytes-bytes.ensures.sum, c.change-changed.ensures.fits, c.self.invariant.sum);
+      fits = omega (arith, w.part, c.bytes.ensures.sum, c.bytes-bytes.ensures.sum, c.change-changed.ensures.fits, c.self.invariant.sum);
     }
 
 -- The same after a change.
@@ -37,12 +33,10 @@ pub invariant_of-self-2 : goal.invariant_of-self-2
 invariant_of-self-2 g c =
     let w = written shelf_bytes c.args.tenant.now _ _ c.self.inside.shelves
     (c.get_mut.follows.lender c.change-changed.new.self) c.in-Some.ensures.value (c.get_mut.follows.holds c.change-changed.new.self) in
-    let part = account_within shelf_bytes c.args.tenant.now c.self.inside.shelves c.in-Some.shelf.now
-    (sym c.in-Some.ensures.value) in
     record {
-      sum = omega (arith, w.all, part, c.bytes.ensures.sum, c.bytes-bytes.ensures.sum, c.self.invariant.sum);
+      sum = omega (arith, w.all, w.part, c.bytes.ensures.sum, c.bytes-bytes.ensures.sum, c.self.invariant.sum);
       within = omega arith;
-      fits = omega (arith, part, c.bytes.ensures.sum, c.bytes-bytes.ensures.sum, c.change-changed.ensures.fits, c.self.invariant.sum);
+      fits = omega (arith, w.part, c.bytes.ensures.sum, c.bytes-bytes.ensures.sum, c.change-changed.ensures.fits, c.self.invariant.sum);
     }
 
 -- A refusal is that of the shelf.
@@ -60,10 +54,9 @@ returns-in_err-changed-clause-err g c =
     let s = c.self.inside in
     let w = written shelf_bytes c.args.tenant.now _ _ s.shelves
     (c.get_mut.follows.lender c.change-changed.new.self) c.in-Some.ensures.value (c.get_mut.follows.holds c.change-changed.new.self) in
-    let part = account_within shelf_bytes c.args.tenant.now s.shelves c.in-Some.shelf.now (sym c.in-Some.ensures.value) in
     let grown : c.max-self-inside.result
     ≡ max s.overgrown (all_kept (c.get_mut.follows.lender c.change-changed.new.self).entries - s.limit) =
-    omega (arith, w.all, part, c.bytes.ensures.sum, c.bytes-bytes.ensures.sum, c.self.invariant.sum) in
+    omega (arith, w.all, w.part, c.bytes.ensures.sum, c.bytes-bytes.ensures.sum, c.self.invariant.sum) in
     rw (← c.self.view_is) (OnErr-always c.from_residual.result
     (replaces c.args.tenant.now _ _ s.shelves _ _ s.limit s.overgrown c.max-self-inside.result s.measure
     c.in-Some.ensures.value c.in_err-changed.ensures.err w grown))
@@ -77,13 +70,12 @@ returns-then-not-branch-clause-none g c =
       | false ↦ λ t. t
     ]) refl in
     let absent = rw no at c.in_ok-changed.ensures.ok in
-    let part = account_within shelf_bytes c.args.tenant.now s.shelves c.in-Some.shelf.now (sym c.in-Some.ensures.value) in
     let w = written shelf_bytes c.args.tenant.now _ _ s.shelves
     (c.get_mut.follows.lender c.change-changed.new.self) c.in-Some.ensures.value (c.get_mut.follows.holds c.change-changed.new.self) in
     let same = w.same absent.1 in
     let sum = ap (λ h. bytes_of h.entries) absent.1 in
     let over : c.max-self-inside.result ≡ s.overgrown =
-    omega (arith, sum, part, c.bytes.ensures.sum, c.bytes-bytes.ensures.sum, c.self.invariant.sum, c.self.invariant.within) in
+    omega (arith, sum, w.part, c.bytes.ensures.sum, c.bytes-bytes.ensures.sum, c.self.invariant.sum, c.self.invariant.within) in
     rw (← c.self.view_is, ← c.in-Some.ensures.value) (absent.0, λ i. stored (same i) s.limit (over i) s.measure)
 
 -- The tenant's shelf has the changed value.
@@ -96,10 +88,9 @@ returns-clause-changed g c =
     ]) refl in
     let w = written shelf_bytes c.args.tenant.now _ _ s.shelves
     (c.get_mut.follows.lender c.change-changed.new.self) c.in-Some.ensures.value (c.get_mut.follows.holds c.change-changed.new.self) in
-    let part = account_within shelf_bytes c.args.tenant.now s.shelves c.in-Some.shelf.now (sym c.in-Some.ensures.value) in
     let grown : c.max-self-inside.result
     ≡ max s.overgrown (all_kept (c.get_mut.follows.lender c.change-changed.new.self).entries - s.limit) =
-    omega (arith, w.all, part, c.bytes.ensures.sum, c.bytes-bytes.ensures.sum, c.self.invariant.sum) in
+    omega (arith, w.all, w.part, c.bytes.ensures.sum, c.bytes-bytes.ensures.sum, c.self.invariant.sum) in
     rw (← c.self.view_is) (replaces c.args.tenant.now _ _ s.shelves _ _ s.limit s.overgrown c.max-self-inside.result
     s.measure c.in-Some.ensures.value (rw yes at c.in_ok-changed.ensures.ok) w grown)
 
@@ -109,5 +100,4 @@ returns-clause-standing g c =
     let s = c.self.inside in
     let w = written shelf_bytes c.args.tenant.now _ _ s.shelves
     (c.get_mut.follows.lender c.change-changed.new.self) c.in-Some.ensures.value (c.get_mut.follows.holds c.change-changed.new.self) in
-    let part = account_within shelf_bytes c.args.tenant.now s.shelves c.in-Some.shelf.now (sym c.in-Some.ensures.value) in
-    rw w.one.changed ((c.bytes-bytes.ensures.sum, c.excess-excess.ensures), omega (arith, w.all, part, c.bytes.ensures.sum, c.bytes-bytes.ensures.sum, c.self.invariant.sum))
+    rw w.one.changed ((c.bytes-bytes.ensures.sum, c.excess-excess.ensures), omega (arith, w.all, w.part, c.bytes.ensures.sum, c.bytes-bytes.ensures.sum, c.self.invariant.sum))

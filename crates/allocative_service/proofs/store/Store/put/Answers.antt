@@ -1,7 +1,7 @@
 -- of Store::put: an invariant, ok, had, refused and err
 use Rattle.std.proofs.Common.{◌≡◌, ◌-◌, arith, ap, max, sym}
 use Rattle.std.proofs.lemmas.Result.{on_ok_weaker, on_err_weaker}
-use Rattle.allocative_service.proofs.Accounts.{account_within, written}
+use Rattle.allocative_service.proofs.Accounts.{written}
 use Rattle.allocative_service.proofs.Common.{bytes_of}
 use Rattle.allocative_service.proofs.Storing.{replaces, shelf_bytes}
 use Rattle.allocative_service.specs.Store.{all_kept, stored}
@@ -12,12 +12,10 @@ pub invariant_of-self-2 : goal.invariant_of-self-2
 invariant_of-self-2 g c =
     let w = written shelf_bytes c.args.tenant.now _ _ c.self.inside.shelves
     (c.get_mut.follows.lender c.put-kept.new.self) c.in-Some.ensures.value (c.get_mut.follows.holds c.put-kept.new.self) in
-    let part = account_within shelf_bytes c.args.tenant.now c.self.inside.shelves c.in-Some.shelf.now
-    (sym c.in-Some.ensures.value) in
     record {
-      sum = omega (arith, w.all, part, c.bytes.ensures.sum, c.bytes-2.ensures.sum, c.self.invariant.sum);
-      within = omega (arith, part, c.bytes.ensures.sum, c.bytes-2.ensures.sum, c.put-kept.ensures.within, c.self.invariant.within);
-      fits = omega (arith, part, c.bytes.ensures.sum, c.bytes-2.ensures.sum, c.put-kept.ensures.within, c.self.invariant.fits);
+      sum = omega (arith, w.all, w.part, c.bytes.ensures.sum, c.bytes-2.ensures.sum, c.self.invariant.sum);
+      within = omega (arith, w.part, c.bytes.ensures.sum, c.bytes-2.ensures.sum, c.put-kept.ensures.within, c.self.invariant.within);
+      fits = omega (arith, w.part, c.bytes.ensures.sum, c.bytes-2.ensures.sum, c.put-kept.ensures.within, c.self.invariant.fits);
     }
 
 -- The tenant's shelf has the value.
@@ -26,12 +24,11 @@ returns-clause-ok g c =
     let s = c.self.inside in
     let w = written shelf_bytes c.args.tenant.now _ _ s.shelves
     (c.get_mut.follows.lender c.put-kept.new.self) c.in-Some.ensures.value (c.get_mut.follows.holds c.put-kept.new.self) in
-    let part = account_within shelf_bytes c.args.tenant.now s.shelves c.in-Some.shelf.now (sym c.in-Some.ensures.value) in
     let rest : s.bytes - c.bytes.result ≡ all_kept s.shelves.entries - bytes_of c.in-Some.shelf.now.entries =
     omega (arith, c.bytes.ensures.sum, c.self.invariant.sum) in
     let grown : s.overgrown
     ≡ max s.overgrown (all_kept (c.get_mut.follows.lender c.put-kept.new.self).entries - s.limit) =
-    omega (arith, w.all, part, c.bytes.ensures.sum, c.put-kept.ensures.within, c.self.invariant.sum, c.self.invariant.within) in
+    omega (arith, w.all, w.part, c.bytes.ensures.sum, c.put-kept.ensures.within, c.self.invariant.sum, c.self.invariant.within) in
     rw (← c.self.view_is) (on_ok_weaker c.put-kept.result
     (λ keeps. replaces c.args.tenant.now _ _ s.shelves _ _ s.limit s.overgrown s.overgrown s.measure
     c.in-Some.ensures.value (rw (← rest) keeps) w grown) c.put-kept.ensures.ok)

@@ -1,6 +1,6 @@
 -- of Store::remove: an invariant, removed and unchanged
 use Rattle.std.proofs.Common.{◌≡◌, ◌-◌, arith, ap, max, sym}
-use Rattle.allocative_service.proofs.Accounts.{IfNone-weaker, OnSome-always, account_within, written}
+use Rattle.allocative_service.proofs.Accounts.{IfNone-weaker, OnSome-always, written}
 use Rattle.allocative_service.proofs.Storing.{replaces, shelf_bytes}
 use Rattle.allocative_service.specs.Store.{all_kept, stored}
 use Rattle.allocative_service.proofs.store.Store.remove.Goals as goal
@@ -10,12 +10,10 @@ pub invariant_of-self-2 : goal.invariant_of-self-2
 invariant_of-self-2 g c =
     let w = written shelf_bytes c.args.tenant.now _ _ c.self.inside.shelves
     (c.get_mut.follows.lender c.remove-removed.new.self) c.in_ok-shelf.ensures.value (c.get_mut.follows.holds c.remove-removed.new.self) in
-    let part = account_within shelf_bytes c.args.tenant.now c.self.inside.shelves c.in_ok-shelf.shelf.now
-    (sym c.in_ok-shelf.ensures.value) in
     record {
-      sum = omega (arith, w.all, part, c.bytes.ensures.sum, c.bytes-2.ensures.sum, c.self.invariant.sum);
-      within = omega (arith, part, c.bytes.ensures.sum, c.bytes-2.ensures.sum, c.remove-removed.ensures.within, c.self.invariant.within, c.self.invariant.sum);
-      fits = omega (arith, part, c.bytes.ensures.sum, c.bytes-2.ensures.sum, c.remove-removed.ensures.within, c.self.invariant.fits, c.self.invariant.sum);
+      sum = omega (arith, w.all, w.part, c.bytes.ensures.sum, c.bytes-2.ensures.sum, c.self.invariant.sum);
+      within = omega (arith, w.part, c.bytes.ensures.sum, c.bytes-2.ensures.sum, c.remove-removed.ensures.within, c.self.invariant.within, c.self.invariant.sum);
+      fits = omega (arith, w.part, c.bytes.ensures.sum, c.bytes-2.ensures.sum, c.remove-removed.ensures.within, c.self.invariant.fits, c.self.invariant.sum);
     }
 
 -- The tenant's shelf is without the value.
