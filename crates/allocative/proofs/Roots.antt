@@ -23,7 +23,7 @@ use Rattle.allocative_graph.proofs.Plus.{plus-following, takes_both, visitors-le
 use Rattle.allocative_graph.proofs.Plus.{figure_after-zero, figure_after-none}
 use Rattle.allocative_graph.proofs.Plus.{is_graph-plus, is_graph-leave, is_graph-begin}
 use Rattle.allocative.proofs.Strict.{bytes_entered-plus, can_first, can_second, may_refuse, each_append, declared_append}
-use Rattle.allocative_graph.proofs.Reach.{all_is_meaning, reaches_exactly}
+use Rattle.allocative_graph.proofs.Showings.{all_is_meaning, reaches_exactly}
 use Rattle.allocative_graph.proofs.Showings.{one_sums}
 use Rattle.allocative_graph.proofs.Showings.{whole_following, graphs_add}
 use Rattle.std.specs.List.{list_all}

@@ -174,9 +174,9 @@ module _ (cs : List Child) (o : InOrder cs) (k : Key) where
       }
 
 -- The key of the last child is found at the end.
-pub at_last : (cs : List Child) (k : Key) (d : Child) → 0 < length cs → (get_or cs (length cs - 1) d).key ≡ k →
-    IsFound cs k (length cs - 1)
-at_last cs k d some e = record { within = omega arith; same = λ x. ap (λ (c : Child). c.key) (get_or_default cs (length cs - 1) x d (omega arith)) ∙ e }
+pub at_last : (cs : List Child) (d x : Child) → 0 < length cs → d ≡ get_or cs (length cs - 1) d →
+    get_or cs (length cs - 1) x ≡ d
+at_last cs d x some e = get_or_default cs (length cs - 1) x d (omega arith) ∙ sym e
 
 -- ---- the sizes in the graph of a node
 -- A search in two lists of rows, one after another, goes on to the second if the first has nothing.
@@ -426,6 +426,11 @@ module _ {cs : List Child} {o : Option Child} {c : Child} (rest : List Child) (e
 pub one_of_length : {X : Type 0} (xs rest : List X) (x : X) → xs ≡ rest ++ x ∷ [] → length xs < 2 → xs ≡ x ∷ []
 one_of_length xs [] x e h = e
 one_of_length xs (y ∷ rest) x e h = absurd (omega (arith, ap length e, length-append rest (x ∷ [])))
+
+-- The last child has at most the bytes of all.
+pub last_total : (cs rest : List Child) (c : Child) → cs ≡ rest ++ c ∷ [] → total c.graph ≤ total_of cs
+last_total cs rest c e = omega
+    (arith, ap total_of e, sum_by-append (λ (d : Child). total d.graph) rest (c ∷ []), total_of-cons c [])
 
 -- ---- one child put among others: added to the one that has its key, or in its place
 -- A child whose key belongs at a place is merged by putting it there.

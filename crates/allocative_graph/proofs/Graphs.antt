@@ -196,3 +196,6 @@ total-gathered cs = omega (arith, total-all default cs, total-default)
 pub sum_of-all : (g : Graph) (cs : List Child) → IsTree g → sum_of g (sum_of_all default cs) ≡ sum_of_all g cs
 sum_of-all g cs t = added_up-onto (λ (c : Child). under c.key c.graph) g default cs
     ∙ ap (λ (s : Graph). sum_of_all s cs) (sum_of-default g t)
+
+-- What adding some children at once needs: that their graph adds the same, and has their totals.
+pub ruleset adding_children = (sum_of-all, total-gathered)

@@ -15,7 +15,7 @@ use Rattle.allocative_graph.proofs.Computed.{text_added}
 use Rattle.allocative_graph.proofs.Sums.{get-sums_of, below-sums_of}
 use Rattle.allocative_graph.proofs.Showings.{agree_back, get-graph, get-graph-root, graphs_add, same_reached, same_sums_of}
 use Rattle.allocative_graph.proofs.Showings.{whole_following}
-use Rattle.allocative_graph.proofs.Reach.{all_is_meaning, reaches_exactly}
+use Rattle.allocative_graph.proofs.Showings.{all_is_meaning, reaches_exactly}
 use Rattle.allocative_graph.proofs.ReadBack.{text_tells, reads_back, never_refused, never_exceeds, exact_is}
 use Rattle.allocative_graph.proofs.Plus.{plus-nothing, plus-following, takes_following, inside_entry, takes_entry}
 use Rattle.allocative_graph.proofs.Plus.{inside_first, takes_shared, held_again, counted_again}
@@ -26,27 +26,6 @@ use Rattle.allocative_graph.proofs.Owned.{owned-following, owned-reordered, owne
 -- The lines of the text are those of the entries, and each is read as its entry.
 pub read_law : ReadLaw
 read_law = record { same_sizes = reads_back; no_fault = never_refused; fits = never_exceeds }
-
--- The law holds in each of the three collectors.
-pub plus_law : PlusLaw
-plus_law = record {
-  nothing = plus-nothing;
-  following = plus-following;
-  following_taken = takes_following;
-  inside = inside_entry;
-  inside_taken = takes_entry;
-}
-
--- No entry follows the shared entry.
-pub shared_law : SharedLaw
-shared_law = record {
-  first = inside_first;
-  first_taken = takes_shared;
-  again = λ k n i l. refl;
-  again_taken = λ k n i l old. (old, tt);
-  held = held_again;
-  owned = counted_again;
-}
 
 -- The law holds element by element.
 pub path_order_law : PathOrderLaw
@@ -68,15 +47,6 @@ graph_sums_law = record {
 -- The law follows from the entries of the sums.
 pub graph_law : GraphLaw
 graph_law = record { root = get-graph-root; paths = get-graph; is_tree = graph-tree }
-
--- The law follows from the entries one by one.
-pub owned_law : OwnedLaw
-owned_law = record {
-  adds_up = owned-following;
-  in_any_order = owned-reordered;
-  is_total = owned-total;
-  at_least = direct-owned;
-}
 
 -- A forest prints the lines and the warnings that are computed from the list of its entries.
 prints : (f : Forest) (lines complaints : List ℕ) → text_of_entries (sizes_list (nodes_of (all f))) ≡ lines →
@@ -111,4 +81,4 @@ rows_law = record {
 }
 
 -- All laws, as the functions cite them.
-pub ruleset laws = (same_sums_of, same_reached, agree_back, reaches_exactly, all_is_meaning, whole_following, graphs_add, text_tells, exact_is, read_law, get-sums_of, below-sums_of, plus_law, shared_law, path_order_law, graph_sums_law, graph_law, owned_law, rows_law)
+pub ruleset laws = (same_sums_of, same_reached, agree_back, reaches_exactly, all_is_meaning, whole_following, graphs_add, text_tells, exact_is, read_law, get-sums_of, below-sums_of, plus-nothing, plus-following, takes_following, inside_entry, takes_entry, inside_first, takes_shared, held_again, counted_again, path_order_law, graph_sums_law, graph_law, owned-following, owned-reordered, owned-total, direct-owned, rows_law)

@@ -1,6 +1,5 @@
 pub mod Common
 pub mod Computed
-pub mod Reach
 pub mod Plus
 pub mod Owned
 pub mod StackSums

@@ -221,6 +221,8 @@ module _ (k : Key) (p : Path) (n : ℕ) (x : Child) {cs ds : List Child} {i : �
       put_at_found same found there g c refl h (subst (Added true x.graph c.graph) (sym is)
       (added_trees x.graph c.graph tree (tree-path p n)))
 
-  -- If the graph of x did not change, the children did not change.
-  pub nothing_merged : {g : Graph} → g ≡ x.graph → set cs i (with_graph x g) ≡ cs
-  nothing_merged is = ap (λ (f : Graph). set cs i (with_graph x f)) is ∙ ap (set cs i) there ∙ set-get_or cs i x
+-- If the graph of a child that was found did not change, the children did not change.
+pub set_back : (cs : List Child) (i : ℕ) (x : Child) (g : Graph) → x ≡ get_or cs i x → g ≡ x.graph →
+    set cs i (with_graph x g) ≡ cs
+set_back cs i x g there is =
+    ap (λ (f : Graph). set cs i (with_graph x f)) is ∙ ap (set cs i) there ∙ set-get_or cs i x

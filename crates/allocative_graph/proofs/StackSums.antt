@@ -68,17 +68,14 @@ has-stacks ss [] = has-added_up one_stack default ss []
 has-stacks ss (k ∷ p) = has-added_up one_stack default ss (k ∷ p)
     ∙ (λ i. is_some (get-default (k ∷ p) i) || list_any (λ s. contains_key-path s.path s.size (k ∷ p) i) ss)
 
--- Whether a path is there, and its size, determine what a graph has at the path.
-from_parts : (x : Option ℕ) (b : Bool) (n : ℕ) → is_some x ≡ b → unwrap_or x 0 ≡ n → x ≡ cond b (Some n) None
-from_parts x b n s e = grind (arith, s, e)
-
 -- The stacks one after another are their graph.
 graph-stacks : (ss : List Stack) → IsGraphOfStacks ss (sum_of_stacks default ss)
 graph-stacks ss p =
     let each : sum_by (λ s. size_at (one_stack s) p) ss ≡ bytes_at ss p =
     λ i. sum_by (λ s. size_at-path s.path s.size p i) ss in
-    from_parts (get (sum_of_stacks default ss) p) (is_path_of ss p) (bytes_at ss p) (has-stacks ss p)
-    (omega (arith, size_at-added_up one_stack default ss p, size_at-default p, each))
+    let size : size_at (sum_of_stacks default ss) p ≡ bytes_at ss p =
+    omega (arith, size_at-added_up one_stack default ss p, size_at-default p, each) in
+    grind (arith, has-stacks ss p, size)
 
 -- The bytes of some stacks, added up.
 total-stacks : (ss : List Stack) → total (sum_of_stacks default ss) ≡ all_bytes ss

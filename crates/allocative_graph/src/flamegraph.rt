@@ -198,6 +198,7 @@ impl FlameGraph {
     /// It returns `TooLarge` exactly if the sum of all totals exceeds `usize::MAX`, and then changes
     /// nothing. After `Memory` each path has its old size or that of the sum, all old paths are still there,
     /// and there is no path that the sum does not have. After an error the children are dropped.
+    #[tactic(auto, using(crate::proofs::Graphs::adding_children))]
     pub fn add_children(&mut self, children: Vec<Child>) -> Result<(), Refusal>
         ensures sum { OnOk result (self.new ≡ sum_of_all self.old children.items) }
         ensures too_large { IsErrOf result Refusal.TooLarge
@@ -239,7 +240,7 @@ impl FlameGraph {
     // Adds another graph when the totals are known to fit. It is inlined, so that a level of the walk takes less of the
     // stack.
     #[cycle(merge)]
-    #[tactic(auto, using(crate::proofs::Nodes::total_of_both, crate::proofs::Nodes::len_of_node, crate::proofs::Nodes::merged_node))]
+    #[tactic(auto, using(crate::proofs::Nodes::total_of_both, crate::proofs::Nodes::len_of_node, crate::proofs::Nodes::merged_node, crate::proofs::Nodes::grown, crate::proofs::Children::last_total))]
     #[inline(always)]
     fn merge(&mut self, other: FlameGraph) -> Result<(), AllocError>
         requires { total self.old + total other < 2 ^ 64 }
@@ -452,6 +453,7 @@ pub fn push_path(keys: &[&str], text: &mut String) -> Result<(), AllocError>
 
 // The place of the key among the children, or else the place where it belongs. One comparison recognizes the last key
 // and a key after it, so that children added in order are put at the end without a search.
+#[tactic(auto, using(crate::proofs::Children::at_last, std::proofs::lemmas::Map::Lookups::exact_bytes))]
 fn place_of(children: &[Child], key: &Key) -> Result<usize, usize>
     requires { InOrder children.now }
     ensures found { IfOk result (IsFound children.now key.now) }

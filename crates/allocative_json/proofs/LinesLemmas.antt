@@ -1,44 +1,15 @@
 -- The lines of a text, and the last key of a line, as `split_once` and `rsplit_once` find them.
-use Rattle.std.proofs.Common.{◌≡◌, ◌≢◌, ℕ, suc, ◌+◌, ◌<◌, ◌≤◌, ◌==◌, Bool, true, false, cond, List, [], ◌∷◌, ◌++◌}
-use Rattle.std.proofs.Common.{length, get_or, take, drop, Option, None, Some, refl, ap, sym, ◌∙◌, arith, append_assoc}
-use Rattle.std.proofs.Common.{append-nil, eq-eqb, Bor, MatchOption, ne_eqb, take-append-drop}
+use Rattle.std.proofs.Common.{◌≡◌, ℕ, ◌+◌, ◌<◌, ◌≤◌, List, [], ◌∷◌, ◌++◌, length, take, drop, Option, None, Some, refl}
+use Rattle.std.proofs.Common.{ap, sym, ◌∙◌, arith, append_assoc, append-nil, Bor, MatchOption, ne_eqb, take-append-drop}
 use Rattle.allocative_json.proofs.Common.{after_last, kept_lines, Lacks, lines_from, before_last, kept_line}
+use Rattle.allocative_graph.proofs.ReadBack.{after_lacking, after_skip, before_read, lacks_from, line_read, none_before}
 use Rattle.std.specs.Str.Pattern.{RFindsChar}
 use Rattle.std.proofs.lemmas.Str.Pattern.{NoCharPasses-char, drop_at_char, IsSplitOnceResult, split_parts}
 
--- Bytes of which none is c lack c.
-lacks_from : (c : ℕ) (bs : List ℕ) → ((i : ℕ) → i < length bs → get_or bs i 0 ≢ c) → Lacks c bs
-lacks_from c [] h = tt
-lacks_from c (b ∷ bs) h = (h 0 (omega arith), lacks_from c bs (λ i l. h (suc i) (omega (arith, l))))
-
--- A choice of two equal values is either.
-same_cond : {A : Type 0} (t : Bool) (x y z : A) → x ≡ z → y ≡ z → cond t x y ≡ z
-same_cond true x y z p q = p
-same_cond false x y z p q = q
-
 -- ---- the last key
--- Bytes without c end no text before c.
-none_before : (c : ℕ) (best acc d : List ℕ) → Lacks c d → before_last c best acc d ≡ best
-none_before c best acc [] h = refl
-none_before c best acc (b ∷ d) h = rw (ne_eqb b c h.0) (none_before c best (acc ++ b ∷ []) d h.1)
-
--- The text before the last c is read.
-before_read : (c : ℕ) (best acc x d : List ℕ) → Lacks c d → before_last c best acc (x ++ c ∷ d) ≡ acc ++ x
-before_read c best acc [] d h = rw (eq-eqb c c refl, none_before c acc (acc ++ c ∷ []) d h) (sym (append-nil acc))
-before_read c best acc (b ∷ x) d h =
-    same_cond (b == c) _ _ _ (before_read c acc (acc ++ b ∷ []) x d h ∙ append_assoc acc (b ∷ []) x)
-    (before_read c best (acc ++ b ∷ []) x d h ∙ append_assoc acc (b ∷ []) x)
-
--- Without c all bytes follow.
-after_lacking : (c : ℕ) (acc a : List ℕ) → Lacks c a → after_last c acc a ≡ acc ++ a
-after_lacking c acc [] h = sym (append-nil acc)
-after_lacking c acc (b ∷ a) h = rw (ne_eqb b c h.0)
-    (after_lacking c (acc ++ b ∷ []) a h.1 ∙ append_assoc acc (b ∷ []) a)
-
 -- The text after the last c is read.
 after_read : (c : ℕ) (acc x d : List ℕ) → Lacks c d → after_last c acc (x ++ c ∷ d) ≡ d
-after_read c acc [] d h = rw (eq-eqb c c refl) (after_lacking c [] d h)
-after_read c acc (b ∷ x) d h = same_cond (b == c) _ _ _ (after_read c [] x d h) (after_read c (acc ++ b ∷ []) x d h)
+after_read c acc x d h = after_skip c acc x d ∙ after_lacking c [] d h
 
 -- What `rsplit_once` returns at an ASCII character.
 abbrev pub IsRsplit : ℕ → List ℕ → Option (Bor (List ℕ) × Bor (List ℕ)) → Type 0
@@ -66,12 +37,6 @@ rsplit_read c bs (Some x) h low =
     (ap (before_last c [] []) p.0 ∙ before_read c [] [] x.0.now x.1.now p.1, ap (after_last c []) p.0 ∙ after_read c [] x.0.now x.1.now p.1)
 
 -- ---- the lines
--- The first line ends at the first line feed.
-line_read : (acc a rest : List ℕ) → Lacks 10 a → lines_from acc (a ++ 10 ∷ rest) ≡ (acc ++ a) ∷ lines_from [] rest
-line_read acc [] rest h = rw (append-nil acc) refl
-line_read acc (b ∷ a) rest h = rw (ne_eqb b 10 h.0)
-    (line_read (acc ++ b ∷ []) a rest h.1 ∙ ap (λ l. l ∷ lines_from [] rest) (append_assoc acc (b ∷ []) a))
-
 -- Bytes without a line feed are no line.
 no_line : (acc a : List ℕ) → Lacks 10 a → lines_from acc a ≡ []
 no_line acc [] h = refl

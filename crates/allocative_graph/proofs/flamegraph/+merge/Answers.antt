@@ -27,13 +27,6 @@ FlameGraph::merge-returns-then-len-lt2 t c =
     merged_graph c.self.view_is c.self.invariant c.other.view_is c.other.invariant refl (sym one)
     c.put_child.ensures.merged
 
-pub FlameGraph::merge-invariant_of-self-then-len-lt2 : goal.FlameGraph::merge-invariant_of-self-then-len-lt2
-FlameGraph::merge-invariant_of-self-then-len-lt2 t c =
-    let one = one_of_length _ c.pop.new.self.items c.in-Some.child c.in-Some.ensures.items
-    (omega (arith, c.len.ensures, c.other.inside.children.ok.0, c.if-len-lt2.true)) in
-    merged_node c.self.view_is c.self.invariant c.other.view_is c.other.invariant refl (sym one) c.requires
-    c.put_child.ensures.merged c.put_child.ensures.size
-
 pub FlameGraph::merge-returns : goal.FlameGraph::merge-returns
 FlameGraph::merge-returns t c =
     merged_graph c.self.view_is c.self.invariant c.other.view_is c.other.invariant refl refl c.interleave.ensures.merged

@@ -9,10 +9,3 @@ returns-in-Less-clause-missing c =
     let item = c.in-Some.ensures.item in
     let less = subst (λ (d : Child). key_cmp d.key c.args.key.now ≡ Less) item.1 (sym c.cmp.ensures ∙ c.in-Less.is) in
     behind_last c.args.children.now c.requires c.args.key.now c.in-Some.last.now item.3.0 less
-
-pub returns-in-Equal-clause-found : goal.returns-in-Equal-clause-found
-returns-in-Equal-clause-found c =
-    let item = c.in-Some.ensures.item in
-    let same = exact_bytes c.in-Some.last.now.key c.args.key.now (sym c.cmp.ensures ∙ c.in-Equal.is) in
-    at_last c.args.children.now c.args.key.now c.in-Some.last.now item.3.0
-    (ap (λ (d : Child). d.key) (sym item.1) ∙ same)

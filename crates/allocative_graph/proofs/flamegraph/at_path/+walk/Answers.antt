@@ -5,15 +5,9 @@ use Rattle.allocative_graph.proofs.Common.{Child, Key, Path, sum_of, under, grap
 use Rattle.allocative_graph.proofs.Common.{nil_from_length}
 use Rattle.allocative_graph.proofs.Children.{put_at_gap}
 use Rattle.allocative_graph.proofs.Nodes.{node_grown, sum_grown, tree-path, total-path, sum_raised}
-use Rattle.allocative_graph.proofs.Nodes.{path_merged, nothing_merged}
+use Rattle.allocative_graph.proofs.Nodes.{path_merged}
 use Rattle.allocative_graph.proofs.Text.{texts}
 use Rattle.allocative_graph.proofs.flamegraph.at_path.+walk.Goals as goal
-
-pub add_at-returns-in_default-clause-sum : goal.add_at-returns-in_default-clause-sum
-add_at-returns-in_default-clause-sum t c =
-    sum_raised c.graph.view_is c.graph.invariant c.args.size
-    ∙ ap (λ (p : Path). sum_of c.args.graph.now (graph_of_path p c.args.size))
-    (sym (ap texts (nil_from_length c.args.path.now c.in_default.ensures.cases)))
 
 pub add_at-invariant_of-graph-2 : goal.add_at-invariant_of-graph-2
 add_at-invariant_of-graph-2 t c =
@@ -37,14 +31,6 @@ add_below-returns-in-Ok-clause-merged t c =
     (path_merged c.args.key (texts c.args.rest.now) c.args.size x c.deref.ensures.value c.in-Ok.ensures.found
     c.index_mut-here.ensures.value c.requires.children)
     c.add_at.ensures.sum
-
-pub add_below-returns-in-Ok-clause-unchanged : goal.add_below-returns-in-Ok-clause-unchanged
-add_below-returns-in-Ok-clause-unchanged t c =
-    let x : Child = c.index_mut-here.result.now in
-    on_err_weaker c.add_at.result
-    (nothing_merged c.args.key (texts c.args.rest.now) c.args.size x c.deref.ensures.value c.in-Ok.ensures.found
-    c.index_mut-here.ensures.value)
-    c.add_at.ensures.unchanged
 
 pub add_below-returns-in-Err-clause-merged : goal.add_below-returns-in-Err-clause-merged
 add_below-returns-in-Err-clause-merged t c =

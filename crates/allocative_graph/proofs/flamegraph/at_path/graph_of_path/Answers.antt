@@ -9,14 +9,6 @@ use Rattle.allocative_graph.proofs.Text.{texts}
 use Rattle.allocative_graph.proofs.Nodes.{node_leaf, node_of_path}
 use Rattle.allocative_graph.proofs.flamegraph.at_path.graph_of_path.Goals as goal
 
-pub invariant_of-graph : goal.invariant_of-graph
-invariant_of-graph c =
-    subst (λ (cs : List Child). IsNode cs 0 c.args.size) (sym c.new.ensures.items)
-    (record { children = no_children; size = refl; fits = omega arith })
-
-pub loop-key-init : goal.loop-key-init
-loop-key-init c = ap (node c.args.size) c.new.ensures.items ∙ node_leaf c.args.size
-
 -- The children of the new node: one, which has the graph so far.
 only_child : (c : goal.In_ok-push) → c.push.new.self.items
     ≡ child_of_path c.in-Some.key.now.now (texts (reverse (map (λ k. k.now) c.loop-key.yielded))) c.args.size ∷ []
