@@ -157,23 +157,15 @@ module _ (cs : List Child) (o : InOrder cs) (k : Key) where
   searched (Err i) in_range parted =
       record { found = tt; missing = record { within = in_range; between = parted comparisons_rise } }
 
-  -- A key above the last one is above all, and belongs at the end.
-  pub behind_last : (d : Child) → 0 < length cs → key_cmp (get_or cs (length cs - 1) d).key k ≡ Less →
-      IsChildGap cs k (length cs)
-  behind_last d some less =
-      let last = length cs - 1 in
-      let lower : (e : Child) → ordering_index (key_cmp (get_or cs last e).key k) ≡ 0 =
-      λ e. ap ordering_index (subst (λ (c : Child). key_cmp c.key k ≡ Less) (get_or_default cs last d e (omega arith))
-      less) in
-      record {
-        within = omega arith;
-        between = (
-          (λ j e low w. first_index _ (omega (arith, comparisons_rise j last e (omega arith) (omega arith), lower e))),
-          (λ j e high w. absurd (omega arith)),
-        );
-      }
+  -- If the last key is below k, all keys are.
+  pub below_last : (d e : Child) (j : ℕ) → d ≡ get_or cs (length cs - 1) d → key_cmp d.key k ≡ Less → j < length cs →
+      key_cmp (get_or cs j e).key k ≡ Less
+  below_last d e j last less w =
+      let lower : ordering_index (key_cmp (get_or cs (length cs - 1) e).key k) ≡ 0 = ap ordering_index
+      (subst (λ (c : Child). key_cmp c.key k ≡ Less) (last ∙ get_or_default cs (length cs - 1) d e (omega arith)) less) in
+      first_index _ (omega (arith, comparisons_rise j (length cs - 1) e (omega arith) (omega arith), lower))
 
--- The key of the last child is found at the end.
+-- The child at the last place is the same whatever is read behind the end.
 pub at_last : (cs : List Child) (d x : Child) → 0 < length cs → d ≡ get_or cs (length cs - 1) d →
     get_or cs (length cs - 1) x ≡ d
 at_last cs d x some e = get_or_default cs (length cs - 1) x d (omega arith) ∙ sym e

@@ -11,7 +11,7 @@ pub use Rattle.std.proofs.lemmas.List.Sums.{sum_by-cons, fold-append, sum_by-app
 pub use lib.Chars.{codes}
 pub use Rattle.std.specs.Cmp.{tied_itself, Equal-is, IsTotalOrder, tied_then}
 pub use Rattle.std.specs.Cmp.Lexicographic.{nat_list_cmp_total, slice_cmp}
-pub use Rattle.std.specs.FinMap.{IsAntisymmetric, contains_key, empty, entries, entries-from_sorted, entries-insert}
+pub use Rattle.std.specs.FinMap.{IsAntisymmetric, contains_key, entries, entries-from_sorted, entries-insert}
 pub use Rattle.std.specs.FinMap.{entries_sorted, from_entries, get, get-entries, get-from_entries, get-from_sorted}
 pub use Rattle.std.specs.FinMap.{get-insert, insert, keys, len, len-entries, nat_cmp-IsAntisymmetric, same_entries_map}
 pub use Rattle.std.specs.FinMap.{same_map, slice_cmp-IsAntisymmetric}
@@ -29,18 +29,17 @@ pub use Rattle.allocative_graph.specs.Collector.{entries_at}
 pub use Rattle.allocative_graph.specs.Forest.{Again, AsInline, AsShared, AsUnique, Bag, Empty, Entry, First, Fits}
 pub use Rattle.allocative_graph.specs.Forest.{Forest, Inline, Unique, all, content_entries, contents, followed_by}
 pub use Rattle.allocative_graph.specs.Forest.{insert_all, met_after, own, own_behind, content_identities, Mark}
-pub use Rattle.allocative_graph.specs.Graph.{CanBeAdded, Graph, HasNothing, HasPlainKeys, HasWords, IsBehind, IsTree}
-pub use Rattle.allocative_graph.specs.Graph.{Lacks, add_self, begins, default, graph, is_root, joined, remaining}
-pub use Rattle.allocative_graph.specs.Graph.{size_at, sizes, sum_of, text, text_of_entries, total, total_at, under}
-pub use Rattle.allocative_graph.specs.Graph.{warnings}
+pub use Rattle.allocative_graph.specs.Graph.{CanBeAdded, Graph, HasNothing, IsBehind, IsTree, Lacks, add_self, begins}
+pub use Rattle.allocative_graph.specs.Graph.{default, graph, is_root, joined, remaining, size_at, sizes, sum_of, text}
+pub use Rattle.allocative_graph.specs.Graph.{text_of_entries, total, total_at, under, warnings}
 pub use Rattle.allocative_graph.specs.Identity.{Identities, Identity, identity_cmp, is_same_identity}
 pub use Rattle.allocative_graph.specs.Rows.{sum_of_all, total_of, AreChildren, Figures, figures_behind, keys_of, node}
 pub use Rattle.allocative_graph.specs.Rows.{rows_of, rows_of_child, under_rows, row_figures}
 pub use Rattle.allocative_graph.specs.Meaning.{IsMeaning, IsWhole, Reached, content_of, has_mark, inside, is_among}
 pub use Rattle.allocative_graph.specs.Meaning.{is_mark_of, marked}
 pub use Rattle.allocative_graph.specs.Path.{Key, Path, is_one_below, is_same_path, key_cmp, path_cmp}
-pub use Rattle.allocative_graph.specs.Read.{AreStacks, IsCut, IsFault, IsNumber, IsRead, IsStack, IsWrong, SaysStacks}
-pub use Rattle.allocative_graph.specs.Read.{Stack, all_bytes, bytes_at, is_path_of, number_of, line_stack}
+pub use Rattle.allocative_graph.specs.Read.{AreStacks, IsCut, IsRead, SaysStacks, Stack, all_bytes, bytes_at}
+pub use Rattle.allocative_graph.specs.Read.{is_path_of, line_stack}
 pub use Rattle.allocative_graph.specs.Representation.Children.{AddsUp, AddsUpInPart, AllAbove, InOrder, IsChildGap}
 pub use Rattle.allocative_graph.specs.Representation.Children.{IsFound, size_under, Added, Merged, child_of_path}
 pub use Rattle.allocative_graph.specs.Representation.Children.{IsNode, IsSumByPath, joined_on, line_from, lines_from}
@@ -51,9 +50,6 @@ pub use Rattle.allocative_graph.specs.Sums.{Node, Sums, add, add_all, below, byt
 pub use Rattle.allocative_graph.specs.Sums.{node_of, sums_of, together}
 pub use Rattle.allocative_graph.specs.declared.flamegraph.Child.{Child}
 pub use Rattle.allocative_graph.specs.declared.read.Line.{Line}
-pub use Rattle.allocative_graph.specs.declared.read.LineFault.{LineFault}
-pub use Rattle.allocative_graph.specs.declared.read.LineFault.TheVariants.{NoSpace}
-pub use Rattle.allocative_graph.specs.declared.read.TheConstants.{LEVELS}
 pub use Rattle.std.proofs.lemmas.Cmp.{eq_by_cmp_equiv}
 pub use Rattle.std.proofs.lemmas.List.Filters.{sum_by-filter_both}
 pub use Rattle.std.proofs.lemmas.Map.Lookups.{exact_bytes}

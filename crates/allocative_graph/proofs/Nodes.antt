@@ -199,7 +199,7 @@ sum_raised {n = n} {cs = cs} view h m =
     (added_sum (added_node true n m cs [] cs h.children no_children (merged_same cs h.children)) refl)
 
 -- The sum of two trees adds up.
-added_trees : (g h : Graph) → IsTree g → IsTree h → Added true g h (sum_of g h)
+pub added_trees : (g h : Graph) → IsTree g → IsTree h → Added true g h (sum_of g h)
 added_trees g h s t = record {
   tree = record { root = grind (arith, has-sum_of g h [], s.root); closed = λ p k e. grind (arith, has-sum_of g h p, has-sum_of g h (p ++ k ∷ []), s.closed p k, t.closed p k, e) };
   part = λ p. part_of_sum (get g p) (get h p) (get (sum_of g h) p) (size_at-sum_of g h p, has-sum_of g h p);

@@ -1,23 +1,23 @@
 -- The lines of a text that is read, and what they say of its graph: the text of a graph that is read is the graph again.
+use Rattle.allocative_graph.specs.declared.read.TheConstants.{LEVELS}
+use Rattle.allocative_graph.specs.declared.read.LineFault.{LineFault}
 use Rattle.std.proofs.Common.{◌≡◌, ◌≢◌, ℕ, suc, ◌+◌, ◌^◌, ◌<◌, ◌≤◌, ◌==◌, true, false, List, [], ◌∷◌, ◌++◌, length}
 use Rattle.std.proofs.Common.{get_or, take, drop, None, Some, refl, ap, sym, ◌∙◌, subst, arith, Bor, eqb-true}
 use Rattle.std.proofs.Common.{take-append-drop, Bool, map, subst₂, append-nil, drop-cons, ◌-◌, cond, not, flat_map}
 use Rattle.std.proofs.Common.{length-append, true≢false, decimal, ne_eqb, eq-eqb, if◌then◌else◌, filter, append_assoc}
-use Rattle.allocative_graph.proofs.Common.{LEVELS, LineFault, NoSpace, Lacks, Stack, IsStack, IsNumber, IsCut, IsWrong}
-use Rattle.allocative_graph.proofs.Common.{number_of, nil_from_length, slice_split, lines, lines_of_parts, Line}
-use Rattle.allocative_graph.proofs.Common.{AreStacks, IsFault, map_push, length-map, line_stack, AllByRecursion}
-use Rattle.allocative_graph.proofs.Common.{list_any, get, entries, Key, Path, is_same_path, Graph, text, joined, begins}
-use Rattle.allocative_graph.proofs.Common.{size_at, HasPlainKeys, HasWords, SaysStacks, IsRead, bytes_at, is_path_of}
-use Rattle.allocative_graph.proofs.Common.{all_bytes, All-from_recursion, fold-map, sum_by-cons, eq_by_cmp, key_cmp}
-use Rattle.allocative_graph.proofs.Common.{codes, All, sum_by-filter_both}
+use Rattle.allocative_graph.proofs.Common.{All, All-from_recursion, AllByRecursion, AreStacks, Graph, IsCut, IsRead}
+use Rattle.allocative_graph.proofs.Common.{Key, Lacks, Line, Path, SaysStacks, Stack, all_bytes, begins, bytes_at}
+use Rattle.allocative_graph.proofs.Common.{codes, entries, eq_by_cmp, fold-map, get, is_path_of, is_same_path, joined}
+use Rattle.allocative_graph.proofs.Common.{key_cmp, length-map, line_stack, lines, lines_of_parts, list_any, map_push}
+use Rattle.allocative_graph.proofs.Common.{nil_from_length, size_at, slice_split, sum_by-cons, sum_by-filter_both, text}
 use Rattle.std.specs.Str.Pattern.{RFindsChar}
 use Rattle.std.proofs.lemmas.Bool.{eqb-false}
 use Rattle.std.proofs.lemmas.List.Elements.{All-from_get_or, recursion_from_All, All-weaker, All-filter}
 use Rattle.std.specs.Str.Parse.{IsNumeral, without_leading_plus}
 use Rattle.std.proofs.lemmas.Str.Parse.{digit_at, without_leading_plus_none}
 use Rattle.std.proofs.lemmas.Str.Pattern.{NoCharPasses-char, drop_at_char}
-use Rattle.allocative_graph.specs.declared.read.LineFault.TheVariants.{NoPath, NoNumber, TooLarge, TooDeep}
-use Rattle.allocative_graph.specs.Read.{keys_of, Exceeds, CanBeRead}
+use Rattle.allocative_graph.specs.declared.read.LineFault.TheVariants.{NoPath, NoNumber, TooLarge, TooDeep, NoSpace}
+use Rattle.allocative_graph.specs.Read.{keys_of, Exceeds, CanBeRead, IsFault, IsNumber, IsStack, IsWrong, number_of}
 use Rattle.allocative_graph.proofs.Text.{lacks_not, texts, Plain, Sized, Good, is_shown, full, body}
 use Rattle.allocative_graph.proofs.Text.{written_entries, good_entries, size_shown, shown_lines, full_body, body_lacks}
 use Rattle.allocative_graph.proofs.Text.{decimal_lacks}
@@ -29,7 +29,7 @@ use Rattle.std.proofs.lemmas.List.{get_or-append_right}
 use Rattle.allocative_graph.proofs.Basics.{each-implies, each-map}
 use Rattle.allocative_graph.proofs.StackSums.{same_begins}
 use Rattle.allocative_graph.specs.Graph.{line, ends_in, exact_text, lines_from, before_last, after_last, last_key}
-use Rattle.allocative_graph.specs.Graph.{without_lines}
+use Rattle.allocative_graph.specs.Graph.{without_lines, HasPlainKeys, HasWords}
 use Rattle.std.proofs.Padding.{cond_same}
 
 -- If no place in a list has a byte, the list lacks it.
@@ -214,8 +214,7 @@ fault_at text xs x n w ls front at h some wrong e = let next : suc (length xs) �
   none = wrong_is_none w x.now wrong;
 }
 
--- ---- reading back a text
--- ---- lists that lack a byte
+-- ---- reading back a text: lists that lack a byte
 -- In a list that lacks a byte, no byte is equal to it.
 no_byte : (c : ℕ) (xs : List ℕ) → Lacks c xs → All (λ b. (b == c) ≡ false) xs
 no_byte c xs h = All-weaker (λ b. b ≢ c) (λ b. (b == c) ≡ false) (λ b. ne_eqb b c) xs
@@ -392,7 +391,6 @@ never_exceeds g plain fits e =
     omega (arith, is, fold-map (λ n (s : Stack). n + s.size) said 0 (written_entries g), sum_by-filter_both is_shown (λ x. not (is_shown x)) (λ x. refl) (λ x. x.1) (entries g), e.exceeds, fits)
 
 -- ---- lines dropped from a text are paths left out of it
--- ---- the lines
 -- What was read and what comes before the next line feed is one line. The rest is read as further lines.
 pub line_read : (acc a rest : List ℕ) → Lacks 10 a → lines_from acc (a ++ 10 ∷ rest) ≡ (acc ++ a) ∷ lines_from [] rest
 line_read acc [] rest h = λ i. sym (append-nil acc) i ∷ lines_from [] rest

@@ -358,7 +358,6 @@ module _ (more : Identity → Bool) where
       (h j ∙ ap (λ c. c || more j) w.0 ∙ a.0, fits_more (insert s j) (insert t j) f up xs.0 w.1, rest)
   fits_more s t (Again k n j after) h a w = (h j ∙ or_left _ (more j) w.0, fits_more s t after h a w.1)
 
--- ---- two whole showings whose sums can be added
 -- ---- what a graph has at a path
 -- A lookup in a list of entries whose values were changed by path gives the changed value.
 find-mapped : {X Y : Type 0} (r : Path → X → Y) (es : List (Path × X)) (q : Path) →

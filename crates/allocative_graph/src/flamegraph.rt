@@ -453,7 +453,7 @@ pub fn push_path(keys: &[&str], text: &mut String) -> Result<(), AllocError>
 
 // The place of the key among the children, or else the place where it belongs. One comparison recognizes the last key
 // and a key after it, so that children added in order are put at the end without a search.
-#[tactic(auto, using(crate::proofs::Children::at_last, std::proofs::lemmas::Map::Lookups::exact_bytes))]
+#[tactic(auto, using(crate::proofs::Children::at_last, crate::proofs::Children::below_last, std::proofs::lemmas::Map::Lookups::exact_bytes))]
 fn place_of(children: &[Child], key: &Key) -> Result<usize, usize>
     requires { InOrder children.now }
     ensures found { IfOk result (IsFound children.now key.now) }
