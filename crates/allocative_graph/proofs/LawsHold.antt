@@ -6,8 +6,7 @@ use Rattle.allocative_graph.proofs.Common.{tied_itself, nat_cmp}
 use Rattle.std.specs.Cmp.{nat_cmp_total}
 use Rattle.std.specs.Fmt.{digits}
 use Rattle.std.specs.FinSet.{empty}
-use Rattle.allocative_graph.specs.Laws.{ReadLaw, PlusLaw, SharedLaw, PathOrderLaw, GraphSumsLaw, GraphLaw}
-use Rattle.allocative_graph.specs.Owned.{OwnedLaw}
+use Rattle.allocative_graph.specs.Laws.{ReadLaw, PathOrderLaw, GraphSumsLaw, GraphLaw}
 use Rattle.allocative_graph.specs.WorkedExamples.{Prints, WorkedExamples, one, part_inline, part_unique}
 use Rattle.allocative_graph.proofs.Basics.{identity_total, order, key_itself}
 use Rattle.allocative_graph.proofs.Computed.{nodes_of, sizes_list, warnings_list, text-computed, warnings-computed}

@@ -3,7 +3,7 @@ use Rattle.std.proofs.Common.{◌≡◌, rules, [], Some, refl, sym, ap, ◌∙�
 use Rattle.allocative_graph.proofs.Common.{Child, nil_from_length, total, total_of, sum_by_push}
 use Rattle.allocative_graph.proofs.Children.{merges_then, merges_all, is_ok-and, merged_same, next_less, next_greater}
 use Rattle.allocative_graph.proofs.Children.{next_equal, front_is, one_of_length, put_at_found, put_at_gap}
-use Rattle.allocative_graph.proofs.Nodes.{merged_node, merged_graph, child_of_one}
+use Rattle.allocative_graph.proofs.Nodes.{merged_graph, child_of_one}
 use Rattle.allocative_graph.proofs.flamegraph.+merge.Goals as goal
 
 pub FlameGraph::merge-returns-in_default : goal.FlameGraph::merge-returns-in_default

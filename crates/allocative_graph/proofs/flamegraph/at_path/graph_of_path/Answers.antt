@@ -1,12 +1,12 @@
 -- of graph_of_path: each graph on the way, and the one at the end
-use Rattle.std.proofs.Common.{◌≡◌, ℕ, ◌++◌, ◌∷◌, [], List, Bor, map, reverse, refl, sym, ap, subst, ◌∙◌, arith}
+use Rattle.std.proofs.Common.{◌≡◌, ℕ, ◌++◌, ◌∷◌, [], List, Bor, map, reverse, sym, ap, subst, ◌∙◌}
 use Rattle.std.proofs.lemmas.List.{reverse-append, reverse-reverse}
 use Rattle.std.proofs.lemmas.Iterator.Adapters.{YieldsList-from_rev_slice}
 use Rattle.std.proofs.lemmas.Iterator.Consumers.{YieldsList-end}
 use Rattle.allocative_graph.proofs.Common.{Child, IsNode, node, graph_of_path, child_of_path, map_push}
-use Rattle.allocative_graph.proofs.Children.{node_of_one, no_children}
+use Rattle.allocative_graph.proofs.Children.{node_of_one}
 use Rattle.allocative_graph.proofs.Text.{texts}
-use Rattle.allocative_graph.proofs.Nodes.{node_leaf, node_of_path}
+use Rattle.allocative_graph.proofs.Nodes.{node_of_path}
 use Rattle.allocative_graph.proofs.flamegraph.at_path.graph_of_path.Goals as goal
 
 -- The children of the new node: one, which has the graph so far.
