@@ -460,11 +460,13 @@ module _ {k : Key} {x : Child} {cs ds : List Child} {i : ℕ} (same : ds ≡ cs)
   here : IsFound cs k i
   here = subst (λ l. IsFound l k i) same found
 
+  -- A child with the key k is merged by adding its graph to that of x.
   pub put_at_found : {all : Bool} (c : Child) → c.key ≡ k → AreChildren cs → Added all x.graph c.graph g →
       Merged all cs (c ∷ []) (set cs i (with_graph x g))
   put_at_found {all = all} c is h sum = subst (λ (y : Child). Merged all cs (c ∷ []) (set cs i (with_graph y g))) (sym there)
       (changed all cs i c x g h here.within (here.same x ∙ sym is) (subst (λ (y : Child). Added all y.graph c.graph g) there sum))
 
+  -- The totals of all children change as that of x does.
   pub total_at_found : total_of (set cs i (with_graph x g)) + total x.graph ≡ total_of cs + total g
   total_at_found = let t : Child → ℕ = λ y. total y.graph in
       omega (arith, sum_by-set t cs i (with_graph x g) x here.within, ap t there)

@@ -12,9 +12,8 @@ use Rattle.allocative_graph.proofs.Basics.{identity_total, order, key_itself}
 use Rattle.allocative_graph.proofs.Computed.{nodes_of, sizes_list, warnings_list, text-computed, warnings-computed}
 use Rattle.allocative_graph.proofs.Computed.{text_added}
 use Rattle.allocative_graph.proofs.Sums.{get-sums_of, below-sums_of}
-use Rattle.allocative_graph.proofs.Showings.{agree_back, get-graph, get-graph-root, graphs_add, same_reached, same_sums_of}
-use Rattle.allocative_graph.proofs.Showings.{whole_following}
-use Rattle.allocative_graph.proofs.Showings.{all_is_meaning, reaches_exactly}
+use Rattle.allocative_graph.proofs.Showings.{agree_back, get-graph, get-graph-root, graphs_add, same_reached}
+use Rattle.allocative_graph.proofs.Showings.{same_sums_of, whole_following, all_is_meaning, reaches_exactly}
 use Rattle.allocative_graph.proofs.ReadBack.{text_tells, reads_back, never_refused, never_exceeds, exact_is}
 use Rattle.allocative_graph.proofs.Plus.{plus-nothing, plus-following, takes_following, inside_entry, takes_entry}
 use Rattle.allocative_graph.proofs.Plus.{inside_first, takes_shared, held_again, counted_again}

@@ -1,5 +1,5 @@
--- Nodes are trees, and add up if their own sizes and their children do; bytes at one path, and what a node has after
--- they are added; and the number of its paths.
+-- Nodes are trees, and add up if their own sizes and their children do; the number of their paths; bytes at one path,
+-- and what a node has after they are added.
 use Rattle.std.proofs.Common.{◌≡◌, ℕ, ◌+◌, ◌<◌, ◌^◌, Bool, true, List, [], ◌∷◌, ◌++◌, length, length-append, Some, refl}
 use Rattle.std.proofs.Common.{get_or, unwrap_or, sym, ap, subst, subst₂, ◌∙◌, arith, ◌≤◌, set, zero-add, add-zero, take, sum_by}
 use Rattle.allocative_graph.proofs.Common.{sum_by-cons, key_cmp, keys_of}

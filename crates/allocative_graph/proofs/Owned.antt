@@ -9,8 +9,7 @@ use Rattle.allocative_graph.proofs.Common.{default, size_at, total, Entry, sum_b
 use Rattle.allocative_graph.specs.Owned.{direct, owned, Owner, owners_behind, owns_all, EachAt, AreAlike, Reordered}
 use Rattle.allocative_graph.specs.Owned.{exchanged, within, beside, in_turn}
 use Rattle.allocative_graph.proofs.Basics.{path_total, same_path}
-use Rattle.allocative_graph.proofs.Sums.{one_below_is, below_in, below-sums_of, get-sums_of}
-use Rattle.allocative_graph.proofs.Sums.{bytes_none}
+use Rattle.allocative_graph.proofs.Sums.{one_below_is, below_in, below-sums_of, get-sums_of, bytes_none}
 use Rattle.allocative_graph.proofs.Showings.{get-graph, get-graph-root}
 use Rattle.allocative_graph.proofs.Graphs.{add_at, total-add_at, same_graph, in_graph, get-default, size_at-default}
 use Rattle.allocative_graph.proofs.Graphs.{total-default}

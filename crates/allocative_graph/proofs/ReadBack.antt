@@ -18,9 +18,8 @@ use Rattle.std.proofs.lemmas.Str.Parse.{digit_at, without_leading_plus_none}
 use Rattle.std.proofs.lemmas.Str.Pattern.{NoCharPasses-char, drop_at_char}
 use Rattle.allocative_graph.specs.declared.read.LineFault.TheVariants.{NoPath, NoNumber, TooLarge, TooDeep, NoSpace}
 use Rattle.allocative_graph.specs.Read.{keys_of, Exceeds, CanBeRead, IsFault, IsNumber, IsStack, IsWrong, number_of}
-use Rattle.allocative_graph.proofs.Text.{lacks_not, texts, Plain, Sized, Good, is_shown, full, body}
-use Rattle.allocative_graph.proofs.Text.{written_entries, good_entries, size_shown, shown_lines, full_body, body_lacks}
-use Rattle.allocative_graph.proofs.Text.{decimal_lacks}
+use Rattle.allocative_graph.proofs.Text.{lacks_not, texts, Plain, Sized, Good, is_shown, full, body, written_entries}
+use Rattle.allocative_graph.proofs.Text.{good_entries, size_shown, shown_lines, full_body, body_lacks, decimal_lacks}
 use Rattle.std.proofs.lemmas.List.Splits.{length-slice_split, slice_split_none, slice_split_at}
 use Rattle.std.proofs.lemmas.List.Sums.{count_by-le-length}
 use Rattle.std.specs.Str.Lines.{strip_carriage_return}

@@ -67,9 +67,9 @@ contains-insert_all s (j ∷ is) i = grind
 
 -- ---- each identity shown is reached
 module _ (b : Bag) (content : Identity → Bag) where
-  -- Each identity that cs shows is reached, if each that the entries point to is, and cs has the contents.
+  -- Each identity that cs shows is reached, if each that the entries es point to is, and cs has the contents.
   abbrev Reaches : Bag → Contents → Type 0
-  Reaches entries cs = ((i : Identity) → IsTrue (has_mark i entries) → Reached b content i)
+  Reaches es cs = ((i : Identity) → IsTrue (has_mark i es) → Reached b content i)
       → AllByRecursion (λ c. content c.0 ≡ c.1) cs → (i : Identity) → IsTrue (is_among i (ids cs)) → Reached b content i
 
   reaches_both : (xs ys : Bag) (cs ds : Contents) → Reaches xs cs → Reaches ys ds → Reaches (xs ++ ys) (cs ++ ds)

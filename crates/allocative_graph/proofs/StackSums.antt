@@ -1,7 +1,6 @@
 -- The graphs of stacks, path by path, and what they add up to in any order.
-use Rattle.std.proofs.Common.{◌≡◌, ℕ, ◌+◌, ◌^◌, ◌<◌, ◌||◌, ◌&&◌, true, cond, List, [], ◌∷◌, ◌++◌, map}
-use Rattle.std.proofs.Common.{take, Option, Some, None, is_some, refl, sym, ap, ◌∙◌, subst}
-use Rattle.std.proofs.Common.{sum_by, arith, zero-add, length, get_or}
+use Rattle.std.proofs.Common.{◌≡◌, ℕ, ◌+◌, ◌^◌, ◌<◌, ◌||◌, ◌&&◌, true, cond, List, [], ◌∷◌, ◌++◌, map, take, Option}
+use Rattle.std.proofs.Common.{Some, None, is_some, refl, sym, ap, ◌∙◌, subst, sum_by, arith, zero-add, length, get_or}
 use Rattle.allocative_graph.proofs.Common.{list_any, IsPermutation, is_eq, get, contains_key, get-insert, Line, Key}
 use Rattle.allocative_graph.proofs.Common.{Path, key_cmp, path_cmp, is_same_path, Graph, size_at, total, begins}
 use Rattle.allocative_graph.proofs.Common.{is_root, default, sum_of, SaysStacks, IsRead, Stack, bytes_at, is_path_of}

@@ -3,8 +3,7 @@ use Rattle.std.proofs.Common.{sym, ap, ◌∙◌, arith}
 use Rattle.std.proofs.lemmas.Result.{on_ok_weaker}
 use Rattle.allocative_graph.proofs.Common.{Child, Key, Path, sum_of, under, graph_of_path, child_of_path}
 use Rattle.allocative_graph.proofs.Children.{put_at_gap}
-use Rattle.allocative_graph.proofs.Nodes.{node_grown, sum_grown, tree-path, total-path}
-use Rattle.allocative_graph.proofs.Nodes.{path_merged}
+use Rattle.allocative_graph.proofs.Nodes.{node_grown, sum_grown, tree-path, total-path, path_merged}
 use Rattle.allocative_graph.proofs.Text.{texts}
 use Rattle.allocative_graph.proofs.flamegraph.at_path.+walk.Goals as goal
 

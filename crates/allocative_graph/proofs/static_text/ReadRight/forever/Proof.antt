@@ -2,12 +2,10 @@
 use Rattle.std.proofs.Common.{List, [], ◌∷◌, ◌++◌, length, refl, arith}
 use Rattle.allocative_graph.proofs.Walks.{Val, vptr, WpFn, tables, prop, owns, plain, types_at, alive, walk_of, Stays}
 use Rattle.allocative_graph.proofs.Walks.{stay_dropped, Goes-dropped, proved_at, ends_at, says, yes, none, block_ptr}
-use Rattle.allocative_graph.proofs.Walks.{slice_val}
-use Rattle.allocative_graph.proofs.Walks.{‵, raw, ◌⊛◌, ◌$◌, ◌∵◌, !, qed, move, drop, keep, split, fsplit, fjoin, feq_i}
-use Rattle.allocative_graph.proofs.Walks.{feq_l, flt_l, regoal, suffices, done, unhide, nothing, none_made, agg}
-use Rattle.allocative_graph.proofs.Walks.{no_more, sets}
-use Rattle.allocative_graph.proofs.Walks.{enter, returns, and_then, alloc_all, pass_all, free_all, look_at, get, two}
-use Rattle.allocative_graph.proofs.Walks.{two_made, RawPtr}
+use Rattle.allocative_graph.proofs.Walks.{slice_val, ‵, raw, ◌⊛◌, ◌$◌, ◌∵◌, !, qed, move, drop, keep, split, fsplit}
+use Rattle.allocative_graph.proofs.Walks.{fjoin, feq_i, feq_l, flt_l, regoal, suffices, done, unhide, nothing}
+use Rattle.allocative_graph.proofs.Walks.{none_made, agg, no_more, sets, enter, returns, and_then, alloc_all, pass_all}
+use Rattle.allocative_graph.proofs.Walks.{free_all, look_at, get, two, two_made, RawPtr}
 use types.Part.{sub, whole}
 use types.Run.{fld, stop, addr, from, hop}
 use types.ByLocal.{look_in_at}

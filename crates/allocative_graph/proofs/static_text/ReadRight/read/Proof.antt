@@ -2,11 +2,10 @@
 use Rattle.std.proofs.Common.{◌≡◌, ◌^◌, List, [], ◌∷◌, ◌++◌, length, refl, sym, ap, ◌∙◌, arith, ◌*◌, w64}
 use Rattle.allocative_graph.proofs.Walks.{Val, vptr, WpFn, tables, prop, owns, plain, types_at, alive, walk_of, Stays}
 use Rattle.allocative_graph.proofs.Walks.{stay_dropped, Goes-dropped, proved_at, ends_at, says, yes, block_ptr}
-use Rattle.allocative_graph.proofs.Walks.{slice_val}
-use Rattle.allocative_graph.proofs.Walks.{‵, raw, ◌⊛◌, ◌$◌, ◌∵◌, !, qed, move, drop, split, fsplit, fjoin, feq_i, feq_l}
-use Rattle.allocative_graph.proofs.Walks.{flt_l, regoal, suffices, done, unhide, nothing, agg, no_more, sets}
-use Rattle.allocative_graph.proofs.Walks.{enter, returns, and_then, alloc_all, pass_all, free_all, look_at, get, RawPtr}
-use Rattle.allocative_graph.proofs.Walks.{RefOf}
+use Rattle.allocative_graph.proofs.Walks.{slice_val, ‵, raw, ◌⊛◌, ◌$◌, ◌∵◌, !, qed, move, drop, split, fsplit, fjoin}
+use Rattle.allocative_graph.proofs.Walks.{feq_i, feq_l, flt_l, regoal, suffices, done, unhide, nothing, agg, no_more}
+use Rattle.allocative_graph.proofs.Walks.{sets, enter, returns, and_then, alloc_all, pass_all, free_all, look_at, get}
+use Rattle.allocative_graph.proofs.Walks.{RawPtr, RefOf}
 use mir.Syntax.{seq, assign, place, rv_opd, copy, return}
 use mir.Val.{vint}
 use contract.Monad.{fact}
