@@ -27,10 +27,6 @@ told_shows (Err e) h = adds_refused_err e h refl
 
 module _ {F : Type 0} (g : Once F (MutBor Visitor × Unit {0}) (Result (Unit {0}) Refusal × (MutBor Visitor × Unit {0})))
     (f : F) where
-  pub not_called_by : {k : Key} {n : ℕ} {s t : State} {e : Refusal} {r : Result (Unit {0}) Refusal} → r ≡ Err e →
-      OpensEntry false k (Some n) s (Err e) t → CallsInside g f k n s t r
-  not_called_by is w = rw is (not_called w)
-
   -- The call shows an entry with the closure's forest inside it, if each call of the closure shows one of p.
   pub with_shows : (p : Showing) {k : Key} {n : ℕ} {s t : State} {r : Result (Unit {0}) Refusal} →
       CallsInside g f k n s t r → CallShows g f p → AddsForest (Inside k n p) s r t

@@ -6,7 +6,7 @@ pub use Rattle.std.specs.Map.Iter.{deref}
 pub use Rattle.allocative_described.specs.Sizes.{checked, size_product}
 pub use Rattle.allocative_graph.specs.Collector.{Failed, Going, Kind, Live, OfGraph, OfSum, Restore, State, Summing}
 pub use Rattle.allocative_graph.specs.Collector.{Takes, begin, enter, enter_first, failed_with, is_graph, outer_of}
-pub use Rattle.allocative_graph.specs.Collector.{leave, close_entry, nothing_held, nothing_owned, count_entry, entry_bytes, plus}
+pub use Rattle.allocative_graph.specs.Collector.{leave, close_entry, nothing_held, count_entry, entry_bytes, plus}
 pub use Rattle.allocative_graph.specs.Collector.{visitors}
 pub use Rattle.allocative_graph.specs.Forest.{Again, Empty, First, Forest, entry_of, followed_by}
 pub use Rattle.allocative_graph.specs.Owned.{ShowsNoContent, held}
@@ -30,7 +30,7 @@ pub use Rattle.allocative.specs.Bodies.{without_size}
 pub use Rattle.allocative.specs.Closures.{called, refused_inside}
 pub use Rattle.allocative.specs.Strict.{CanTake, HasRoomFor, IsDeclared, MayRefuse, FailsOnlyIfFull, RootFailsOnlyIfFull}
 pub use Rattle.allocative.specs.Strict.{ShowsContents, all_bytes, has_added, has_refused}
-pub use Rattle.allocative.specs.Kinds.{IsSum, state_of}
+pub use Rattle.allocative.specs.Kinds.{IsSum}
 pub use Rattle.allocative.specs.Levels.{levels_shown}
 pub use Rattle.allocative.specs.Making.{Done, Entry, Makes, MakesPlan, Plan, entry_refused, gives, inside_refused, made}
 pub use Rattle.allocative.specs.Making.{made_none, makes, one}

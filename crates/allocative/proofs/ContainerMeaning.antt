@@ -4,7 +4,7 @@ use Rattle.std.proofs.Common.{◌+◌, ◌-◌, ◌*◌, ◌<◌, ◌^◌, Resul
 use Rattle.allocative.proofs.Common.{checked, Refusal, Key, Forest, Kind, Showing, Nothing, Both, Inside, Unique}
 use Rattle.allocative.proofs.Common.{Field, IsField, sized, each_shows, slice_shows, are_shown_each, bytes_shown}
 use Rattle.allocative.proofs.Common.{without_size, without_room, with_room, buffer_shows, table_shows, IsDeclared}
-use Rattle.allocative.proofs.Common.{CanTake, Visitor, Visited, Entered, Means}
+use Rattle.allocative.proofs.Common.{CanTake, Visitor, Entered, Means}
 use Rattle.std.proofs.lemmas.Bool.{false≢true}
 use Rattle.std.proofs.lemmas.Bool.Decides.{nat_tests}
 use Rattle.smallvec.specs.SmallVec.{SmallVec, IsSpilled}
@@ -18,8 +18,7 @@ use Rattle.allocative.specs.StdShows.{some_value, is_value, cell_inside, not_had
 use Rattle.allocative.proofs.Strict.{declared_nothing, declared_both, declared_entry, each_append, declared_append}
 use Rattle.allocative.proofs.Strict.{entry_fits, only_if_full_as}
 use Rattle.allocative.proofs.Visits.{adds_weaker}
-use Rattle.allocative.specs.Visited.{AnyEffect}
-use Rattle.allocative.proofs.Meaning.{loosely, entered_as, entered_loosely, visited_as, means_same, means_both}
+use Rattle.allocative.proofs.Meaning.{loosely, entered_loosely, visited_as, visited_of_strict, means_same, means_both}
 use Rattle.allocative.proofs.Meaning.{means_unique, means_field, means_then, means_either}
 
 -- ---- slices
@@ -73,27 +72,19 @@ entered_plain name size needs_drop p xs e s = record {
       (plain_declared name size needs_drop p xs e) (s.only_if_full i);
 }
 
--- If the items are shown one by one, their forests one after another are a forest of their slice.
-pub each_slice : {T : Type 0} (name : Key) (size : Option ℕ) (needs_drop : Bool) (p : T → Showing) (xs : List T) →
-    are_shown_each needs_drop size ≡ true →
-    (f : Forest) → each_shows p xs f → slice_shows name size needs_drop p xs f
-each_slice name None needs_drop p xs e f h = absurd (false≢true e)
-each_slice name (Some s) needs_drop p xs e f h = rw (e, slice_shows) h
-
--- If the items are shown one by one and their slice is declared, the items one after another are.
-pub each_declared : {T : Type 0} (name : Key) (size : Option ℕ) (needs_drop : Bool) (p : T → Showing) (xs : List T) →
-    are_shown_each needs_drop size ≡ true →
-    IsDeclared (slice_shows name size needs_drop p xs) → IsDeclared (each_shows p xs)
-each_declared name None needs_drop p xs e d = absurd (false≢true e)
-each_declared name (Some s) needs_drop p xs e d = rw (e, slice_shows) at d
+-- If the items are shown one by one, their slice shows what the items one after another show.
+pub slice_is_each : {T : Type 0} (name : Key) (size : Option ℕ) (needs_drop : Bool) (p : T → Showing) (xs : List T) →
+    are_shown_each needs_drop size ≡ true → each_shows p xs ≡ slice_shows name size needs_drop p xs
+slice_is_each name None needs_drop p xs e = absurd (false≢true e)
+slice_is_each name (Some s) needs_drop p xs e = rw (e, slice_shows) refl
 
 -- If the items are shown one by one, entering them one after another enters their slice.
 pub entered_one_by_one : {T : Type 0} {x : Bool} (name : Key) (size : Option ℕ) (needs_drop : Bool) (p : T → Showing)
     (xs : List T) {a b : Visitor} {r : Result (Unit {0}) Refusal} →
     are_shown_each needs_drop size ≡ true → Entered x (each_shows p xs) a b r →
     Entered x (slice_shows name size needs_drop p xs) a b r
-entered_one_by_one name size needs_drop p xs e s =
-    entered_as s (record { means = each_slice name size needs_drop p xs e; declared = λ i. each_declared name size needs_drop p xs e })
+entered_one_by_one {x = x} name size needs_drop p xs {a} {b} {r} e s =
+    subst (λ q. Entered x q a b r) (slice_is_each name size needs_drop p xs e) s
 
 -- ---- buffers
 -- If the items have size 0, no entry means their buffer.
@@ -190,18 +181,12 @@ pub means_text : {x : Bool} {n l m c u : ℕ} → n ≡ l → m ≡ c → u ≡ 
 means_text i j k = rw (i, j, k) (means_either (λ f x. is_text x) (λ f x. elim x [ is_text y ↦ y ]))
 
 -- ---- containers in order of insertion
--- The data of a container is its entry.
-pub means_data_entry : {x : Bool} {size : Option ℕ} {p : Showing} {u : ℕ} →
-    Means x (Unique (codes "data") 8 (Both p (bytes_shown (codes "unused_capacity") size u)))
-    (index_data_shows size p u)
-means_data_entry = means_either (λ f x. is_index_data x) (λ f x. elim x [ is_index_data y ↦ y ])
-
--- If p means q, a container's data with p mean its data with q.
+-- A unique entry with what means the items, and the unused places, means a container's data.
 pub means_index_data : {x : Bool} {y z : Option ℕ} {u w : ℕ} {p q : Showing} → y ≡ z → u ≡ w → Means x p q →
-    Means x (index_data_shows y p u) (index_data_shows z q w)
+    Means x (Unique (codes "data") 8 (Both p (bytes_shown (codes "unused_capacity") y u))) (index_data_shows z q w)
 means_index_data e i m =
-    rw (e, i) (means_then (means_either (λ f x. elim x [ is_index_data y ↦ y ]) (λ f x. is_index_data x))
-    (means_then (in_entry (codes "data") m) means_data_entry))
+    rw (e, i) (means_then (in_entry (codes "data") m)
+    (means_either (λ f x. is_index_data x) (λ f x. elim x [ is_index_data y ↦ y ])))
 
 -- ---- tables
 -- If there are no items, no entry means their hash table.
@@ -249,26 +234,19 @@ pub means_set : {T : Type 0} {p : T → Showing} (x : T) {k : Key} → k ≡ cod
 means_set x e = rw e (loosely (λ f h. is_set x h))
 
 -- ---- cells and locks. A contract does not see which value a cell holds, so its visits are not strict.
--- If each forest of p is one of q, entering p in a cell's own entry is a visit that shows q there.
-visited_inside : {e : Bool} {k : Key} {y : Option ℕ} {p q : Showing} {a b : Visitor} {r : Result (Unit {0}) Refusal} →
-    Entered e (Field k y p) a b r → ((f : Forest) → p f → q f) → Visited false (Field k y q) AnyEffect a b r
-visited_inside h up = visited_as (entered_loosely h)
-    (means_field refl refl (loosely up))
+-- The value of a cell that always lends it is some value.
+pub means_value : {T : Type 0} {k : Key} {z : Option ℕ} {p : T → Showing} (x : T) → k ≡ codes "data" →
+    Means false (Field k z (p x)) (some_value z p)
+means_value x e = rw e (loosely (λ f v. is_value x v))
 
--- A cell that always lends its value shows some value.
-pub visited_value : {T : Type 0} {e : Bool} {k : Key} {y z : Option ℕ} {p : T → Showing} (x : T) {a b : Visitor}
-    {r : Result (Unit {0}) Refusal} → Entered e (Field k y (Field (codes "data") z (p x))) a b r →
-    Visited false (Field k y (some_value z p)) AnyEffect a b r
-visited_value x h = visited_inside h (λ f v. is_value x v)
+-- A value that can be had is the inside of a cell or a lock.
+pub means_had : {T : Type 0} {k : Key} {z : Option ℕ} {p : T → Showing} (x : T) → k ≡ codes "data" →
+    Means false (Field k z (p x)) (cell_inside z p)
+means_had x e = rw e (loosely (λ f v. is_had x v))
 
--- A cell whose value can be had shows some value.
-pub visited_had : {T : Type 0} {e : Bool} {k : Key} {y z : Option ℕ} {p : T → Showing} (x : T) {a b : Visitor}
-    {r : Result (Unit {0}) Refusal} → Entered e (Field k y (Field (codes "data") z (p x))) a b r →
-    Visited false (Field k y (cell_inside z p)) AnyEffect a b r
-visited_had x h = visited_inside h (λ f v. is_had x v)
+-- A cell or a lock whose value cannot be had may have nothing inside it.
+pub means_not_had : {T : Type 0} {z : Option ℕ} {p : T → Showing} → Means false Nothing (cell_inside z p)
+means_not_had = loosely (λ f v. not_had v)
 
--- A cell whose value cannot be had shows its own entry alone.
-pub visited_not_had : {T : Type 0} {e : Bool} {k : Key} {y z : Option ℕ} {p : T → Showing} {a b : Visitor}
-    {r : Result (Unit {0}) Refusal} → Entered e (Field k y Nothing) a b r →
-    Visited false (Field k y (cell_inside z p)) AnyEffect a b r
-visited_not_had h = visited_inside h (λ f v. not_had v)
+-- The rules for cells and locks.
+pub ruleset cells = (visited_as, visited_of_strict, entered_loosely, means_field, means_value, means_had, means_not_had)

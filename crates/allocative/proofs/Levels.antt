@@ -1,15 +1,13 @@
 -- What a level shows of values of any number of levels is what a value of any number of levels shows.
-use Rattle.std.proofs.Common.{◌≡◌, ℕ, Bool, true, false, codes, zero, suc, ◌+◌, ◌-◌, List, [], ◌∷◌, Option, None, Some}
+use Rattle.std.proofs.Common.{◌≡◌, ℕ, Bool, false, zero, suc, ◌+◌, List, [], ◌∷◌, None, Some}
 use Rattle.std.proofs.Common.{refl, arith, subst, sym}
-use Rattle.allocative.proofs.Common.{Key, Forest, Showing, Field, sized, each_shows, InsideAs, Both, buffer_shows}
-use Rattle.allocative.proofs.Common.{bytes_shown, without_size, without_room, with_room, in_any_order, IsDeclared}
-use Rattle.allocative.proofs.Common.{ShowsContents, Means, levels_shown}
+use Rattle.allocative.proofs.Common.{Forest, Showing, sized, each_shows, Both, without_size, without_room, with_room}
+use Rattle.allocative.proofs.Common.{in_any_order, IsDeclared, ShowsContents, Means, levels_shown}
 use Rattle.std.proofs.Math.Nat.{add_comm}
-use Rattle.std.proofs.lemmas.Bool.{false≢true}
-use Rattle.allocative.specs.StdShows.{option_inside}
 use Rattle.allocative.specs.Levels.{Level, plain, child, both, inside, unique, field, buffer, optional, each, unordered}
 use Rattle.allocative.specs.Levels.{level_shows, recursive, opened}
-use Rattle.allocative.proofs.Meaning.{means_same, means_inside, means_unique, means_field, means_both}
+use Rattle.allocative.proofs.Meaning.{means_same, means_inside, means_unique, means_field, means_both, means_then}
+use Rattle.allocative.proofs.Meaning.{loosely}
 use Rattle.allocative.proofs.ContainerMeaning.{means_buffer}
 
 -- ---- when p allows less than q
@@ -27,12 +25,6 @@ means_unordered m xs = record {
   declared = λ h d. let y = (means_each m d.1.0).declared h (d.0, d.1.2, d.2) in (y.0, (d.1.0, d.1.1, y.1), y.2);
 }
 
--- If p means q at each value, an optional value shown by p means the same one shown by q.
-pub means_optional : {A : Type 0} {e : Bool} (y : Option ℕ) {p q : A → Showing} → ((x : A) → Means e (p x) (q x)) →
-    (o : Option A) → Means e (option_inside y p o) (option_inside y q o)
-means_optional y m None = means_same
-means_optional y m (Some x) = means_field refl refl (m x)
-
 -- If p means q at each child, a level whose children p shows means the level whose children q shows.
 means_level : {T : Type 0} {e : Bool} {p q : T → Showing} → ((x : T) → Means e (p x) (q x)) → (l : Level T) →
     Means e (level_shows p l) (level_shows q l)
@@ -43,7 +35,8 @@ means_level m (inside k n a) = means_inside refl (means_level m a)
 means_level m (unique k n a) = means_unique refl (means_level m a)
 means_level m (field k size a) = means_field refl refl (means_level m a)
 means_level m (buffer size a n capacity) = means_buffer refl refl refl (means_level m a)
-means_level m (optional size w o) = means_optional size (λ x. means_level m (w x)) o
+means_level m (optional size w None) = means_same
+means_level m (optional size w (Some x)) = means_field refl refl (means_level m (w x))
 means_level m (each w xs) = means_each (λ x. means_level m (w x)) xs
 means_level m (unordered w xs) = means_unordered (λ x. means_level m (w x)) xs
 
@@ -51,7 +44,7 @@ means_level m (unordered w xs) = means_unordered (λ x. means_level m (w x)) xs
 -- Each forest of a value of at most k levels is one of at most k + 1 levels.
 levels_step : {T : Type 0} (w : T → Level T) (k : ℕ) (x : T) →
     Means false (levels_shown w k x) (levels_shown w (suc k) x)
-levels_step w zero x = record { means = λ f y. absurd y; declared = λ h d. absurd (false≢true h) }
+levels_step w zero x = loosely (λ f y. absurd y)
 levels_step w (suc k) x = means_level (levels_step w k) (w x)
 
 -- Each forest of a value of at most k levels is one of at most k + j levels.
@@ -60,22 +53,12 @@ levels_more : {T : Type 0} (w : T → Level T) (k j : ℕ) (x : T) →
 levels_more w k zero x = let e : k + 0 ≡ k = omega arith in rw e means_same
 levels_more w k (suc j) x =
     let e : k + suc j ≡ suc (k + j) = omega arith in
-    rw e (record { means = λ f y. (levels_step w (k + j) x).means f ((levels_more w k j x).means f y); declared = λ h d. absurd (false≢true h) })
+    rw e (means_then (levels_more w k j x) (levels_step w (k + j) x))
 
 -- ---- one number of levels is enough for all parts
 -- The parts of q, each with some number of levels.
 abbrev Found : (ℕ → Showing) → Showing → Type 0
 Found p q = (f : Forest) → q f → (k : ℕ) × p k f
-
--- If each forest of q has some number of levels, so has each forest of an entry with q inside it.
-inside_found : (u : Bool) (k : Key) (n : ℕ) {p : ℕ → Showing} {q : Showing} → Found p q →
-    Found (λ i. InsideAs u k n (p i)) (InsideAs u k n q)
-inside_found u k n s f (g, x, e) = let m = s g x in (m.0, (g, m.1, e))
-
--- If each forest of q has some number of levels, so has each forest of a field with q inside it.
-field_found : (k : Key) (y : Option ℕ) {p : ℕ → Showing} {q : Showing} → Found p q →
-    Found (λ i. Field k y (p i)) (Field k y q)
-field_found k y s f (sized {n} x) = let m = inside_found false k n s f x in (m.0, sized m.1)
 
 -- If each forest of q and of s has some number of levels, and more allow more, so has each forest of both.
 both_found : {p r : ℕ → Showing} {q s : Showing} → ((k j : ℕ) → Means false (p k) (p (k + j))) →
@@ -84,17 +67,6 @@ both_found more_p more_r a b f (g, h, x, y, e) =
     let m = a g x in
     let n = b h y in
     (m.0 + n.0, (g, h, (more_p m.0 n.0).means g m.1, rw (add_comm m.0 n.0) ((more_r n.0 m.0).means h n.1), e))
-
--- If each forest of q has some number of levels, and more allow more, so has each forest of a buffer of q.
-buffer_found : (y : Option ℕ) (n c : ℕ) {p : ℕ → Showing} {q : Showing} → ((k j : ℕ) → Means false (p k) (p (k + j))) →
-    Found p q → Found (λ k. buffer_shows y (p k) n c) (buffer_shows y q n c)
-buffer_found y n c more s f (without_size i e) = (0, without_size i e)
-buffer_found y n c more s f (without_room i h r e) = (0, without_room i h r e)
-buffer_found y n c {q = q} more found f (with_room i l h x) =
-    let unused = bytes_shown (codes "unused_capacity") y (c - n) in
-    let m = inside_found true (codes "ptr") 8
-    (both_found {r = λ k. unused} {q = q} {s = unused} more (λ k j. means_same) found (λ f z. (0, z))) f x in
-    (m.0, with_room i l h m.1)
 
 -- If each forest of an item has some number of levels, and more allow more, so has each forest of a list.
 each_found : {A : Type 0} {p : ℕ → A → Showing} {q : A → Showing} →
@@ -105,13 +77,6 @@ each_found {p = p} more s (x ∷ xs) f y =
     both_found {p = λ k. p k x} {r = λ k. each_shows (p k) xs} (λ k j. more k j x) (λ k j. means_each (more k j) xs)
     (s x) (each_found more s xs) f y
 
--- If each forest of a value has some number of levels, so has each forest of an optional value.
-optional_found : {A : Type 0} (y : Option ℕ) {p : ℕ → A → Showing} {q : A → Showing} →
-    ((x : A) → Found (λ k. p k x) (q x)) →
-    (o : Option A) → Found (λ k. option_inside y (p k) o) (option_inside y q o)
-optional_found y s None f e = (0, e)
-optional_found y s (Some x) f e = field_found (codes "Some") y (s x) f e
-
 -- In each forest of a level with children of any number of levels, one number of levels is enough for all of them.
 level_found : {T : Type 0} (w : T → Level T) (l : Level T) →
     Found (λ k. level_shows (levels_shown w k) l) (level_shows (recursive w) l)
@@ -119,22 +84,21 @@ level_found w (plain s) f y = (0, y)
 level_found w (child x) f y = (y.depth, y.shown)
 level_found w (both a b) f y = both_found (λ k j. means_level (levels_more w k j) a)
     (λ k j. means_level (levels_more w k j) b) (level_found w a) (level_found w b) f y
-level_found w (inside k n a) f y = inside_found false k n (level_found w a) f y
-level_found w (unique k n a) f y = inside_found true k n (level_found w a) f y
-level_found w (field k size a) f y = field_found k size (level_found w a) f y
-level_found w (buffer size a n c) f y = buffer_found size n c (λ k j. means_level (levels_more w k j) a)
-    (level_found w a) f y
-level_found w (optional size v o) f y = optional_found size (λ x. level_found w (v x)) o f y
+level_found w (inside k n a) f (g, y, e) = let m = level_found w a g y in (m.0, (g, m.1, e))
+level_found w (unique k n a) f (g, y, e) = let m = level_found w a g y in (m.0, (g, m.1, e))
+level_found w (field k size a) f (sized (g, y, e)) = let m = level_found w a g y in (m.0, sized (g, m.1, e))
+level_found w (buffer size a n c) f (without_size i e) = (0, without_size i e)
+level_found w (buffer size a n c) f (without_room i h r e) = (0, without_room i h r e)
+level_found w (buffer size a n c) f (with_room i l h (g, (items, unused, y, u, d), e)) =
+    let m = level_found w a items y in (m.0, with_room i l h (g, (items, unused, m.1, u, d), e))
+level_found w (optional size v None) f y = (0, y)
+level_found w (optional size v (Some x)) f (sized (g, y, e)) =
+    let m = level_found w (v x) g y in (m.0, sized (g, m.1, e))
 level_found w (each v xs) f y = each_found (λ k j x. means_level (levels_more w k j) (v x)) (λ x. level_found w (v x))
     xs f y
 level_found w (unordered v xs) f y =
     let m = each_found (λ k j x. means_level (levels_more w k j) (v x)) (λ x. level_found w (v x)) y.0 f y.2 in
     (m.0, (y.0, y.1, m.1))
-
--- A forest of one level of a value, whose children have any number of levels, is a forest of the value.
-one_level_more : {T : Type 0} (w : T → Level T) (x : T) (f : Forest) → level_shows (recursive w) (w x) f →
-    recursive w x f
-one_level_more w x f y = let m = level_found w (w x) f y in record { depth = suc m.0; shown = m.1 }
 
 -- What has a number of levels has one level more than its parts.
 one_level : {T : Type 0} (w : T → Level T) (x : T) → IsDeclared (recursive w x) →
@@ -146,14 +110,16 @@ one_level w x (f, y, s) = by_depth y.depth f y.shown s
     by_depth zero f z c = absurd z
     by_depth (suc k) f z c =
         let up : (v : _) → Means false (levels_shown w k v) (recursive w v) =
-        λ v. record { means = λ g h. record { depth = k; shown = h }; declared = λ h d. absurd (false≢true h) } in
+        λ v. loosely (λ g h. record { depth = k; shown = h }) in
         (f, (means_level up (w x)).means f z, c)
 
 -- What means one level of a value, whose children have any number of levels, means the value.
 pub means_recursive : {T : Type 0} {e : Bool} {w : T → Level T} {x : T} {p : Showing} →
     Means e p (level_shows (recursive w) (w x)) → Means e p (recursive w x)
-means_recursive {w = w} {x = x} m =
-    record { means = λ f y. one_level_more w x f (m.means f y); declared = λ h d. m.declared h (one_level w x d) }
+means_recursive {w = w} {x = x} m = record {
+  means = λ f y. let k = level_found w (w x) f (m.means f y) in record { depth = suc k.0; shown = k.1 };
+  declared = λ h d. m.declared h (one_level w x d);
+}
 
 -- What means one level of what `out` opens means the value t whose level it is.
 pub means_opened : {T A O : Type 0} {e : Bool} {w : T → Level T} {t : T} (out : A → O) (v : O → Level T) {x : A} {o : O}

@@ -5,7 +5,7 @@ use Rattle.allocative.proofs.Common.{Restore, Yields, Refusal, TooLarge, Key, Id
 use Rattle.allocative.proofs.Common.{Summing, count_entry, entry_bytes, ExceedsSum, State, Failed, Going, close_entry}
 use Rattle.allocative.proofs.Common.{HasFailed, OpensEntry, stays_failed, is_refused, is_entered, RefusesSized}
 use Rattle.allocative.proofs.Common.{OpensShared, stays_shared, is_refused_shared, is_too_large_shared, counts}
-use Rattle.allocative.proofs.Common.{enters_first, enters_again, ClosesEntry, Nothing, Inside, Field, already}
+use Rattle.allocative.proofs.Common.{enters_first, enters_again, ClosesEntry, Nothing, Field, already}
 use Rattle.allocative.proofs.Common.{FailsOnlyIfFull, Entered, Visitor, with_state, Plan, Done, Entry, Makes, MakesPlan}
 use Rattle.allocative.proofs.Common.{made_none, made, entry_refused, inside_refused, makes, gives, one, Showing}
 use Rattle.std.proofs.lemmas.Bool.{false≢true}
@@ -17,7 +17,6 @@ use Rattle.allocative.specs.Making.{followed_by_plan, had_failed, KeepsFailure, 
 use Rattle.allocative.specs.Strict as refuses
 use Rattle.allocative.proofs.Strict.{only_if_full_nothing, only_if_full_field, only_if_full_not_field}
 use Rattle.allocative.proofs.Visits.{adds_nothing, adds_field, not_entered, not_entered_cause, refuses_entry}
-use Rattle.allocative.proofs.Meaning.{entered_inline}
 
 -- ---- what was made goes on, and what was refused has failed
 abbrev pub is_going : State → Bool
@@ -42,10 +41,6 @@ makes_failed (made g i l a) = makes_failed a
 makes_failed (entry_refused g) = not_entered_cause g
 makes_failed (inside_refused g m) = makes_failed m
 
--- Closing an entry leaves a failed collector as it is.
-pub failed_closed : {o : Restore} {c d : State} {e : Refusal} → HasFailed c e → ClosesEntry o c d → d ≡ c
-failed_closed {o} h l = l.closes ∙ ap (close_entry o) h ∙ sym h
-
 -- ---- one entry
 -- After an inline entry was opened, making nothing inside it returns Ok.
 pub nothing_inside : {k : Key} {size : Option ℕ} {s t : State} {o : Restore} (u : Unit) →
@@ -59,11 +54,6 @@ pub makes_entry : {k : Key} {size : Option ℕ} {inside : Plan} {s t c d : State
 makes_entry {c = c} {o = o} {x = x} g m l e =
     rw (l.closes, e) (made g m (record { closes = refl }) (going_closed o c x (goes_on m)))
 
--- An entry with nothing inside it.
-stays_in : {k : Key} {size : Option ℕ} {s : State} {o : Restore} {r : Refusal} →
-    OpensEntry false k size s (Ok o) (Failed r) → ⊥
-stays_in g = false≢true (goes_on (nothing_inside tt g))
-
 -- Making one entry of a declared size, whatever it returns, enters a field with nothing inside it.
 pub entered_alone_sized : {x : Bool} {k : Key} {size : Option ℕ} {a : Visitor} {t : State} {r : Result Unit Refusal} →
     Makes (one k size) a.collector.now r t → Entered x (Field k size Nothing) a (with_state a t) r
@@ -72,18 +62,15 @@ entered_alone_sized {a = a} (made g made_none l made_none) =
     record { same_reference = refl; same_outer = refl; shown = adds_field g refl (adds_nothing _ tt) l refl; cause = tt; only_if_full = λ y. only_if_full_field g (only_if_full_nothing _ tt) l }
 entered_alone_sized (made g made_none l had_failed) = absurd (cc l.closes)
 entered_alone_sized (entry_refused g) = record { same_reference = refl; same_outer = refl; shown = not_entered g; cause = not_entered_cause g; only_if_full = λ y. only_if_full_not_field g }
-entered_alone_sized (inside_refused g had_failed) = absurd (stays_in g)
-
--- Making one entry of n bytes, whatever it returns, enters an inline entry with nothing inside it.
-pub entered_alone : {x : Bool} {k : Key} {n : ℕ} {a : Visitor} {t : State} {r : Result Unit Refusal} →
-    Makes (one k (Some n)) a.collector.now r t → Entered x (Inside k n Nothing) a (with_state a t) r
-entered_alone m = entered_inline (entered_alone_sized m)
+entered_alone_sized (inside_refused g had_failed) = absurd (false≢true (goes_on (nothing_inside tt g)))
 
 -- If an inline entry is opened, a plan is made inside it, and it is closed, the entry with the plan is made.
 pub makes_within : {k : Key} {size : Option ℕ} {inside : Plan} {o : Restore} {s t c d : State} {r : Result Unit Refusal} →
     OpensEntry false k size s (Ok o) t → Makes inside t r c → ClosesEntry o c d → Makes (Entry k size inside Done) s r d
 makes_within {r = Ok v} g m e = makes_entry g m e refl
-makes_within {r = Err x} g m e = rw (failed_closed (makes_failed m) e) (inside_refused g m)
+makes_within {o = o} {r = Err x} g m e =
+    let h = makes_failed m in
+    rw (e.closes ∙ ap (close_entry o) h ∙ sym h) (inside_refused g m)
 
 -- If a call inside an entry makes no entry or is given an item, it makes that one entry or is given an item.
 pub gives_within : {S A : Type 0} {steps : S → Option A → S → Type 0} {x : S} {k : Key} {n : ℕ} {o : Restore}
@@ -168,16 +155,6 @@ pub opens_entered : {u : Bool} {k : Key} {y : Option ℕ} (n : ℕ) (b c : Kind)
 opens_entered n b c e i h f g j = rw (e, i, j) (is_entered h f g)
 
 -- ---- making an entry
--- Making an entry in a failed collector returns its cause and leaves it as it is.
-pub makes_failed_entry : {k : Key} {y : Option ℕ} {s t : State} {r : Refusal} → s ≡ Failed r → t ≡ Failed r →
-    Makes (one k y) s (Err r) t
-makes_failed_entry i j = rw (i, j) had_failed
-
--- Making an entry may return an error that `RefusesSized` allows if the collector fails with that error.
-pub makes_refused_entry : {k : Key} {y : Option ℕ} (b : Kind) {s t : State} {e : Refusal} → s ≡ Going b →
-    RefusesSized false y b e → t ≡ Failed e → Makes (one k y) s (Err e) t
-makes_refused_entry b i h j = entry_refused (opens_refused b i h j)
-
 -- Making an entry that has room adds it, closes it, and returns Ok.
 pub makes_one : {k : Key} {y : Option ℕ} (n : ℕ) (b c : Kind) {u : Unit} {s t : State} → y ≡ Some n → s ≡ Going b →
     HasRoom false n b → c ≡ leave (outer_of n b) (enter false k n b) → t ≡ Going c → Makes (one k y) s (Ok u) t
@@ -223,4 +200,4 @@ shared_met c d true i r m j = rw (i, j) (enters_first r m.0 m.1)
 shared_met c d false i r m j = rw (i, j) (enters_again r m.0 m.1)
 
 -- The rules for the collector's own calls.
-pub ruleset opening = (opens_failed, opens_refused, opens_entered, makes_failed_entry, makes_refused_entry, makes_one, none_failed, none_made, shared_failed, shared_counted, shared_too_large, shared_refused, shared_met, refuses_entry)
+pub ruleset opening = (opens_failed, opens_refused, opens_entered, entry_refused, makes_one, none_failed, none_made, shared_failed, shared_counted, shared_too_large, shared_refused, shared_met, refuses_entry)

@@ -96,17 +96,11 @@ means_both m l = record {
   declared = λ h d. declared_both (m.declared h (declared_first d)) (l.declared h (declared_second d));
 }
 
--- If p means q, each forest of a shared entry of p is a forest of the same shared entry of q.
-shared_as : (k : Key) (n : ℕ) (i : Identity) {x : Bool} {p q : Showing} → Means x p q → (f : Forest) →
-    Shared k n i p f → Shared k n i q f
-shared_as k n i m f (inl (g, a, e)) = inl (g, m.means g a, e)
-shared_as k n i m f (inr e) = inr e
-
 -- If p means q, a shared entry of p means the shared entry of q with an equal key and identity.
 pub means_shared : {x : Bool} {k j : Key} {n : ℕ} {i l : Identity} {p q : Showing} → k ≡ j → i ≡ l → Means x p q →
     Means x (Shared k n i p) (Shared j n l q)
 means_shared {j = j} {n = n} {l = l} e h m = rw (e, h) (record {
-  means = λ f a. shared_as j n l m f a;
+  means = λ f a. elim a [ inl b ↦ inl (b.0, m.means b.0 b.1, b.2) | inr e ↦ inr e ];
   declared = λ i d. declared_shared j n l (m.declared i (declared_content j n l d));
 })
 

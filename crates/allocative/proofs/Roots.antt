@@ -1,16 +1,16 @@
 -- What a visit by a root visitor amounts to.
-use Rattle.std.proofs.Common.{◌≡◌, ℕ, suc, ◌+◌, ◌<◌, ◌≤◌, ◌^◌, inr, Option, Some, None, List, length}
+use Rattle.std.proofs.Common.{◌≡◌, ℕ, suc, ◌+◌, ◌<◌, ◌^◌, inr, List, length}
 use Rattle.std.proofs.Common.{take, get_or, Bool, IsTrue, Result, Ok, Err, IsErr, refl, ap, sym, subst, ◌∙◌, arith, inl}
 use Rattle.std.proofs.Common.{IfOk, IfErr, [], ◌∷◌, ◌++◌, drop, take-append-drop, true, false}
-use Rattle.allocative.proofs.Common.{Restore, Refusal, TooLarge, Forest, followed_by, add_all, held, ShowsNoContent, Kind}
+use Rattle.allocative.proofs.Common.{Restore, Refusal, Forest, followed_by, add_all, held, ShowsNoContent, Kind}
 use Rattle.allocative.proofs.Common.{OfGraph, OfSum, State, Failed, Going, leave, plus, Takes, visitors}
 use Rattle.allocative.proofs.Common.{is_graph, begin, outer_of, close_entry, nothing_held, Showing, Both}
 use Rattle.allocative.proofs.Common.{each_shows, AddsForest, refused, hidden, forgotten, OpensRoot, Settles, VisitsRoot}
 use Rattle.allocative.proofs.Common.{Profile, IsProfileOf, IsSum, MayRefuse, FailsOnlyIfFull, has_added}
 use Rattle.allocative.proofs.Common.{has_refused, RootFailsOnlyIfFull, ClosesEntry, all_bytes, HasRoomFor, CanTake}
-use Rattle.allocative.specs.SizeOf.{AnswersSize, AnswersVisit, AnswersVisitOf}
+use Rattle.allocative.specs.SizeOf.{AnswersVisitOf}
 use Rattle.allocative.specs.RefusedVisits.{RefusesVisit, RefusesVisits}
-use Rattle.allocative.proofs.Visits.{err_or, same_err, each_and_one}
+use Rattle.allocative.proofs.Visits.{err_or, same_err}
 use Rattle.allocative.specs.Visited.{Effect, WasVisited, VisitsRootWithEffect, not_begun, root_visited}
 use Rattle.allocative_graph.specs.Forest.{met_after, Fits, own, all}
 use Rattle.allocative_graph.specs.Sums.{sums_of}
@@ -22,7 +22,8 @@ use Rattle.allocative_graph.specs.Visits.{added, Ends, IsProfile, IsSumOfTwo}
 use Rattle.allocative_graph.proofs.Plus.{plus-following, takes_both, visitors-leave, closed-visitors, closed-plus}
 use Rattle.allocative_graph.proofs.Plus.{figure_after-zero, figure_after-none}
 use Rattle.allocative_graph.proofs.Plus.{is_graph-plus, is_graph-leave, is_graph-begin}
-use Rattle.allocative.proofs.Strict.{bytes_entered-plus, can_first, can_second, may_refuse, each_append, declared_append}
+use Rattle.allocative.proofs.Strict.{bytes_entered-plus, can_first, can_second, may_refuse, each_append, each_one}
+use Rattle.allocative.proofs.Strict.{declared_append}
 use Rattle.allocative_graph.proofs.Showings.{all_is_meaning, reaches_exactly}
 use Rattle.allocative_graph.proofs.Showings.{one_sums}
 use Rattle.allocative_graph.proofs.Showings.{whole_following, graphs_add}
@@ -136,26 +137,6 @@ pub visit_refused : {T : Type 0} {z : Kind} {p : Showing} {effect : Effect} {ans
     IsErr r → e ≡ err_or e r → AnswersVisitOf z p effect answers r
 visit_refused closed v is up h i = rw (same_err _ h i) (visit_answered closed v is up)
 
--- If the visit returns Ok and there is no declared size, the size is refused with TooLarge.
-pub size_not_there : {p : Showing} {effect : Effect} {size : Option ℕ} {s t : State} {u : Unit} (n : ℕ) →
-    VisitsRootWithEffect p effect s t (Ok u) → s ≡ Going (OfSum nothing_held) → IsSum t n → size ≡ None →
-    AnswersVisit p effect (AnswersSize size) (Err TooLarge)
-size_not_there n v is h y =
-    visit_answered (refl, tt) v is (λ k. inr (n, (k, h), refl, λ own z. absurd (cc)))
-
--- If held bytes and declared size together do not fit a word, the size is refused with TooLarge.
-pub size_too_large : {p : Showing} {effect : Effect} {size : Option ℕ} {s t : State} {u : Unit} (n : ℕ) {own : ℕ} →
-    VisitsRootWithEffect p effect s t (Ok u) → s ≡ Going (OfSum nothing_held) → IsSum t n → size ≡ Some own →
-    2 ^ 64 ≤ n + own → AnswersVisit p effect (AnswersSize size) (Err TooLarge)
-size_too_large n {own = own} v is h y l = visit_answered (refl, tt) v is (λ k. inr (
-  n,
-  (k, h),
-  refl,
-  λ x z.
-      let same : own ≡ x = cc in
-      rw (← same) l,
-))
-
 -- A root is refused with what a collector in this state refuses, or with what its visit left.
 pub root_refused : {p : Showing} {effect : Effect} (s t : State) (r : Result Unit Refusal) → VisitsRoot p s r t →
     VisitsRootWithEffect p effect s t r → IfErr r (RefusesVisit p effect s)
@@ -182,7 +163,8 @@ pub visits_one_more : {T : Type 0} (p : T → Showing) (xs : List T) (i : ℕ) (
     VisitsRoot (each_shows p (take (i + 1) xs)) s (Ok w) t
 visits_one_more p xs i x s m t u v w f g h e =
     let e' = take_more xs i x h in
-    rw (e', ← e) (visits_joined s m t u v w (each_and_one p (take i xs) x) f g)
+    rw (e', ← e) (visits_joined s m t u v w
+    (λ h y. each_append p (take i xs) (x ∷ []) h (y.0, y.1, y.2, each_one p x y.1 y.3, y.4)) f g)
 
 -- ---- a root that is refused after others
 -- Entries that are added with a root visitor open take as much room as without it.

@@ -2,7 +2,7 @@
 use Rattle.std.proofs.Common.{Bool, false, true, ℕ, zero, suc, codes, ◌+◌, ◌*◌, ◌<◌, ◌^◌, length, filter_map, cond}
 use Rattle.std.proofs.Common.{count_by, is_some, arith, ◌⊎◌, inl, inr, List, [], ◌∷◌, ◌++◌, map, ◌≡◌, Option, None}
 use Rattle.std.proofs.Common.{Some, Result, Ok, Err, refl, sym, ◌∙◌, ap, subst}
-use Rattle.allocative.proofs.Common.{Restore, Yields, Refusal, Key, Forest, Kind, State, Showing, Nothing, Both, InsideAs}
+use Rattle.allocative.proofs.Common.{Restore, Yields, Refusal, Key, Forest, Kind, State, Showing, Nothing, Both}
 use Rattle.allocative.proofs.Common.{Inside, Field, each_shows, slice_shows, OpensEntry, checked, size_product}
 use Rattle.allocative.proofs.Common.{are_shown_each, bytes_shown, CountsRun, in_any_order, Visitor, IsDeclared, CanTake}
 use Rattle.allocative.proofs.Common.{FailsOnlyIfFull, with_state, Entered, Means, ClosesEntry}
@@ -20,11 +20,11 @@ use Rattle.allocative.proofs.Meaning.{entered_if, entered_as, entered_both, ente
 use Rattle.allocative.proofs.Meaning.{strict_same}
 use Rattle.allocative.specs.Making.{EntersRun, EntersData, MakesPlanOrGives, Done, first_refused, first_entered}
 use Rattle.allocative.proofs.Strict.{declared_nothing, declared_first, declared_second, declared_both, declared_append}
-use Rattle.allocative.proofs.Strict.{each_append, each_one, entry_fits, not_strict, only_if_full_as, only_if_full_within}
+use Rattle.allocative.proofs.Strict.{each_append, each_one, entry_fits, not_strict, only_if_full_as, only_if_full_inside}
 use Rattle.allocative.proofs.Strict.{only_if_full_not_within}
 use Rattle.allocative.proofs.Visits.{adds_inline, adds_weaker, entry_err, close_cause, not_entered, not_entered_cause}
 use Rattle.allocative.proofs.Making.{gives_within, gives_refused}
-use Rattle.allocative.proofs.ContainerMeaning.{plain_slice, each_slice, entry_declared, checked_fits, none_of_it}
+use Rattle.allocative.proofs.ContainerMeaning.{plain_slice, slice_is_each, entry_declared, checked_fits, none_of_it}
 
 -- Items in two runs are the items one after another.
 means_append : {T : Type 0} {d : Bool} (p : T → Showing) (xs ys : List T) →
@@ -52,12 +52,6 @@ entered_run xs d h = entered_if h strict_never (loosely (λ f g. record { given 
 same_items : {S A B : Type 0} {steps : S → Option A → S → Type 0} {s : S} {v : A → B} (xs : List A) {ys : List B} →
     Drains steps s xs → YieldsList steps v s ys → map v xs ≡ ys
 same_items xs d y = items_from_drains xs (d.1.0, d.1.1, λ _. (d.0, d.1.2)) y
-
--- If every run gives the same list, what is shown of some whole run is shown of that list.
-of_list : {S A B : Type 0} {steps : S → Option A → S → Type 0} {s : S} {v : A → B} {q : List B → Showing}
-    {all : List B} →
-    YieldsList steps v s all → (f : Forest) → IsOfRun steps s v q f → q all f
-of_list {q = q} y f o = subst (λ ys. q ys f) (same_items o.given o.drained y) o.shown
 
 -- If a whole run's items were entered, the strict visit of a list that every run gives refuses only if it must.
 pub along_run : {S A B : Type 0} {e : Bool} {steps : S → Option A → S → Type 0} {s : S} {v : A → B}
@@ -93,13 +87,6 @@ along_refused steps {s = s} t {v} {p} {x} xs is g n f z = record {
       rw (← split.1) ((entered_as both (means_append p (map v xs) (v x ∷ split.0))).only_if_full i);
 }
 
--- What is entered inside an entry.
-pub along_within : {S A B : Type 0} {u e : Bool} {steps : S → Option A → S → Type 0} {s : S} {v : A → B}
-    {q : List B → Showing} {k : Key} {n : ℕ} {o : Restore} {a b : Visitor} {t d : State} {r : Result (Unit {0}) Refusal} →
-    OpensEntry u k (Some n) a.collector.now (Ok o) t → RefusesAlong e steps s v q (with_state a t) b r →
-    ClosesEntry o b.collector.now d → RefusesAlong e steps s v (λ ys. InsideAs u k n (q ys)) a (with_state b d) r
-along_within g h e = record { along = λ i ys y. only_if_full_within g (h.along i ys y) e }
-
 -- An entry is entered with what is entered inside it, once it is left.
 entered_within : {p : Showing} {k : Key} {n : ℕ} {o : Restore} {a b : Visitor} {t d : State}
     {r : Result (Unit {0}) Refusal} →
@@ -130,7 +117,7 @@ pub data_entered : {S A B : Type 0} {e : Bool} {steps : S → Option A → S →
     EntersData e steps s v p a (with_state b d) r
 data_entered g h f m l = record {
   entered = entered_within g h l;
-  only_if_full = along_within g f l;
+  only_if_full = record { along = λ i ys y. only_if_full_inside g (f.along i ys y) l };
   first = first_entered g;
   plan = gives_within g m l;
 }
@@ -141,10 +128,10 @@ pub entered_list : {S A B : Type 0} {d e : Bool} {steps : S → Option A → S �
     {q : List B → Showing} {all : List B} {a b : Visitor} {r : Result (Unit {0}) Refusal} →
     YieldsList steps v s all → Entered e (IsOfRun steps s v q) a b r → RefusesAlong d steps s v q a b r →
     Entered d (q all) a b r
-entered_list {q = q} {all = all} y h k = record {
+entered_list {steps = steps} {s = s} {v = v} {q = q} {all = all} y h k = record {
   same_reference = h.same_reference;
   same_outer = h.same_outer;
-  shown = adds_weaker (of_list {q = q} y) h.shown;
+  shown = adds_weaker (λ f (o : IsOfRun steps s v q f). subst (λ ys. q ys f) (same_items o.given o.drained y) o.shown) h.shown;
   cause = h.cause;
   only_if_full = λ i. k.along i all y.runs;
 }
@@ -204,8 +191,11 @@ pub items_run : {S A T : Type 0} {e : Bool} {steps : S → Option A → S → Ty
     are_shown_each needs_drop size ≡ true → Entered e (IsOfRun steps s v (each_shows p)) a b r →
     Entered false (IsOfRun steps s v (slice_shows name size needs_drop p)) a b r
 items_run {steps = steps} {s = s} v name size needs_drop p e h =
-    entered_if h strict_never (loosely (λ f (o : IsOfRun steps s v (each_shows p) f).
-    record { given = o.given; drained = o.drained; shown = each_slice name size needs_drop p (map v o.given) e f o.shown }))
+    entered_if h strict_never (loosely (λ f (o : IsOfRun steps s v (each_shows p) f). record {
+      given = o.given;
+      drained = o.drained;
+      shown = subst (λ q. q f) (slice_is_each name size needs_drop p (map v o.given) e) o.shown;
+    }))
 
 -- ---- what a counted slice refuses
 -- If a product fits a word, so does its second factor, provided that it does when the first is 0.

@@ -8,8 +8,8 @@ use Rattle.allocative.proofs.Common.{failed_with, Showing, Nothing, Both, Inside
 use Rattle.allocative.proofs.Common.{Shared, each_shows, HasFailed, OpensEntry, stays_failed, is_refused}
 use Rattle.allocative.proofs.Common.{is_entered, OpensShared, stays_shared, is_refused_shared, enters_first}
 use Rattle.allocative.proofs.Common.{enters_again, all_bytes, HasRoomFor, ShowsContents, IsDeclared, CanTake, MayRefuse}
-use Rattle.allocative.proofs.Common.{FailsOnlyIfFull, has_added, has_refused, ClosesEntry, Summing, is_too_large_shared}
-use Rattle.allocative.proofs.Common.{counts, entry_bytes}
+use Rattle.allocative.proofs.Common.{FailsOnlyIfFull, has_added, has_refused, ClosesEntry, is_too_large_shared}
+use Rattle.allocative.proofs.Common.{counts}
 use Rattle.std.proofs.lemmas.Bool.{false≢true, and_parts}
 use Rattle.std.proofs.lemmas.Grind.{flat_map-append}
 use Rattle.allocative_graph.specs.declared.refusal.Refusal.TheVariants.{Open}
@@ -185,17 +185,6 @@ can_content k n i c (d, room) = (
       omega (arith, h, bytes_entered-plus c (First k n i Empty Empty)),
 )
 
--- If the collector of a flame graph can take a shared entry, the pointer's bytes exceed no bound.
-can_pointer : {p : Showing} (k : Key) (n : ℕ) (i : Identity) (c : Live) → CanTake (OfGraph c) (Shared k n i p) →
-    bytes_entered c.sums + n < 2 ^ 63
-can_pointer k n i c (d, room) = let h = room (Again k n i Empty) (inr refl) in omega (arith, h)
-
--- If the collector of a sum can take a shared entry, its sum with the pointer fits a word.
-can_count : {p : Showing} (k : Key) (n : ℕ) (i : Identity) (s : Summing) → CanTake (OfSum s) (Shared k n i p) →
-    s.sum + entry_bytes s.figure true n < 2 ^ 64
-can_count k n i s (d, room) =
-    let h = (room (Again k n i Empty) (inr refl)).0 in omega (arith, h, forest_bytes-again s.figure k n i)
-
 -- ---- why a visit may be refused
 -- If b takes p whenever c takes q, and both or neither make a graph, what may refuse p at b may refuse q at c.
 pub may_refuse : {p q : Showing} (b c : Kind) → (CanTake c q → CanTake b p) → is_graph c ≡ is_graph b → (e : Refusal) →
@@ -214,13 +203,6 @@ entry_refuses p u k n (OfSum s) e (i, inl h) =
     subst (MayRefuse (InsideAs u k n p) (OfSum s)) (sym i) (λ w. omega (arith, h, (can_entry u k n (OfSum s) w).0))
 entry_refuses p u k n (OfSum s) e (i, inr h) =
     subst (MayRefuse (InsideAs u k n p) (OfSum s)) (sym i) (λ w. omega (arith, h, (can_entry u k n (OfSum s) w).1))
-
--- If the collector of a flame graph refuses a pointer with e, a visit that shows it may be refused with e.
-pointer_refuses : (p : Showing) (k : Key) (n : ℕ) (i : Identity) (c : Live) (e : Refusal) →
-    Refuses false n (OfGraph c) e → MayRefuse (Shared k n i p) (OfGraph c) e
-pointer_refuses p k n i c e (inl (j, h)) =
-    subst (MayRefuse (Shared k n i p) (OfGraph c)) (sym j) (λ w. omega (arith, h, can_pointer k n i c w))
-pointer_refuses p k n i c e (inr (j, h)) = subst (MayRefuse (Shared k n i p) (OfGraph c)) (sym j) refl
 
 -- ---- visits
 -- A visit that shows nothing, changes nothing and returns Ok fails only if full.
@@ -404,10 +386,15 @@ only_if_full_again (enters_first r h e) is = absurd (false≢true (sym is))
 pub only_if_full_not_shared : {p : Showing} {k : Key} {n : ℕ} {i : Identity} {s t : State} {e : Refusal} →
     OpensShared k n i s (Err e) t → FailsOnlyIfFull (Shared k n i p) s (Err e) t
 only_if_full_not_shared stays_shared = had_failed
-only_if_full_not_shared {k = k} {n = n} {i = i} (is_refused_shared {c = c} {e = e} h) =
-    has_refused (pointer_refuses _ k n i c e h)
-only_if_full_not_shared {p} {k} {n} {i} (is_too_large_shared {a = a} {e = e} j h) =
-    has_refused (subst (MayRefuse (Shared k n i p) (OfSum a)) (sym j) (λ w. omega (arith, h.1, can_count k n i a w)))
+only_if_full_not_shared {p} {k} {n} {i} (is_refused_shared {c = c} (inl (j, h))) =
+    has_refused (subst (MayRefuse (Shared k n i p) (OfGraph c)) (sym j)
+    (λ w. let room = w.1 (Again k n i Empty) (inr refl) in omega (arith, h, room)))
+only_if_full_not_shared {p} {k} {n} {i} (is_refused_shared {c = c} (inr (j, h))) =
+    has_refused (subst (MayRefuse (Shared k n i p) (OfGraph c)) (sym j) refl)
+only_if_full_not_shared {p} {k} {n} {i} (is_too_large_shared {a = a} j h) =
+    has_refused (subst (MayRefuse (Shared k n i p) (OfSum a)) (sym j)
+    (λ w. let room = (w.1 (Again k n i Empty) (inr refl)).0 in
+    omega (arith, h.1, room, forest_bytes-again a.figure k n i)))
 
 -- Of a visit that is not strict nothing is asked.
 pub not_strict : {p : Showing} {a b : State} {r : Result Unit Refusal} → IsTrue false → FailsOnlyIfFull p a r b

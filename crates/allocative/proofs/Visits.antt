@@ -1,10 +1,10 @@
 -- How visits compose: one after another, and inside an entry.
-use Rattle.std.proofs.Common.{Bool, true, false, inl, inr, Option, ◌≡◌, ℕ, suc, List, [], ◌∷◌, ◌++◌, Result, Ok, Err}
+use Rattle.std.proofs.Common.{Bool, true, false, inl, inr, Option, ◌≡◌, ℕ, suc, [], Result, Ok, Err}
 use Rattle.std.proofs.Common.{refl, sym, ◌∙◌, IsErr, ap, subst, arith, Some, None}
 use Rattle.allocative.proofs.Common.{Restore, Refusal, Key, Identity, Forest, Empty, First, Again, followed_by, entry_of}
 use Rattle.allocative.proofs.Common.{Live, Kind, OfGraph, State, Failed, Going, enter, enter_first, plus, Takes}
 use Rattle.allocative.proofs.Common.{is_graph, visitors, outer_of, failed_with, close_entry, Showing, Nothing, Both}
-use Rattle.allocative.proofs.Common.{InsideAs, Inside, Unique, Field, sized, Shared, each_shows, AddsForest}
+use Rattle.allocative.proofs.Common.{InsideAs, Inside, Unique, Field, sized, Shared, AddsForest}
 use Rattle.allocative.proofs.Common.{already, refused, hidden, forgotten, HasFailed, OpensEntry, stays_failed}
 use Rattle.allocative.proofs.Common.{is_refused, is_entered, OpensShared, stays_shared, is_refused_shared}
 use Rattle.allocative.proofs.Common.{enters_first, enters_again, RefusesEntry, ClosesEntry, OfSum}
@@ -16,7 +16,6 @@ use Rattle.allocative_graph.proofs.Plus.{plus-nothing, plus-following, takes_not
 use Rattle.allocative_graph.proofs.Plus.{takes_entry, inside_first, takes_shared, counted_again}
 use Rattle.allocative_graph.proofs.Plus.{visitors-plus, visitors-enter, visitors-leave, is_graph-plus, is_graph-enter}
 use Rattle.allocative_graph.proofs.Plus.{is_graph-leave}
-use Rattle.allocative.proofs.Strict.{each_append, each_one}
 
 -- ---- one after another
 -- A visit that leaves the collector as it is and returns Ok shows no entry.
@@ -232,9 +231,3 @@ pub refuses_entry : {u : Bool} {k : Key} {y : Option ℕ} {s t : State} {e : Ref
     RefusesEntry u y s e
 refuses_entry stays_failed = refl
 refuses_entry (is_refused r) = r
-
--- ---- loops
--- A forest of items followed by one of another item is a forest of the items with that one at the end.
-pub each_and_one : {T : Type 0} (p : T → Showing) (xs : List T) (x : T) (f : Forest) → Both (each_shows p xs) (p x) f →
-    each_shows p (xs ++ x ∷ []) f
-each_and_one p xs x f (g, h, all, here, e) = each_append p xs (x ∷ []) f (g, h, all, each_one p x h here, e)

@@ -10,7 +10,7 @@ use Rattle.allocative_graph.specs.declared.refusal.Refusal.TheVariants.{TooLarge
 use Rattle.allocative_graph.specs.Path.{Key}
 use Rattle.allocative_graph.specs.Identity.{Identity}
 use Rattle.allocative_graph.specs.Sums.{bytes_entered}
-use Rattle.allocative_graph.specs.Collector.{OfGraph, OfSum, State, Failed, Going, Restore, entry_bytes, no_outer}
+use Rattle.allocative_graph.specs.Collector.{OfGraph, OfSum, State, Failed, Going, entry_bytes, no_outer}
 use Rattle.allocative_graph.specs.Visits.{OpensEntry, OpensShared, OpensRoot, RefusesEntry, Refuses, ExceedsSum}
 use Rattle.allocative.specs.declared.visitor.Visitor.{Visitor}
 use Rattle.allocative.specs.contracts.visitor.Visitor as visitor
@@ -86,18 +86,15 @@ abbrev pub LendsCollector : MutBor Visitor → MutBor State → Fml
 LendsCollector s r =
     Lends (visitor.the_row (record { mir = named 1; lft = [] })) collector.the_row s r (with_state s.now)
 
--- The visitor ends with what the nested visitor leaves of the collector or, if the entry was refused, with what
--- `opens` says. Nothing else of it changes.
-abbrev pub LendsAs : (State → Result Restore Refusal → State → Type 0) → MutBor Visitor → Result Visitor Refusal → Fml
-LendsAs opens s r =
+-- The visitor ends with what the nested visitor leaves of the collector or, if the entry was refused, with what opening
+-- it says. Nothing else of it changes.
+abbrev pub LendsNested : Bool → Key → Option ℕ → MutBor Visitor → Result Visitor Refusal → Fml
+LendsNested is_unique k size s r =
     follows_so (visitor.the_row (record { mir = named 1; lft = [] })) collector.the_row s.ghost_name
     (name_if_ok (λ v. v.collector.ghost_name) r)
     (λ w v. OnOk r (v ≡ with_state s.now w))
-    (λ v. IfErr r (λ e. opens s.now.collector.now (Err e) v.collector.now × (v ≡ with_state s.now v.collector.now)))
-
--- As `LendsAs`, of an entry of a declared size.
-abbrev pub LendsNested : Bool → Key → Option ℕ → MutBor Visitor → Result Visitor Refusal → Fml
-LendsNested is_unique k size = LendsAs (OpensEntry is_unique k size)
+    (λ v. IfErr r (λ e. OpensEntry is_unique k size s.now.collector.now (Err e) v.collector.now
+    × (v ≡ with_state s.now v.collector.now)))
 
 -- The nested visitor v is at the entry that was opened at s.
 abbrev pub Nests : Bool → Key → Option ℕ → Visitor → Visitor → Type 0

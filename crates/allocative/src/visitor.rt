@@ -159,7 +159,7 @@ impl Visitor<'_> {
         ensures entered { Entered true (Inside key size Nothing) self.old self.new result }
         ensures plan { MakesPlan (one key (Some size)) self.old self.new result }
     {
-        self.collector.enter_simple(key, Some(size))
+        self.visit_sized(key, Some(size))
     }
 
     /// What an object shows. This is the only call through the `dyn`, whose clauses callers cite. It is strict if the

@@ -1,20 +1,21 @@
 //! What the types of the crates that this one depends on show.
-ghost use Rattle.std.specs.Prelude.{◌&&◌, true, codes};
+ghost use Rattle.std.specs.FinMap.{len};
+ghost use Rattle.std.specs.Prelude.{◌≡◌, ◌-◌, ◌*◌, ◌&&◌, true, codes, Some};
+ghost use Rattle.allocative_described.specs.Sizes.{checked};
 ghost use Rattle.slab.specs.Slab.{values};
 ghost use Rattle.allocative_graph.specs.Shows as shows;
 ghost use Rattle.allocative_graph.specs.Shows.{Nothing};
-ghost use Rattle.allocative.specs.PackShows.{either_inside, index_map_inside, index_set_inside, lru_cache_inside};
-ghost use Rattle.allocative.specs.PackShows.{once_inside, slab_inside, small_vec_inside};
+ghost use Rattle.allocative.specs.PackShows.{either_inside, graph_inside, index_map_inside, index_set_inside};
+ghost use Rattle.allocative.specs.PackShows.{lru_cache_inside, once_inside, slab_inside, small_vec_inside};
 
-mod flame_graph;
 pub mod json;
 
-use crate::part::containers::{IndexData, Table};
+use crate::part::containers::Table;
 use crate::visitor::iterators::Itself;
 use crate::visitor::slices::are_shown_each;
 use crate::{
-    Allocative, Buffer, Described, Field, FieldEach, Inside, Key, Pairs, Part, Refusal, Unique,
-    Unused, Visitor, Whole,
+    Allocative, Buffer, Declared, Described, Field, FieldEach, FlameGraph, Inside, Key, Pairs,
+    Part, Refusal, Unique, Unused, Visitor, Whole,
 };
 use either::{Either, Left, Right};
 use indexmap::{IndexMap, IndexSet};
@@ -65,7 +66,7 @@ impl<
             item_size: <(K, V)>::size(),
             count: self.capacity() - self.len(),
         };
-        let data = IndexData(Pairs(self), unused);
+        let data = Unique("data", 8, (Pairs(self), unused));
         Whole(self, (data, Table(self.len()))).enter(visitor)
     }
 }
@@ -84,11 +85,12 @@ impl<T: Allocative + Described + Eq + Hash, S: BuildHasher + Described + Drop> A
             item_size: T::size(),
             count: self.capacity() - self.len(),
         };
-        let data = IndexData(FieldEach("value", self), unused);
+        let data = Unique("data", 8, (FieldEach("value", self), unused));
         Whole(self, (data, Table(self.len()))).enter(visitor)
     }
 }
 
+#[tactic(auto, using(crate::proofs::Parts::parts, crate::proofs::Parts::strict))]
 impl<
     K: Allocative + Described + Eq + Hash,
     V: Allocative + Described,
@@ -165,5 +167,26 @@ impl<T: Allocative + Described, const N: usize> Allocative for SmallVec<T, N> {
         } else {
             Whole(self, items).enter(visitor)
         }
+    }
+}
+
+/// The bytes of the nodes below the root: for each path but the root's a key of 16 bytes and a graph of 40.
+fn bytes_below(graph: &FlameGraph) -> Option<usize>
+    ensures { result ≡ checked ((len graph.now - 1) * 56) }
+{
+    let paths = graph.path_count()?;
+    paths.saturating_sub(1).checked_mul(56)
+}
+
+// A pointer to the nodes below the root, each of a key and a graph. Keys do not own their texts, and unused places of a
+// list of nodes are not counted.
+impl Allocative for FlameGraph {
+    ghost may_show = { λ g. shows.Field (codes "FlameGraph") (Some 40) (graph_inside (len g)) };
+
+    ghost is_strict = { true };
+
+    fn visit(&self, visitor: &mut Visitor<'_>) -> Result<(), Refusal> {
+        let nodes = Declared("Child", bytes_below(self), ());
+        Whole(self, Unique("ptr", 8, nodes)).enter(visitor)
     }
 }

@@ -3,7 +3,6 @@
 ghost use Rattle.std.specs.Prelude.{true, ◌&&◌, codes, length, string_bytes, string_capacity, ◌++◌};
 ghost use Rattle.allocative_graph.specs.Shows as shows;
 ghost use Rattle.allocative.specs.Bodies.{bytes_shown, buffer_shows, cut_shows, text_shows, table_shows};
-ghost use Rattle.allocative.specs.PackShows.{index_data_shows};
 ghost use Rattle.allocative.specs.Runs.{field_of, pair_shows};
 ghost use Rattle.allocative.specs.StdShows.{in_any_order};
 
@@ -14,7 +13,7 @@ use crate::{
 };
 use indexmap::{IndexMap, IndexSet};
 use lru::LruCache;
-use std::collections::{BTreeMap, BTreeSet, HashMap, HashSet};
+use std::collections::{BTreeMap, BTreeSet, HashMap, HashSet, LinkedList};
 use std::hash::{BuildHasher, Hash};
 
 /// The items of a slice, as `Items(slice)`: one entry with the item's name and all bytes if the items need
@@ -86,6 +85,17 @@ impl<'a, K: IntoKey, T: Allocative + Described> Part for FieldEach<K, &'a [T]> {
     fn enter(self, visitor: &mut Visitor<'_>) -> Result<(), Refusal> {
         let FieldEach(key, items) = self;
         visitor.visit_run(FieldUnder(key.into_key()), items.iter())
+    }
+}
+
+impl<'a, K: IntoKey, T: Allocative + Described> Part for FieldEach<K, &'a LinkedList<T>> {
+    ghost may_show = { λ s. shows.each_shows (field_of (K.key s.0) T.size T.may_show) s.1.now };
+
+    ghost is_strict = { T.is_strict };
+
+    fn enter(self, visitor: &mut Visitor<'_>) -> Result<(), Refusal> {
+        let FieldEach(key, list) = self;
+        visitor.visit_run(FieldUnder(key.into_key()), list.iter())
     }
 }
 
@@ -251,21 +261,6 @@ impl<P: Part> Part for Buffer<P> {
             count: self.capacity.saturating_sub(self.count),
         };
         Unique("ptr", 8, (self.items, unused)).enter(visitor)
-    }
-}
-
-/// The data of a container in insertion order: a unique entry `data` of 8 bytes, with the items and the entry
-/// of the unused places inside it.
-#[derive(Drop)]
-pub struct IndexData<P>(pub P, pub Unused);
-
-impl<P: Part> Part for IndexData<P> {
-    ghost may_show = { λ d. index_data_shows d.1.item_size (P.may_show d.0) d.1.count };
-
-    ghost is_strict = { P.is_strict };
-
-    fn enter(self, visitor: &mut Visitor<'_>) -> Result<(), Refusal> {
-        Unique("data", 8, (self.0, self.1)).enter(visitor)
     }
 }
 

@@ -1,4 +1,5 @@
 //! Cells and locks: the value, if it can be had. A contract does not see which value a cell holds.
+#![tactic(auto, using(crate::proofs::ContainerMeaning::cells))]
 
 ghost use Rattle.std.specs.Prelude.{codes};
 ghost use Rattle.allocative_graph.specs.Shows as shows;

@@ -1,18 +1,20 @@
-//! Texts, vectors, deques, and maps and sets of `std`.
+//! Texts, vectors, deques, maps and sets of `std`, linked lists with the bytes of their links, and heaps in their own
+//! order.
 
 ghost use Rattle.std.specs.Prelude.{◌&&◌, true, codes, length, vec_capacity, string_bytes, string_capacity, Some};
+ghost use Rattle.std.specs.BinaryHeap.{heap_items, heap_len, heap_capacity};
 ghost use Rattle.std.specs.VecDeque.{deque_capacity};
 ghost use Rattle.allocative_graph.specs.Shows as shows;
-ghost use Rattle.allocative.specs.Bodies.{buffer_shows, cut_shows, text_shows};
+ghost use Rattle.allocative.specs.Bodies.{buffer_shows, bytes_shown, cut_shows, data_shows, text_shows};
 ghost use Rattle.allocative.specs.Runs.{field_of, pair_shows};
 ghost use Rattle.allocative.specs.StdShows.{in_any_order};
 
 use crate::part::containers::TwoSlices;
 use crate::{
-    Allocative, Buffer, Described, FieldEach, Inside, Items, Pairs, Part, Refusal, Text, Visitor,
-    Whole,
+    Allocative, Buffer, Declared, Described, FieldEach, Inside, Items, Pairs, Part, Refusal, Text,
+    Unique, Visitor, Whole,
 };
-use std::collections::{BTreeMap, BTreeSet, HashMap, HashSet, VecDeque};
+use std::collections::{BTreeMap, BTreeSet, BinaryHeap, HashMap, HashSet, LinkedList, VecDeque};
 use std::hash::{BuildHasher, Hash};
 
 impl Allocative for String {
@@ -60,6 +62,38 @@ impl<T: Allocative + Described> Allocative for VecDeque<T> {
             capacity: self.capacity(),
         };
         Whole(self, ring).enter(visitor)
+    }
+}
+
+impl<T: Allocative + Described> Allocative for LinkedList<T> {
+    ghost may_show = { λ l. shows.Field (codes "LinkedList") (Some 24) (shows.Unique (codes "ptr") 8 (shows.Both
+        (data_shows T.size T.may_show l) (bytes_shown (codes "links") (Some 16) (length l)))) };
+
+    ghost is_strict = { T.is_strict };
+
+    fn visit(&self, visitor: &mut Visitor<'_>) -> Result<(), Refusal> {
+        let items = FieldEach("data", self);
+        // Each item has two pointers beside it.
+        let links = Declared("links", 16_usize.checked_mul(self.len()), ());
+        Whole(self, Unique("ptr", 8, (items, links))).enter(visitor)
+    }
+}
+
+impl<T: Allocative + Described + Ord> Allocative for BinaryHeap<T> {
+    ghost may_show = { λ h. shows.Field (codes "BinaryHeap") (Some 24)
+        (buffer_shows T.size (shows.slice_shows T.name T.size T.needs_drop T.may_show (heap_items h)) (heap_len h)
+        (heap_capacity h)) };
+
+    ghost is_strict = { T.is_strict };
+
+    fn visit(&self, visitor: &mut Visitor<'_>) -> Result<(), Refusal> {
+        let heap = Buffer {
+            items: Items(self.as_slice()),
+            item_size: T::size(),
+            count: self.len(),
+            capacity: self.capacity(),
+        };
+        Whole(self, heap).enter(visitor)
     }
 }
 

@@ -1,7 +1,7 @@
 -- of Visitor::visit_field_with: an error and the result
 use Rattle.std.proofs.Common.{rules, ◌≡◌, refl, Ok, Err}
 use Rattle.allocative.proofs.Common.{FnOnceReturnsAtMut, called, refused_inside}
-use Rattle.allocative.proofs.Closures.{not_called_by}
+use Rattle.allocative.specs.Closures.{not_called}
 use Rattle.allocative.proofs.Visits.{same_err, close_cause}
 use Rattle.allocative.proofs.Showing.{showing}
 use Rattle.allocative.proofs.visitor.Visitor.visit_field_with.Goals as goal
@@ -10,8 +10,8 @@ pub returns-in_err-inner : goal.returns-in_err-inner
 returns-in_err-inner g c = record {
   same_reference = search rules;
   same_outer = search rules;
-  calls = not_called_by g.F.FnOnce c.args.visit
-      (same_err {e = c.in_err-inner.field-0.0} _ c.from_residual.ensures.0 (search rules)) (search rules);
+  calls = rw (same_err {e = c.in_err-inner.field-0.0} _ c.from_residual.ensures.0 (search rules))
+      (not_called {e = c.in_err-inner.field-0.0} (search rules));
   cause = search (rules, showing);
 }
 

@@ -10,5 +10,5 @@ pub returns : goal.returns
 returns g c =
     let n : c.len-2.result ≡ length c.args.self.now.keys = search rules in
     let unused : c.capacity.result - c.len.result ≡ spare c.args.self.now = omega arith in
-    visited_if c.enter.ensures (strict_both strict_same strict_always)
+    visited_if c.enter.ensures (strict_both (strict_both strict_same strict_always) strict_always)
     (means_field refl refl (means_both (means_index_data c.size.ensures unused means_same) (means_table n)))
