@@ -46,9 +46,8 @@ tallies_as a t = record {
 -- Two forests are within the bounds of both if each is within its own.
 both_within : (m n : Option ℕ) (f g : Forest) → IsWithin (direct f) m → IsWithin (direct g) n →
     IsWithin (direct (followed_by f g)) (both_bounds m n)
-both_within None n f g h l = tt
-both_within (Some m) None f g h l = tt
 both_within (Some m) (Some n) f g h l = omega (arith, h, l, direct-following f g)
+both_within m n f g h l = tt
 
 -- One value and then another were counted into one tally.
 pub tallies_then : {w v : Option ℕ} {p q : Showing} {s t u : Shape} → Tallies w p s t → Tallies v q t u →

@@ -1,7 +1,7 @@
 -- What texts, slices, buffers and maps have to count, and when they cannot be counted.
 use Rattle.std.proofs.Common.{◌≡◌, ◌≤◌, ◌<◌, ◌+◌, ◌-◌, ◌*◌, ◌^◌, ℕ, Bool, true, false, List, ◌∷◌, ◌++◌, Option, []}
-use Rattle.std.proofs.Common.{Some, None, refl, sym, ap, subst, ◌∙◌, arith, length, length-append, map, min, mul-add}
-use Rattle.std.proofs.Common.{codes}
+use Rattle.std.proofs.Common.{Some, None, refl, sym, ap, subst, ◌∙◌, arith, length, length-append, map, min, max, mul-add}
+use Rattle.std.proofs.Common.{codes, append-nil}
 use Rattle.std.proofs.Common.{inl, inr, ◌⊎◌, ◌≢◌, IsSome, nat_lt, if◌then◌else◌, get_or, set, sum_by, mul-suc}
 use Rattle.std.specs.List.{All, swap}
 use Rattle.std.proofs.lemmas.List.Elements.{All-nil, All-cons, All-head, All-tail}
@@ -18,7 +18,7 @@ use Rattle.allocative.proofs.Common.{Key, Forest, Empty, followed_by, entry_of, 
 use Rattle.allocative.proofs.Common.{Inside}
 use Rattle.allocative.proofs.Common.{Field, sized, each_shows, slice_shows, buffer_shows, table_shows, with_room}
 use Rattle.allocative.proofs.Common.{without_room, without_size}
-use Rattle.allocative.proofs.Strict.{each_append}
+use Rattle.allocative.proofs.Strict.{each_append, followed_by-empty}
 use Rattle.allocative.specs.Bodies.{cut_shows, is_cut, text_shows, is_text, are_shown_each, bytes_shown, buffer_entry}
 use Rattle.allocative.specs.Bodies.{data_shows}
 use Rattle.allocative.specs.PackShows.{index_data_shows, is_index_data, small_vec_inside, lies_inline, is_spilled}
@@ -28,12 +28,9 @@ use Rattle.allocative_tally.specs.Shapes.{weight, load, least_weight, Lighter, S
 use Rattle.allocative_tally.specs.Shapes.{pairs_shape, buffer_shape, table_shape, Unique, Width, is_unique, EntryAt}
 use Rattle.allocative_tally.specs.Shapes.{sum_times, bytes_times, items_shape, entries}
 use Rattle.allocative_tally.specs.Tallies.{Exceeds, CannotTally, CannotTallySlice, TalliesSlice, TalliesMany}
-use Rattle.allocative_tally.specs.Tallies.{CannotAdd, many_buffers, many_places, many_bytes}
 use Rattle.allocative_tally.specs.Tallies.{CannotAddItems, too_many_buffers, too_many_items, too_many_bytes, buffer_of}
-use Rattle.allocative_tally.specs.Tallies.{IsDeclared, CannotCountRoom, no_size, no_place, CannotAddIndex}
-use Rattle.allocative_tally.specs.Tallies.{no_room_for_items}
-use Rattle.allocative_tally.specs.Tallies.{no_room_for_places, no_room_for_both}
-use Rattle.allocative_tally.specs.Tallies.{HasBuffer, without_bytes, without_items, with_buffer, TalliesNext}
+use Rattle.allocative_tally.specs.Tallies.{CannotAdd, no_room_for_items, no_room_for_places, no_room_for_both, in_slices}
+use Rattle.allocative_tally.specs.Tallies.{IsDeclared, TalliesNext}
 use Rattle.allocative_tally.specs.declared.places.Places.{Places}
 use Rattle.allocative_tally.specs.declared.tally.Sum.{Sum}
 use Rattle.allocative_tally.specs.Whole.{alike, as_itself, field_least, weight_entry}
@@ -50,80 +47,78 @@ text_entries n c = InsideAs true (codes "ptr") 8 (Inside (codes "capacity") c
 
 -- A text is its entries.
 pub text_as : {n c : ℕ} → ShownAs (text_entries n c) (text_shows n c)
-text_as {n} {c} = alike (λ f x. is_text x) inside
-  where
-    inside : (f : Forest) → text_shows n c f → text_entries n c f
-    inside f (is_text x) = x
+text_as {n} {c} = alike (λ f x. is_text x) (λ f x. elim x as (λ g y. text_entries n c g) [ is_text z ↦ z ])
 
 -- A slice of items that are shown one by one is the items.
-pub slice_as : {T : Type 0} (name : Key) (size : Option ℕ) (needs_drop : Bool) (p : T → Showing) (xs : List T) →
-    are_shown_each needs_drop size ≡ true → ShownAs (each_shows p xs) (slice_shows name size needs_drop p xs)
-slice_as name None needs_drop p xs is = absurd (cc)
-slice_as name (Some y) needs_drop p xs is = rw (is, slice_shows) as_itself
+slice_as : {T : Type 0} (name : Key) (z : ℕ) (needs_drop : Bool) (p : T → Showing) (xs : List T) →
+    are_shown_each needs_drop (Some z) ≡ true → ShownAs (each_shows p xs) (slice_shows name (Some z) needs_drop p xs)
+slice_as name z needs_drop p xs is = rw (is, slice_shows) as_itself
 
 -- A slice of other items is one entry.
-pub slice_one_as : {T : Type 0} (name : Key) (y : ℕ) (needs_drop : Bool) (p : T → Showing) (xs : List T) →
-    are_shown_each needs_drop (Some y) ≡ false →
-    ShownAs (Inside name (y * length xs) Nothing) (slice_shows name (Some y) needs_drop p xs)
-slice_one_as name y needs_drop p xs is = rw (is, slice_shows) as_itself
+pub slice_one_as : {T : Type 0} (name : Key) (z : ℕ) (needs_drop : Bool) (p : T → Showing) (xs : List T) →
+    are_shown_each needs_drop (Some z) ≡ false →
+    ShownAs (Inside name (z * length xs) Nothing) (slice_shows name (Some z) needs_drop p xs)
+slice_one_as name z needs_drop p xs is = rw (is, slice_shows) as_itself
+
+-- Items that are shown one by one are shown so in one slice or in two.
+pub each_in : {T : Type 0} (cut : Bool) (name : Key) (z : ℕ) (needs_drop : Bool) (p : T → Showing) (xs : List T) →
+    are_shown_each needs_drop (Some z) ≡ true → ShownAs (each_shows p xs) (in_slices cut name (Some z) needs_drop p xs)
+each_in false name z needs_drop p xs is = slice_as name z needs_drop p xs is
+each_in true name z needs_drop p xs is = record {
+  up = λ f x. is_cut xs [] (append-nil xs) (
+    f,
+    Empty,
+    (slice_as name z needs_drop p xs is).up f x,
+    (slice_as name z needs_drop p [] is).up Empty refl,
+    sym (followed_by-empty f),
+  );
+  down = down;
+}
+  where
+    down : (f : Forest) → cut_shows name (Some z) needs_drop p xs f → Lighter (each_shows p xs) f
+    down f (is_cut front back i both) =
+        let x = (slice_as name z needs_drop p front is).down both.0 both.2 in
+        let y = (slice_as name z needs_drop p back is).down both.1 both.3 in
+        let all = followed_by x.0 y.0 in (
+          all,
+          subst (λ ws. each_shows p ws all) i (each_append p front back all (x.0, y.0, x.1, y.1, refl)),
+          omega (arith, x.2, y.2, both_weight both, weight-following x.0 y.0),
+        )
 
 -- An entry with nothing inside it has its bytes to count, and itself.
 one_weight : {k : Key} {n : ℕ} {f : Forest} → Inside k n Nothing f → weight f ≡ n + 1
 one_weight {k} {n} (g, x, e) = omega (arith, ap weight e, weight_entry false k n g, ap weight x)
 
--- A list that was cut in two has as much to count however it was cut.
-cut_lighter : {T : Type 0} (name : Key) (size : Option ℕ) (needs_drop : Bool) (p : T → Showing) (xs ys zs : List T) →
-    xs ++ ys ≡ zs → (f : Forest) → cut_shows name size needs_drop p zs f →
-    Lighter (Both (slice_shows name size needs_drop p xs) (slice_shows name size needs_drop p ys)) f
-cut_lighter name None needs_drop p xs ys zs e f (is_cut front back i both) = absurd (both.2)
-cut_lighter name (Some z) needs_drop p xs ys zs e f (is_cut front back i both) =
-    by_test (are_shown_each needs_drop (Some z)) refl
+-- Other items, cut in two, are two entries, of all bytes and of none.
+pub cut_as : {T : Type 0} (name : Key) (z : ℕ) (needs_drop : Bool) (p : T → Showing) (xs : List T) →
+    are_shown_each needs_drop (Some z) ≡ false →
+    ShownAs (Both (Inside name (z * length xs) Nothing) (Inside name (z * 0) Nothing))
+    (cut_shows name (Some z) needs_drop p xs)
+cut_as name z needs_drop p xs is = record {
+  up = λ f (g, h, x, y, e). is_cut xs [] (append-nil xs) (
+    g,
+    h,
+    (slice_one_as name z needs_drop p xs is).up g x,
+    (slice_one_as name z needs_drop p [] is).up h y,
+    e,
+  );
+  down = down;
+}
   where
-    by_test : (b : Bool) → are_shown_each needs_drop (Some z) ≡ b →
-        Lighter (Both (slice_shows name (Some z) needs_drop p xs) (slice_shows name (Some z) needs_drop p ys)) f
-    by_test true is =
-        let x = (slice_as name (Some z) needs_drop p front is).down both.0 both.2 in
-        let y = (slice_as name (Some z) needs_drop p back is).down both.1 both.3 in
-        let all = each_append p front back (followed_by x.0 y.0) (x.0, y.0, x.1, y.1, refl) in
-        let cut = each_split p xs ys (followed_by x.0 y.0)
-        (subst (λ ws. each_shows p ws (followed_by x.0 y.0)) (i ∙ sym e) all) in (
-          followed_by x.0 y.0,
-          (
-            cut.0,
-            cut.1,
-            (slice_as name (Some z) needs_drop p xs is).up cut.0 cut.2,
-            (slice_as name (Some z) needs_drop p ys is).up cut.1 cut.3,
-            cut.4,
-          ),
-          omega (arith, x.2, y.2, both_weight both, weight-following x.0 y.0),
-        )
-    by_test false is =
+    down : (f : Forest) → cut_shows name (Some z) needs_drop p xs f → Lighter
+        (Both (Inside name (z * length xs) Nothing) (Inside name (z * 0) Nothing)) f
+    down f (is_cut front back i both) =
         let x = (slice_one_as name z needs_drop p front is).down both.0 both.2 in
         let y = (slice_one_as name z needs_drop p back is).down both.1 both.3 in
         let g = entry_of false name (z * length xs) Empty in
-        let h = entry_of false name (z * length ys) Empty in
-        let count : length front + length back ≡ length xs + length ys =
-        sym (length-append front back) ∙ ap length (i ∙ sym e) ∙ length-append xs ys in
-        let bytes : z * length front + z * length back ≡ z * length xs + z * length ys =
-        sym (mul-add z (length front) (length back)) ∙ ap (λ (n : ℕ). z * n) count ∙ mul-add z (length xs) (length ys)
-        in (
+        let h = entry_of false name (z * 0) Empty in
+        let count : length front + length back ≡ length xs = sym (length-append front back) ∙ ap length i in
+        let bytes : z * length front + z * length back ≡ z * length xs =
+        sym (mul-add z (length front) (length back)) ∙ ap (λ (n : ℕ). z * n) count in (
           followed_by g h,
-          (
-            g,
-            h,
-            (slice_one_as name z needs_drop p xs is).up g (Empty, refl, refl),
-            (slice_one_as name z needs_drop p ys is).up h (Empty, refl, refl),
-            refl,
-          ),
+          (g, h, (Empty, refl, refl), (Empty, refl, refl), refl),
           omega (arith, x.2, y.2, both_weight both, one_weight x.1, one_weight y.1, bytes),
         )
-
--- A list that was cut in two is the first slice and then the second.
-pub cut_as : {T : Type 0} (name : Key) (size : Option ℕ) (needs_drop : Bool) (p : T → Showing) (xs ys zs : List T) →
-    xs ++ ys ≡ zs → ShownAs (Both (slice_shows name size needs_drop p xs) (slice_shows name size needs_drop p ys))
-    (cut_shows name size needs_drop p zs)
-cut_as name size needs_drop p xs ys zs e =
-    record { up = λ h x. is_cut xs ys e x; down = cut_lighter name size needs_drop p xs ys zs e }
 
 -- A buffer that is there is its entry.
 pub buffer_as : {size : Option ℕ} {p : Showing} {item n c : ℕ} → size ≡ Some item → 0 < item → 0 < n + c →
@@ -138,30 +133,23 @@ buffer_as {size} {p} {item} {n} {c} e some room = alike (λ f x. with_room e som
 -- A small vector whose items are in place is a field for each.
 pub inline_as : {T : Type 0} {n : ℕ} {size : Option ℕ} {p : T → Showing} {v : SmallVec T} → ¬ IsSpilled n v →
     ShownAs (data_shows size p v.items) (small_vec_inside n size p v)
-inline_as {n = n} {size} {p} {v} is = alike (λ f x. lies_inline is x) inside
-  where
-    inside : (f : Forest) → small_vec_inside n size p v f → data_shows size p v.items f
-    inside f (lies_inline i x) = x
-    inside f (is_spilled i x) = absurd (is i)
+inline_as {size = size} {p} {v} is = alike (λ f x. lies_inline is x) (λ f x. elim x as (λ g y. data_shows size p v.items g)
+    [ lies_inline i z ↦ z | is_spilled i z ↦ absurd (is i) ])
 
 -- A small vector whose items are in an allocation is a pointer.
 pub spilled_as : {T : Type 0} {n : ℕ} {size : Option ℕ} {p : T → Showing} {v : SmallVec T} → IsSpilled n v →
     ShownAs (InsideAs true (codes "ptr") 8 (data_shows size p v.items)) (small_vec_inside n size p v)
-spilled_as {n = n} {size} {p} {v} is = alike (λ f x. is_spilled is x) inside
-  where
-    inside : (f : Forest) → small_vec_inside n size p v f → InsideAs true (codes "ptr") 8 (data_shows size p v.items) f
-    inside f (lies_inline i x) = absurd (i is)
-    inside f (is_spilled i x) = x
+spilled_as {size = size} {p} {v} is = alike (λ f x. is_spilled is x)
+    (λ f x. elim x as (λ g y. InsideAs true (codes "ptr") 8 (data_shows size p v.items) g)
+    [ lies_inline i z ↦ absurd (i is) | is_spilled i z ↦ z ])
 
 -- The data of a container in the order of insertion is its entry.
 pub index_data_as : {size : Option ℕ} {p : Showing} {u : ℕ} →
     ShownAs (InsideAs true (codes "data") 8 (Both p (bytes_shown (codes "unused_capacity") size u)))
     (index_data_shows size p u)
-index_data_as {size} {p} {u} = alike (λ f x. is_index_data x) inside
-  where
-    inside : (f : Forest) → index_data_shows size p u f →
-        InsideAs true (codes "data") 8 (Both p (bytes_shown (codes "unused_capacity") size u)) f
-    inside f (is_index_data x) = x
+index_data_as {size} {p} {u} = alike (λ f x. is_index_data x)
+    (λ f x. elim x as (λ g y. InsideAs true (codes "data") 8 (Both p (bytes_shown (codes "unused_capacity") size u)) g)
+    [ is_index_data z ↦ z ])
 
 -- The hash table of some items is its entry.
 pub table_as : {n : ℕ} {bytes : Option ℕ} → 0 < n → IsRawTableSize (Some 8) n bytes →
@@ -291,20 +279,52 @@ pair_least (Some m) (Some n) p q e f x =
 -- The fields of so many pairs have at least their number and bytes.
 pub pairs_load : (v w : Option ℕ) (s t : ℕ → Shape) (i : ℕ) →
     i + bytes_times (size_sum v w) i ≤ load (pairs_shape v w s t i)
-pairs_load None w s t i = omega arith
-pairs_load (Some m) None s t i = omega arith
 pairs_load (Some m) (Some n) s t i = omega (arith, by_test (nat_lt (m + n) (2 ^ 64)))
   where
     by_test : (b : Bool) → bytes_times (if b then Some (m + n) else None) i
         ≤ min (m * i) (2 ^ 64 - 1) + min (n * i) (2 ^ 64 - 1)
-    by_test true = omega (arith)
+    by_test true = omega arith
     by_test false = omega arith
+pairs_load v w s t i = omega arith
 
 -- ---- what cannot be counted
 -- Bytes that exceed a word exceed it if those of two numbers are at most the greatest word.
 bytes_exceed : (z a c d : ℕ) → 2 ^ 64 ≤ z * (a + (c + d)) →
     2 ^ 64 ≤ min (z * a) (2 ^ 64 - 1) + min (z * c) (2 ^ 64 - 1) + min (z * d + 1) (2 ^ 64) + 1
 bytes_exceed z a c d h = omega (arith, h, mul-add z a (c + d), mul-add z c d)
+
+-- The numbers of s and what q shows have at least so many items of z bytes, and their bytes, up to the greatest word.
+abbrev pub Bears : ℕ → ℕ → Showing → Shape → Type 0
+Bears z i q s = (f : Forest) → q f → min (max i (z * i)) (2 ^ 64 - 1) ≤ load s + weight f
+
+-- A buffer that cannot be added exceeds a word, with what bears its items.
+items_over : {z l m : ℕ} {old : Places} → CannotAddItems (Some z) l old →
+    min (max (old.items + l) (z * (old.items + l))) (2 ^ 64 - 1) ≤ m →
+    2 ^ 64 ≤ old.buffers + min (8 * old.buffers) (2 ^ 64 - 1) + m + 9
+items_over (too_many_buffers h) a = omega (arith, h)
+items_over (too_many_items h) a = omega (arith, h, a)
+items_over (too_many_bytes h) a = omega (arith, h _ refl, a)
+
+-- A buffer with unused places that cannot be added has too much to count, with what bears its items.
+pub added_exceeds : {z y l u : ℕ} {old : Places} (k : Key) {q : Showing} {s : Shape} →
+    CannotAdd (Some z) (Some y) l u old → Bears z (old.items + l) q s →
+    Exceeds (InsideAs true k 8 (Both q (bytes_shown (codes "unused_capacity") (Some y) u)))
+    (buffer_shape k old.buffers s old.unused)
+added_exceeds {z} {y} {l} {u} {old} k {q} {s} c heavy = record {
+  most = λ f (g, x, e). by_cause c (heavy x.0 x.2) (bytes_least (codes "unused_capacity") y u x.1 x.3)
+      (ap weight e ∙ weight_entry true k 8 g ∙ ap (λ i. 8 + 1 + i) (both_weight x));
+}
+  where
+    by_cause : {a b w : ℕ} → CannotAdd (Some z) (Some y) l u old →
+        min (max (old.items + l) (z * (old.items + l))) (2 ^ 64 - 1) ≤ load s + a → min (y * u + 1) (2 ^ 64) ≤ b →
+        w ≡ 8 + 1 + (a + b) → 2 ^ 64 ≤ load (buffer_shape k old.buffers s old.unused) + w
+    by_cause (no_room_for_items h) items unused e = omega (arith, items_over h items, e)
+    by_cause (no_room_for_places h) items unused e = omega (arith, h y refl, unused, e)
+    by_cause (no_room_for_both {z = z'} {s = y'} i j h) items unused e =
+        let left : z' ≡ z = cc in
+        let right : y' ≡ y = cc in
+        let bytes = ap (λ (v : ℕ). v * (old.items + l)) left in
+        omega (arith, h, bytes, ap (λ (v : ℕ). v * u) right, items, unused, e)
 
 -- Items cannot be added to those of an entry: their number or their bytes exceed a word.
 pub items_exceed : {x : Width} {size : Option ℕ} {l : ℕ} {old : Places} {k : Key} {p : Showing} {s : Shape} →
@@ -369,88 +389,45 @@ box_exceeds {size} {old} {p} {s} {t} c least value = record {
     by_cause (Some z) d (too_many_items h) l w a = omega (arith, h, a)
     by_cause (Some z) d (too_many_bytes h) l w a = omega (arith, h z refl, a)
 
--- The items of a slice that was counted have at least their bytes, with those before.
-items_load : {size : Option ℕ} {z l : ℕ} (needs_drop : Bool) (name : Key) (n i : ℕ) {p : Showing} {s t : ℕ → Shape} →
-    size ≡ Some z → ((i : ℕ) → i + bytes_times size i ≤ load (t i)) → TalliesSlice size l needs_drop name p s t →
-    (f : Forest) → p f →
-    min (z * (i + l)) (2 ^ 64 - 1) ≤ load (items_shape (are_shown_each needs_drop size) name n (bytes_times size i)
-    (s i)) + weight f
-items_load {size = None} needs_drop name n i e least c f x = absurd (cc)
-items_load {size = Some y} {z} {l} needs_drop name n i {p} {s} {t} e least c f x =
-    by_test (are_shown_each needs_drop (Some y)) same ((c.next z 0 1 i (i + l) e (omega arith) (omega arith)
-    refl).weighs f x)
-    (least (i + l))
+-- ---- buffers
+-- The items of a slice that was counted, and those before, have their number and bytes.
+slice_bears : {T : Type 0} (cut : Bool) {z : ℕ} (needs_drop : Bool) (name : Key) (n i : ℕ) {p : T → Showing} {xs : List T}
+    {s t : ℕ → Shape} → 0 < z → ((i : ℕ) → i + bytes_times (Some z) i ≤ load (t i)) →
+    TalliesSlice (Some z) needs_drop name p xs s t →
+    Bears z (i + length xs) (in_slices cut name (Some z) needs_drop p xs)
+    (items_shape (are_shown_each needs_drop (Some z)) name n (bytes_times (Some z) i) (s i))
+slice_bears cut {z} needs_drop name n i {xs = xs} {s} {t} some least c f x =
+    let all = i + length xs in
+    by_test (are_shown_each needs_drop (Some z)) all (mul-le 1 all z all some (omega arith))
+    ((c.next cut z 0 1 i all refl (omega arith) (omega arith) refl).weighs f x) (least all)
   where
-    same : y ≡ z
-    same = cc
+    by_test : (b : Bool) (j : ℕ) → 1 * j ≤ z * j →
+        load (items_shape b name 1 (z * j) (t j)) ≤ load (items_shape b name 0 (z * i) (s i)) + weight f →
+        j + min (z * j) (2 ^ 64 - 1) ≤ load (t j) →
+        min (max j (z * j)) (2 ^ 64 - 1) ≤ load (items_shape b name n (min (z * i) (2 ^ 64 - 1)) (s i)) + weight f
+    by_test true j more a h = omega (arith, a, h)
+    by_test false j more a h = omega (arith, a, more)
 
-    by_test : (b : Bool) → y ≡ z →
-        load (items_shape b name 1 (z * (i + l)) (t (i + l))) ≤ load (items_shape b name 0 (z * i) (s i)) + weight f →
-        i + l + min (y * (i + l)) (2 ^ 64 - 1) ≤ load (t (i + l)) →
-        min (z * (i + l)) (2 ^ 64 - 1) ≤ load (items_shape b name n (min (y * i) (2 ^ 64 - 1)) (s i)) + weight f
-    by_test true e a h = omega (arith, a, h, ap (λ (v : ℕ). v * (i + l)) e)
-    by_test false e a h = omega (arith, a, ap (λ (v : ℕ). v * i) e)
-
--- A buffer cannot be added: a number or the bytes of all places exceed a word.
-places_exceed : {z : ℕ} {n u : ℕ} {old : Places} (name : Key) (needs_drop : Bool) {p : Showing} (s : ℕ → Shape) →
-    0 < z → CannotAdd (Some z) n u old → ((f : Forest) → p f → min (z * (old.items + n)) (2 ^ 64 - 1)
-    ≤ load (items_shape (are_shown_each needs_drop (Some z)) name old.buffers (bytes_times (Some z) old.items)
-    (s old.items))
-    + weight f) →
-    Exceeds (buffer_entry (Some z) p u) (buffer_of name (Some z) needs_drop old s)
-places_exceed {z} {n} {u} {old} name needs_drop {p} s some c heavy = record {
-  most = λ f (g, y, e).
-      let w = ap weight e ∙ weight_entry true (codes "ptr") 8 g in
-      let items = items_shape (are_shown_each needs_drop (Some z)) name old.buffers (bytes_times (Some z) old.items)
-      (s old.items) in
-      by_cause c (load items) (weight y.0) (weight y.1) (weight f) (heavy y.0 y.2)
-      (bytes_least (codes "unused_capacity") z u y.1 y.3) (w ∙ ap (λ i. 8 + 1 + i) (both_weight y));
-}
-  where
-    by_cause : CannotAdd (Some z) n u old → (items a b w : ℕ) → min (z * (old.items + n)) (2 ^ 64 - 1) ≤ items + a →
-        min (z * u + 1) (2 ^ 64) ≤ b → w ≡ 8 + 1 + (a + b) → 2 ^ 64 ≤ old.buffers + min (8 * old.buffers) (2 ^ 64 - 1)
-        + (items + (old.buffers + bytes_times (Some z) old.unused + 0)) + w
-    by_cause (many_buffers h) items v y w a b e = omega (arith, h, e)
-    by_cause (many_places h) items v y w a b e =
-        let all = old.items + n + (old.unused + u) in
-        let more : 2 ^ 64 ≤ z * all = omega (arith, h, mul-le 1 all z all some (omega arith)) in
-        omega (arith, bytes_exceed z (old.items + n) old.unused u more, a, b, e)
-    by_cause (many_bytes h) items v y w a b e =
-        omega (arith, bytes_exceed z (old.items + n) old.unused u (h z refl), a, b, e)
-
--- If a buffer whose items were counted cannot be counted, it has too much to count.
-places_full : {size : Option ℕ} {r : Bool} {n c : ℕ} {old : Places} (name : Key) (needs_drop : Bool) {p : Showing}
-    {s t : ℕ → Shape} → HasBuffer size n c r → r ≡ true → CannotCountRoom size n c old →
-    ((i : ℕ) → i + bytes_times size i ≤ load (t i)) → TalliesSlice size n needs_drop name p s t →
-    Exceeds (buffer_shows size p n c) (buffer_of name size needs_drop old s)
-places_full name needs_drop (without_bytes e) is cause least items = absurd (cc)
-places_full name needs_drop (without_items e x y) is cause least items = absurd (cc)
-places_full name needs_drop (with_buffer e some room) is (no_size v) least items = absurd (cc)
-places_full {size = None} name needs_drop (with_buffer e some room) is (no_place v x y cause) least items = absurd (cc)
-places_full {size = Some z} {old = old} name needs_drop {s = s} (with_buffer {item} e some room) is
-    (no_place v x y cause) least items =
-    let same : item ≡ z = cc in
-    let positive : 0 < z = omega (arith, some, same) in
-    exceeds_as (buffer_as refl positive room) (places_exceed name needs_drop s positive cause
-    (items_load needs_drop name old.buffers old.items refl least items))
-
--- The same, by the numbers that the calls return.
-pub room_exceeds : {size : Option ℕ} {r : Bool} {n n' m c c' d : ℕ} {old : Places} (name : Key) (needs_drop : Bool)
-    {p : Showing} {s t : ℕ → Shape} → HasBuffer size n c r → r ≡ true → n ≡ m → c ≡ d → CannotCountRoom size n' c' old →
-    n' ≡ m → c' ≡ d → ((i : ℕ) → i + bytes_times size i ≤ load (t i)) → TalliesSlice size m needs_drop name p s t →
-    Exceeds (buffer_shows size p m d) (buffer_of name size needs_drop old s)
-room_exceeds name needs_drop has is i j cause k l least items =
-    places_full name needs_drop (rw (i, j) at has) is (rw (k, l) at cause) least items
+-- If a buffer whose items were counted cannot be added, it has too much to count.
+pub places_exceed : {T : Type 0} (cut : Bool) {z c : ℕ} {old : Places} (name : Key) (needs_drop : Bool)
+    {p : T → Showing} {xs : List T} {s t : ℕ → Shape} → 0 < z → 0 < length xs + c →
+    CannotAdd (Some z) (Some z) (length xs) (c - length xs) old →
+    ((i : ℕ) → i + bytes_times (Some z) i ≤ load (t i)) → TalliesSlice (Some z) needs_drop name p xs s t →
+    Exceeds (buffer_shows (Some z) (in_slices cut name (Some z) needs_drop p xs) (length xs) c)
+    (buffer_of name (Some z) needs_drop old s)
+places_exceed cut {old = old} name needs_drop some room cannot least items =
+    exceeds_as (buffer_as refl some room) (added_exceeds (codes "ptr") cannot
+    (slice_bears cut needs_drop name old.buffers old.items some least items))
 
 -- If the items of a buffer cannot be counted, neither can the buffer.
-pub buffer_exceeds : {size : Option ℕ} {r : Bool} {n m c d : ℕ} (old : Places) (name : Key) (needs_drop : Bool)
-    {p : Showing} {s : ℕ → Shape} → HasBuffer size n c r → r ≡ true → n ≡ m → c ≡ d →
-    CannotTallySlice size needs_drop p s → Exceeds (buffer_shows size p m d) (buffer_of name size needs_drop old s)
-buffer_exceeds old name needs_drop (without_bytes e) is i j a = absurd (cc)
-buffer_exceeds old name needs_drop (without_items e x y) is i j a = absurd (cc)
-buffer_exceeds old name needs_drop (with_buffer e some room) is i j a =
-    exceeds_as (buffer_as e some (omega (arith, room, i, j)))
-    (exceeds_inside true 8 (exceeds_first (rw a.is_each (a.items.next old.items))))
+pub buffer_exceeds : {T : Type 0} (cut : Bool) {z c : ℕ} (old : Places) (name : Key) (needs_drop : Bool)
+    {p : T → Showing} {xs : List T} {s : ℕ → Shape} → 0 < z → 0 < length xs + c →
+    CannotTallySlice (Some z) needs_drop p xs s →
+    Exceeds (buffer_shows (Some z) (in_slices cut name (Some z) needs_drop p xs) (length xs) c)
+    (buffer_of name (Some z) needs_drop old s)
+buffer_exceeds cut {z} old name needs_drop {p} {xs} some room a =
+    exceeds_as (buffer_as refl some room) (exceeds_inside true 8 (exceeds_first (rw a.is_each
+    (exceeds_as (each_in cut name z needs_drop p xs a.is_each) (a.items.next old.items)))))
 
 -- A container without a declared size of its items cannot be counted.
 pub buffer_unsized : {size : Option ℕ} {p : Showing} {n c : ℕ} {s : Shape} → size ≡ None → Exceeds
@@ -463,45 +440,6 @@ buffer_unsized {size} {p} {n} {c} e = record { most = λ f x. absurd (missing f 
     missing f (with_room y x z v) = cc
 
 -- ---- items, one by one
--- A slice cannot be counted if its items cannot.
-pub slice_cannot : {T : Type 0} (name : Key) (size : Option ℕ) (needs_drop : Bool) (p : T → Showing) (xs : List T)
-    {s : ℕ → Shape} →
-    are_shown_each needs_drop size ≡ true → CannotTally (each_shows p xs) s →
-    CannotTallySlice size needs_drop (slice_shows name size needs_drop p xs) s
-slice_cannot name size needs_drop p xs is a =
-    record {
-      is_each = is;
-      items = record {
-        next = λ n. exceeds_as (slice_as name size needs_drop p xs is) (a.next n);
-      };
-    }
-
--- A list in two slices cannot be counted if the first slice cannot.
-pub front_cannot : {T : Type 0} (name : Key) (size : Option ℕ) (needs_drop : Bool) (p : T → Showing)
-    (xs ys zs : List T) {s : ℕ → Shape} →
-    xs ++ ys ≡ zs → CannotTallySlice size needs_drop (slice_shows name size needs_drop p xs) s →
-    CannotTallySlice size needs_drop (cut_shows name size needs_drop p zs) s
-front_cannot name size needs_drop p xs ys zs e a = record {
-  is_each = a.is_each;
-  items = record { next = λ n. exceeds_as (cut_as name size needs_drop p xs ys zs e) (exceeds_start (a.items.next n)) };
-}
-
--- A list in two slices cannot be counted if the second slice cannot, once the first was counted.
-pub back_cannot : {T : Type 0} (name : Key) (size : Option ℕ) (needs_drop : Bool) (p : T → Showing) (xs ys zs : List T)
-    {s t : ℕ → Shape} → xs ++ ys ≡ zs →
-    TalliesSlice size (length xs) needs_drop name (slice_shows name size needs_drop p xs) s t →
-    CannotTallySlice size needs_drop (slice_shows name size needs_drop p ys) t →
-    CannotTallySlice size needs_drop (cut_shows name size needs_drop p zs) s
-back_cannot name None needs_drop p xs ys zs e c a = let is = a.is_each in absurd (cc)
-back_cannot name (Some z) needs_drop p xs ys zs e c a = record {
-  is_each = a.is_each;
-  items = record {
-    next = λ n. exceeds_as (cut_as name (Some z) needs_drop p xs ys zs e)
-        (exceeds_then (rw a.is_each at (c.next z 0 1 n (n + length xs) refl (omega arith) (omega arith) refl))
-        (a.items.next (n + length xs)));
-  };
-}
-
 -- Items cannot be counted if one of them cannot, once those before it were counted.
 pub item_cannot : {T : Type 0} {w : Option ℕ} (p : T → Showing) (xs : List T) (x : T) (ys : List T) {s t : ℕ → Shape} →
     TalliesMany w (length xs) (each_shows p xs) s t → CannotTally (p x) t → CannotTally (each_shows p (xs ++ x ∷ ys)) s
@@ -541,58 +479,24 @@ small_sized n (Some s) align d = λ e. cc
 
 -- ---- containers in the order of insertion
 -- Items and unused places cannot be added to those of containers.
-pub index_exceeds : {T : Type 0} {given item found size : Option ℕ} {m n u b : ℕ} {old : Places} (p : T → Showing)
-    (xs : List T)
-    {s : Shape} → given ≡ item → found ≡ size → m ≡ length xs → n ≡ u → CannotAddIndex given found m n old b →
-    (item ≡ None → size ≡ None) →
-    old.items + bytes_times item old.items ≤ load s → ((x : T) (f : Forest) → p x f → least_weight item ≤ weight f) →
-    Exceeds (index_data_shows size (each_shows p xs) u) (buffer_shape (codes "data") old.buffers s b)
-index_exceeds {item = item} {size = size} {u = u} {b} {old} p xs {s} e i same spare c none least one =
-    exceeds_as index_data_as (by_cause item size (rw (e, i, same, spare) at c) none least one)
+pub index_exceeds : {T : Type 0} {given item found size : Option ℕ} {m n u : ℕ} {old : Places} (p : T → Showing)
+    (xs : List T) {s : Shape} → given ≡ item → found ≡ size → m ≡ length xs → n ≡ u → CannotAdd given found m n old →
+    (item ≡ None → size ≡ None) → old.items + bytes_times item old.items ≤ load s →
+    ((x : T) (f : Forest) → p x f → least_weight item ≤ weight f) →
+    Exceeds (index_data_shows size (each_shows p xs) u) (buffer_shape (codes "data") old.buffers s old.unused)
+index_exceeds {item = item} {size = size} {u = u} {old = old} p xs {s} e i same spare c none least one =
+    exceeds_as index_data_as (by_size item size (rw (e, i, same, spare) at c) none least one)
   where
-    by_cause : (item size : Option ℕ) → CannotAddIndex item size (length xs) u old b → (item ≡ None → size ≡ None) →
-        old.items + bytes_times item old.items ≤ load s → ((x : _) (f : Forest) → p x f → least_weight item ≤ weight
-        f) →
+    by_size : (item size : Option ℕ) → CannotAdd item size (length xs) u old → (item ≡ None → size ≡ None) →
+        old.items + bytes_times item old.items ≤ load s → ((x : _) (f : Forest) → p x f → least_weight item ≤ weight f) →
         Exceeds (InsideAs true (codes "data") 8 (Both (each_shows p xs) (bytes_shown (codes "unused_capacity") size u)))
-        (buffer_shape (codes "data") old.buffers s b)
-    by_cause item None c none least one = exceeds_inside true 8 (record {
-      most = λ f x. omega
-          (arith, both_weight x, field_least x.1 x.3);
+        (buffer_shape (codes "data") old.buffers s old.unused)
+    by_size item None c none least one = exceeds_inside true 8 (record {
+      most = λ f x. omega (arith, both_weight x, field_least x.1 x.3);
     })
-    by_cause None (Some y) c none least one = let absent = none refl in absurd (cc)
-    by_cause (Some z) (Some y) (no_room_for_items c) none least one =
-        items_exceed {x = Unique} c (omega (arith, least)) (λ f x. omega (
-          arith,
-          both_weight x,
-          each_least (Some z) p
-              one xs (inl refl) x.0 x.2,
-        ))
-    by_cause (Some z) (Some y) (no_room_for_places c) none least one =
-        exceeds_inside true 8 (record {
-          most = λ f x. omega (
-            arith,
-            c y refl,
-            both_weight x,
-            bytes_least
-                (codes "unused_capacity") y u x.1 x.3,
-          );
-        })
-    by_cause (Some z) (Some y) (no_room_for_both {z = z'} {s = y'} e i c) none least one =
-        let left : z' ≡ z = cc in
-        let right : y' ≡ y = cc in
-        exceeds_inside true 8 (record {
-          most = λ f x. omega (
-            arith,
-            c,
-            both_weight x,
-            bytes_least (codes "unused_capacity") y u x.1 x.3,
-            each_least (Some z) p one xs (inl refl) x.0 x.2,
-            mul-add z old.items (length xs),
-            least,
-            ap (λ (v : ℕ). v * (old.items + length xs)) left,
-            ap (λ (v : ℕ). v * u) right,
-          );
-        })
+    by_size None (Some y) c none least one = let absent = none refl in absurd (cc)
+    by_size (Some z) (Some y) c none least one = added_exceeds (codes "data") c
+        (λ f x. omega (arith, least, each_least (Some z) p one xs (inl refl) f x, mul-add z old.items (length xs)))
 
 -- A hash table cannot be counted by its number of items.
 pub table_cannot : {n l : ℕ} {s : Shape} → n ≡ l → Exceeds (table_shows n) s → Exceeds (table_shows l) s
@@ -606,11 +510,6 @@ table_missing some is e = exceeds_as (table_as some is) (record { most = λ f x.
     no_field : {bytes : Option ℕ} {k : Key} {p : Showing} {m : ℕ} → bytes ≡ None → (f : Forest) → Field k bytes p f →
         2 ^ 64 ≤ m
     no_field e f (sized x) = absurd (cc)
-
--- There are as many hash tables as a word counts.
-pub tables_full : {n a c : ℕ} {bytes : Option ℕ} → 0 < n → IsRawTableSize (Some 8) n bytes → 2 ^ 64 ≤ a + 1 →
-    Exceeds (table_shows n) (table_shape a c)
-tables_full some is over = exceeds_as (table_as some is) (exceeds_sum true 8 (omega (arith, over)))
 
 -- The buckets of all hash tables exceed a word.
 pub buckets_full : {n a c b : ℕ} {bytes : Option ℕ} → 0 < n → IsRawTableSize (Some 8) n bytes → bytes ≡ Some b →

@@ -1,7 +1,5 @@
 -- How values of structs and enums are counted, by their fields.
 use Rattle.std.proofs.Common.{◌≡◌, ◌≤◌, ◌<◌, ◌+◌, ◌*◌, mul-add, ℕ, Option, Some, None, refl, sym, ap, subst, arith, ◌∙◌}
-use Rattle.std.proofs.Common.{Result, IfOk}
-use Rattle.std.proofs.lemmas.Result.{MatchResult-weaker}
 use Rattle.allocative_graph.specs.Owned.{direct}
 use Rattle.allocative.proofs.Common.{Key, Forest, Showing, Nothing, Both, Inside, Field}
 use Rattle.allocative_tally.specs.Shapes.{Shape, NoEntry, Beside, IsNothing, bytes_times, entries, sum_of, sum_times}
@@ -12,11 +10,6 @@ use Rattle.allocative_tally.proofs.Counting.{tallies_as}
 use Rattle.allocative_tally.specs.Shapes.{ShownAs}
 use Rattle.allocative_tally.proofs.Sizes.{HoldsBound, holds_up, holds_both, holds_first, holds_second, holds_first_of}
 use Rattle.allocative_tally.proofs.Sizes.{holds_second_of, holds_itself, holds_bytes, holds_nothing, holds_grouped}
-
--- ---- results
--- What follows from what holds of a value that was returned holds of it.
-pub if_ok : {X Y : Type 0} (r : Result X Y) {P Q : X → Type 0} → IfOk r P → ((x : X) → P x → Q x) → IfOk r Q
-if_ok r h up = MatchResult-weaker r h up (λ _ _. tt)
 
 -- ---- sums
 -- Entries have more bytes.

@@ -1,7 +1,9 @@
 -- How texts, buffers and items are counted, and those of arrays, boxes, maps and the packs.
 use Rattle.std.proofs.Common.{◌≡◌, ◌≤◌, ◌<◌, ◌+◌, ◌-◌, ◌*◌, ◌^◌, mul-add, ℕ, Bool, true, false, codes, List, ◌++◌}
 use Rattle.std.proofs.Common.{length, length-append, Option, Some, None, refl, sym, ap, subst, ◌∙◌, arith, ◌∷◌, inl}
-use Rattle.std.proofs.Common.{le_refl, Result, mul-suc, []}
+use Rattle.std.proofs.Common.{le_refl, Result, MatchResult, mul-suc, []}
+use Rattle.std.proofs.lemmas.Result.{MatchResult-weaker}
+use Rattle.allocative_tally.proofs.Weighing.{cannot_case}
 use Rattle.allocative_described.specs.Sizes.{checked, size_product, IsRawTableSize, size_sum, size_up}
 use Rattle.allocative_graph.specs.Owned.{direct}
 use Rattle.allocative_graph.proofs.Owned.{direct-following}
@@ -14,16 +16,15 @@ use Rattle.allocative_tally.specs.Shapes.{Shape, Unique, Wide, NoEntry, Beside, 
 use Rattle.allocative_tally.specs.Shapes.{entries, bytes_times, top_bytes, items_shape, buffer_shape, unused_shape}
 use Rattle.allocative_tally.specs.Shapes.{pairs_shape, Narrow, table_shape, shape_shows, IsNothing}
 use Rattle.allocative_tally.specs.Tallies.{Tallies, TalliesNext, TalliesEach, TalliesSlice, size_times, AddsPlaces}
-use Rattle.allocative_tally.specs.Tallies.{CountsRoom, no_bytes, no_room, is_room, buffer_of, TalliesMany, FitsWord}
-use Rattle.allocative_tally.specs.Tallies.{IsDeclared, IsWithin, both_bounds, TalliesFields, HoldsOfRun, EntersShape}
+use Rattle.allocative_tally.specs.Tallies.{buffer_of, in_slices, TalliesMany, FitsWord}
+use Rattle.allocative_tally.specs.Tallies.{IsDeclared, IsWithin, both_bounds, TalliesFields, EntersShape}
 use Rattle.allocative_tally.specs.declared.places.Places.{Places}
 use Rattle.allocative_tally.proofs.Counting.{counted_field, counted_inline, counted_unique, counted_leaf, tallies_both}
 use Rattle.allocative_tally.specs.Shapes.{ShownAs}
-use Rattle.allocative_tally.specs.Tallies.{AddsItems, AddsIndex, CannotAddIndex, no_room_for_both, HasBuffer}
-use Rattle.allocative_tally.specs.Tallies.{without_bytes, without_items, with_buffer}
-use Rattle.allocative_tally.proofs.Exceeding.{text_as, slice_as, slice_one_as, cut_as, buffer_as, inline_as, spilled_as}
+use Rattle.allocative_tally.specs.Tallies.{AddsItems, CannotAdd, no_room_for_both}
+use Rattle.allocative_tally.proofs.Exceeding.{text_as, each_in, slice_one_as, cut_as, buffer_as, inline_as, spilled_as}
 use Rattle.allocative_tally.proofs.Exceeding.{index_data_as, table_as, item_cannot, small_vec_size}
-use Rattle.allocative_tally.specs.Tallies.{HoldsOfEveryRun, CannotTally, CannotAdd, CannotCountRoom, no_place}
+use Rattle.allocative_tally.specs.Tallies.{HoldsOfEveryRun, CannotTally, Exceeds}
 use Rattle.std.specs.Iterator.{Yields, AlwaysYields}
 use Rattle.std.proofs.Common.{map}
 use Rattle.allocative_tally.proofs.Counting.{tallies_as, tallies_then, tallies_none, entry_direct, shape_direct}
@@ -81,6 +82,14 @@ pub next_container : {m : ℕ} (n : ℕ) {k : Key} {p : Showing} {s t : Shape} �
 next_container n room fits inside =
     next_case (record { bytes = n; sized = refl; fits = fits }) inside (holds_bytes room)
 
+-- A container is counted, or cannot be, with what it shows inside its entry.
+pub next_or_cannot : {X E : Type 0} {m : ℕ} (n : ℕ) {k : Key} {p : Showing} {s t : Shape} → m ≤ n → n < 2 ^ 64 →
+    (r : Result X E) → MatchResult r (λ _. Tallies (Some m) p s t) (λ _. Exceeds p s) →
+    MatchResult r (λ _. TalliesNext (Some n) (Field k (Some n) p) (λ i. entries k (Some n) i s)
+    (λ i. entries k (Some n) i t)) (λ _. CannotTally (Field k (Some n) p) (λ i. entries k (Some n) i s))
+next_or_cannot n room fits r h =
+    MatchResult-weaker r h (λ _ inside. next_container n room fits inside) (λ _ inside. cannot_case inside)
+
 -- ---- places
 -- The bytes of so many values of a size, if they fit a word.
 pub times_is : (size : Option ℕ) {z : ℕ} (n : ℕ) → size ≡ Some z → z * n < 2 ^ 64 → bytes_times size n ≡ z * n
@@ -91,15 +100,6 @@ times_is (Some s) {z} n e fits = let same : s * n ≡ z * n = ap (λ (y : ℕ). 
 pub times_most : (size : Option ℕ) {z : ℕ} (n : ℕ) → size ≡ Some z → bytes_times size n ≤ z * n
 times_most None n e = absurd (cc)
 times_most (Some s) {z} n e = let same : s * n ≡ z * n = ap (λ (y : ℕ). y * n) (cc) in omega (arith, same)
-
--- The bytes of the places before and of those that were added fit a word.
-pub places_fit : {size : Option ℕ} {l u : ℕ} {old new : Places} → (a : AddsPlaces size l u old new) →
-    a.room.bytes * old.items + a.room.bytes * l + (a.room.bytes * old.unused + a.room.bytes * u) < 2 ^ 64
-places_fit {l = l} {u} {old} {new} a =
-    let z = a.room.bytes in
-    let items = ap (λ (i : ℕ). z * i) a.items ∙ mul-add z old.items l in
-    let unused = ap (λ (i : ℕ). z * i) a.unused ∙ mul-add z old.unused u in
-    omega (arith, a.room.fits, mul-add z new.items new.unused, items, unused)
 
 -- The bytes of the items before and of those that were added fit a word.
 pub items_fit : {size : Option ℕ} {l : ℕ} {old new : Places} → (a : AddsItems size l old new) →
@@ -144,124 +144,75 @@ places_counted {size} {y} {m} {n} {n'} {b} {b'} k u {s = s} more is unused items
     counted_unique {k = k} (one_more (Some 8) n n' refl more) inside (λ r. omega (arith, top, spare, within, room))
 
 -- ---- slices
+-- Other items than those that are shown one by one are entries of their bytes together.
+one_in : {T : Type 0} (cut : Bool) (name : Key) (z : ℕ) (needs_drop : Bool) (p : T → Showing) (xs : List T) (n m i j : ℕ) →
+    are_shown_each needs_drop (Some z) ≡ false → 0 < m → m ≤ n + 1 → j ≡ i + z * length xs →
+    Tallies (Some (z * length xs)) (in_slices cut name (Some z) needs_drop p xs) (EntryAt Wide name (sum_of n i) NoEntry)
+    (EntryAt Wide name (sum_of m j) NoEntry)
+one_in false name z needs_drop p xs n m i j is some one more =
+    tallies_as (slice_one_as name z needs_drop p xs is) (counted_leaf (adds_of n m some one more))
+one_in true name z needs_drop p xs n m i j is some one more =
+    tallies_as (cut_as name z needs_drop p xs is) (tallies_within _ (holds_bytes {m = z * length xs + z * 0} (omega arith))
+    (tallies_then (counted_leaf (adds_of n m some one more))
+    (counted_leaf {n = z * 0} (adds_of m m some (omega arith) (omega arith)))))
+
 -- A slice of items that are shown one by one is what each item shows.
 pub slice_each : {T : Type 0} (name : Key) (size : Option ℕ) (needs_drop : Bool) (p : T → Showing) (xs : List T)
     {s t : ℕ → Shape} → are_shown_each needs_drop size ≡ true → TalliesEach size p xs s t →
-    TalliesSlice size (length xs) needs_drop name (slice_shows name size needs_drop p xs) s t
+    TalliesSlice size needs_drop name p xs s t
 slice_each name None needs_drop p xs is c = absurd (cc)
 slice_each name (Some y) needs_drop p xs is c = record {
-  next = λ z n m i j e some one more. rw is (tallies_as (slice_as name (Some y) needs_drop p xs is)
+  next = λ cut z n m i j e some one more. rw is (tallies_as (each_in cut name y needs_drop p xs is)
       (times_counted (length xs) e (c.items.next i j more)));
 }
 
 -- A slice of other items is one entry.
 pub slice_one : {T : Type 0} (name : Key) (size : Option ℕ) (needs_drop : Bool) (p : T → Showing) (xs : List T)
-    (s : ℕ → Shape) → are_shown_each needs_drop size ≡ false →
-    TalliesSlice size (length xs) needs_drop name (slice_shows name size needs_drop p xs) s s
-slice_one name None needs_drop p xs s is = record { next = λ z n m i j e some one more. absurd (cc) }
+    (s : ℕ → Shape) → are_shown_each needs_drop size ≡ false → TalliesSlice size needs_drop name p xs s s
+slice_one name None needs_drop p xs s is = record { next = λ cut z n m i j e some one more. absurd (cc) }
 slice_one name (Some y) needs_drop p xs s is = record {
-  next = λ z n m i j e some one more.
+  next = λ cut z n m i j e some one more.
       let same : y ≡ z = cc in
-      let all : z * j ≡ z * i + z * length xs = ap (λ (v : ℕ). z * v) more ∙ mul-add z i (length xs) in
-      rw is (tallies_as (subst (λ (v : ℕ). ShownAs (Inside name (v * length xs) Nothing)
-      (slice_shows name (Some y) needs_drop p xs)) same (slice_one_as name y needs_drop p xs is))
-      (counted_leaf (adds_of n m some one all)));
-}
-
--- A list in two slices is the first slice and then the second.
-pub cut_counted : {T : Type 0} (name : Key) (size : Option ℕ) (needs_drop : Bool) (p : T → Showing) (xs ys zs : List T)
-    {s t u : ℕ → Shape} → xs ++ ys ≡ zs →
-    TalliesSlice size (length xs) needs_drop name (slice_shows name size needs_drop p xs) s t →
-    TalliesSlice size (length ys) needs_drop name (slice_shows name size needs_drop p ys) t u →
-    TalliesSlice size (length zs) needs_drop name (cut_shows name size needs_drop p zs) s u
-cut_counted name size needs_drop p xs ys zs e a b = record {
-  next = λ z n m i j is some one more.
-      let count : length zs ≡ length xs + length ys = ap length (sym e) ∙ length-append xs ys in
-      let bytes : z * length xs + z * length ys ≡ z * length zs =
-      sym (ap (λ (v : ℕ). z * v) count ∙ mul-add z (length xs) (length ys)) in
-      rw (← bytes) (tallies_as (cut_as name size needs_drop p xs ys zs e)
-      (tallies_then (a.next z n m i (i + length xs) is some one refl)
-      (b.next z m m (i + length xs) j is some (omega arith) (omega (arith, more, count)))));
+      let all : y * j ≡ y * i + y * length xs = ap (λ (v : ℕ). y * v) more ∙ mul-add y i (length xs) in
+      rw (← same) (rw is (one_in cut name y needs_drop p xs n m (y * i) (y * j) is some one all));
 }
 
 -- ---- buffers
--- If there is no buffer, nothing is counted of its places.
-pub room_missing : {size : Option ℕ} {r : Bool} {n c : ℕ} {a : Places} → HasBuffer size n c r → r ≡ false →
-    CountsRoom size n c a a false
-room_missing (without_bytes e) is = no_bytes e refl
-room_missing (without_items {item} e x y) is = no_room item e x y refl
-room_missing (with_buffer e some room) is = absurd (cc)
-
--- If there is a buffer, it was added.
-pub room_added : {size : Option ℕ} {r : Bool} {n c left : ℕ} {old new : Places} → HasBuffer size n c r → r ≡ true →
-    left ≡ c - n → AddsPlaces size n left old new → CountsRoom size n c old new true
-room_added (without_bytes e) is i a = absurd (cc)
-room_added (without_items e x y) is i a = absurd (cc)
-room_added (with_buffer e some room) is i a = is_room e some room (rw i at a)
-
--- If there is a buffer, it could not be added.
-pub room_cannot : {size : Option ℕ} {r : Bool} {n c left : ℕ} {old : Places} → HasBuffer size n c r → r ≡ true →
-    left ≡ c - n → CannotAdd size n left old → CannotCountRoom size n c old
-room_cannot (without_bytes e) is i a = absurd (cc)
-room_cannot (without_items e x y) is i a = absurd (cc)
-room_cannot (with_buffer e some room) is i a = no_place e some room (rw i at a)
-
--- If there is a buffer, its places were counted.
-pub room_there : {size : Option ℕ} {r q : Bool} {n m c d : ℕ} {old new : Places} → HasBuffer size n c r → r ≡ true →
-    CountsRoom size m d old new q → n ≡ m → c ≡ d → q ≡ true
-room_there (without_bytes e) is a i j = cc
-room_there (without_items e x y) is a i j = cc
-room_there (with_buffer {item} e some room) is (no_bytes v w) i j = let none : item ≡ 0 = cc in absurd
-    (omega (arith, none, some))
-room_there (with_buffer e some room) is (no_room item v x y w) i j = absurd (omega (arith, room, x, y, i, j))
-room_there (with_buffer e some room) is (is_room v x y w) i j = refl
-
--- If there is no buffer, nothing is left to count.
-pub buffer_missing : {size : Option ℕ} {r : Bool} {n m c d : ℕ} {old new : Places} (name : Key) (needs_drop : Bool)
-    (s : ℕ → Shape) {p : Showing} → CountsRoom size n c old new r → r ≡ false → n ≡ m → c ≡ d →
-    Tallies (Some 8) (buffer_shows size p m d) (buffer_of name size needs_drop old s)
-    (buffer_of name size needs_drop new s)
-buffer_missing name needs_drop s (no_bytes e v) is i j = rw v (tallies_none (without_size e refl))
-buffer_missing name needs_drop s (no_room item e x y v) is i j = rw v (tallies_none (without_room e (sym i ∙ x) (sym j ∙ y) refl))
-buffer_missing name needs_drop s (is_room e some room adds) is i j = absurd (cc)
-
 -- The items of buffers have at most their bytes at the top.
 items_direct : (is_each : Bool) (name : Key) (n b : ℕ) (s : Shape) → direct (forest_of s) ≤ b →
     direct (forest_of (items_shape is_each name n b s)) ≤ b
 items_direct true name n b s h = h
 items_direct false name n b s h = entry_direct Wide name (sum_of n b) NoEntry
 
+-- What a buffer with unused places adds to the bytes, and that all fit a word.
+places_room : {item place : Option ℕ} {z y l u : ℕ} {old new : Places} → item ≡ Some z → place ≡ Some y →
+    AddsPlaces item place l u old new → (new.unused ≡ old.unused + y * u)
+    × (z * old.items + z * l + (old.unused + y * u) < 2 ^ 64)
+places_room {z = z} {y} {l} {u} {old} {new} e i a =
+    let left : a.adds.room.bytes ≡ z = let same = sym a.adds.room.sized ∙ e in cc in
+    let right : a.spare_room.bytes ≡ y = let same = sym a.spare_room.sized ∙ i in cc in
+    let unused : new.unused ≡ old.unused + y * u = a.unused ∙ ap (λ (v : ℕ). old.unused + v * u) right in
+    let items = ap (λ (v : ℕ). z * v) a.adds.items ∙ mul-add z old.items l in
+    (unused, omega (arith, a.room, ap (λ (v : ℕ). v * new.items) left, items, unused))
+
 -- If there is a buffer, it is counted with its items.
-pub buffer_counted : {size : Option ℕ} {r : Bool} {n m c d : ℕ} {old new : Places} (name : Key) (needs_drop : Bool)
-    {p : Showing} {s t : ℕ → Shape} → CountsRoom size n c old new r → r ≡ true → n ≡ m → c ≡ d →
-    ((i : ℕ) → top_bytes (s i) ≤ bytes_times size i) → TalliesSlice size m needs_drop name p s t →
-    Tallies (Some 8) (buffer_shows size p m d) (buffer_of name size needs_drop old s)
-    (buffer_of name size needs_drop new t)
-buffer_counted name needs_drop (no_bytes e v) is i j most items = absurd (cc)
-buffer_counted name needs_drop (no_room item e x y v) is i j most items = absurd (cc)
-buffer_counted {size} {n = n} {m} {c} {old = old} {new} name needs_drop {p} {s} {t} (is_room {item} e some room a)
-    is i j most items =
-    let fits = places_fit a in
-    let all : a.room.bytes * new.items ≡ a.room.bytes * old.items + a.room.bytes * n =
-    ap (λ (v : ℕ). a.room.bytes * v) a.items ∙ mul-add a.room.bytes old.items n in
-    let first = times_is size old.items a.room.sized (omega (arith, fits)) in
-    let last = times_is size new.items a.room.sized (omega (arith, fits, all)) in
-    let more : new.items ≡ old.items + m = omega (arith, a.items, i) in
-    let slice = items.next a.room.bytes old.buffers new.buffers old.items new.items a.room.sized
-    (omega (arith, a.buffers)) (omega (arith, a.buffers)) more in
-    let top = items_direct (are_shown_each needs_drop size) name old.buffers (a.room.bytes * old.items) (s old.items)
-    (most_direct old.items (s old.items) a.room.sized (most old.items)) in
-    let z = a.room.bytes in
-    let unused = ap (λ (v : ℕ). z * v) a.unused ∙ mul-add z old.unused (c - n) in
-    let before = times_is size old.unused a.room.sized (omega (arith, fits)) in
-    let spare : bytes_times size new.unused ≡ bytes_times size old.unused + z * (c - n) =
-    times_is size new.unused a.room.sized (omega (arith, fits, unused)) ∙ omega (arith, unused, before) in
-    let whole : Tallies (Some 8) (buffer_shows size p n c) (buffer_of name size needs_drop old s)
-    (buffer_of name size needs_drop new t) =
-    rw (first, last) (tallies_as (buffer_as e some room)
-    (places_counted (codes "ptr") (c - n) a.buffers a.room.sized spare (rw (← i) at slice)
-    (omega (arith, top, before, fits)))) in
-    rw (i, j) at whole
+pub buffer_counted : {T : Type 0} (cut : Bool) {z c : ℕ} {old new : Places} (name : Key) (needs_drop : Bool)
+    {p : T → Showing} {xs : List T} {s t : ℕ → Shape} → 0 < z → 0 < length xs + c →
+    AddsPlaces (Some z) (Some z) (length xs) (c - length xs) old new →
+    ((i : ℕ) → top_bytes (s i) ≤ bytes_times (Some z) i) → TalliesSlice (Some z) needs_drop name p xs s t →
+    Tallies (Some 8) (buffer_shows (Some z) (in_slices cut name (Some z) needs_drop p xs) (length xs) c)
+    (buffer_of name (Some z) needs_drop old s) (buffer_of name (Some z) needs_drop new t)
+buffer_counted cut {z} {c} {old} {new} name needs_drop {xs = xs} {s} some room a most items =
+    let all = places_room refl refl a in
+    let more = ap (λ (v : ℕ). z * v) a.adds.items ∙ mul-add z old.items (length xs) in
+    let first : bytes_times (Some z) old.items ≡ z * old.items = omega (arith, all.1) in
+    let last : bytes_times (Some z) new.items ≡ z * new.items = omega (arith, all.1, more) in
+    let slice = items.next cut z old.buffers new.buffers old.items new.items refl (omega (arith, a.adds.buffers))
+    (omega (arith, a.adds.buffers)) a.adds.items in
+    let top = items_direct (are_shown_each needs_drop (Some z)) name old.buffers (z * old.items) (s old.items)
+    (omega (arith, shape_direct (s old.items), most old.items)) in
+    rw (first, last) (tallies_as (buffer_as refl some room)
+    (places_counted (codes "ptr") (c - length xs) a.adds.buffers refl all.0 slice (omega (arith, top, all.1))))
 
 -- ---- one by one
 -- The bytes of one more value.
@@ -302,17 +253,6 @@ each_more {w = w} p xs x a b = record {
   fields = λ k. many_more (field_of k w p) xs x (a.fields k) (next_field b);
 }
 
--- What holds of the items of a run holds of those that every run gives.
-pub of_run : {S A B : Type 0} {steps : S → Option A → S → Type 0} {s : S} {v : A → B} {r : List B → Type 0}
-    {all : List B} → YieldsList steps v s all → HoldsOfRun steps s v r → r all
-of_run {r = r} y o =
-    let d = o.drained in subst r (items_from_drains o.given (d.1.0, d.1.1, λ _. (d.0, d.1.2)) y) o.holds
-
--- What holds of the items of a run holds of every list that every run gives, and so does what follows from it.
-pub every_run : {S A B : Type 0} {steps : S → Option A → S → Type 0} {s : S} {v : A → B} {q r : List B → Type 0} →
-    HoldsOfRun steps s v q → ((xs : List B) → q xs → r xs) → HoldsOfEveryRun steps s v r
-every_run o up = record { along = λ xs y. up xs (of_run (record { runs = y }) o) }
-
 -- What holds of every list that every run gives holds of such a list.
 pub of_every : {S A B : Type 0} {steps : S → Option A → S → Type 0} {s : S} {v : A → B} {r : List B → Type 0}
     {all : List B} → YieldsList steps v s all → HoldsOfEveryRun steps s v r → r all
@@ -345,6 +285,12 @@ run_cannot steps {s = s} t {v} {p} {x} xs {a} g n c e = record {
   along = λ ys y. let split = begins steps v s t xs ys g n y in
       subst (λ zs. CannotTally (each_shows p zs) a) split.1 (item_cannot p (map v xs) (v x) split.0 c e);
 }
+
+-- What holds of all items of a run that has ended holds of every list that every run gives.
+pub run_ends : {S A B : Type 0} {steps : S → Option A → S → Type 0} {s t u : S} {v : A → B} {r : List B → Type 0}
+    (xs : List A) → Yields steps s xs t → steps t None u → r (map v xs) → HoldsOfEveryRun steps s v r
+run_ends {t = t} {u} {r = r} xs g n h =
+    record { along = λ ys y. subst r (items_from_drains xs (t, g, λ _. (u, n)) (record { runs = y })) h }
 
 -- ---- arrays
 -- A size that has room for n items has room for at most n items.
@@ -449,10 +395,6 @@ items_within {w = w} {z} l holds e c =
 pub holds_pair : (v w : Option ℕ) → HoldsBound (size_sum v w) (both_bounds v w)
 holds_pair v w = holds_both v w v w holds_itself holds_itself
 
--- The size of a tuple of two has room for both.
-pub holds_tuple : (v w : Option ℕ) (align : ℕ) → HoldsBound (size_up (size_sum v w) align) (both_bounds v w)
-holds_tuple v w align = holds_up (size_sum v w) align (holds_pair v w)
-
 -- Pairs have at most the bytes of a size that has room for both at the top.
 pub pairs_most : {size : Option ℕ} (v w : Option ℕ) {z : ℕ} (i : ℕ) (s t : ℕ → Shape) → HoldsBound size (both_bounds v w) →
     size ≡ Some z → direct (forest_of (pairs_shape v w s t i)) ≤ z * i
@@ -525,52 +467,53 @@ table_counted a a' c c' {b = b} {bytes} some is size more buckets fits =
     (λ r. omega (arith, before, within, buckets, fits)))
 
 -- A buffer with unused places of another size was added.
-pub index_adds : {item place : Option ℕ} {l u b x after all : ℕ} {old new : Places} → AddsItems item l old new →
-    FitsWord place u → x ≡ bytes_times place u → after ≡ b + x → all ≡ bytes_times item new.items → all + after < 2 ^
-    64 →
-    AddsIndex item place l u old b new after
-index_adds {item} {place} {u = u} {new = new} a fits x e all room = record {
-  adds = a;
-  spare_room = fits;
-  unused = omega (arith, e, x, times_is place u fits.sized fits.fits);
-  room = omega (arith, room, all, times_is item new.items a.room.sized a.room.fits);
-}
+pub index_adds : {item place : Option ℕ} {l u x all : ℕ} {old mid new : Places} → AddsItems item l old mid →
+    FitsWord place u → x ≡ bytes_times place u → new.buffers ≡ mid.buffers → new.items ≡ mid.items →
+    new.unused ≡ old.unused + x → all ≡ bytes_times item new.items → all + new.unused < 2 ^ 64 →
+    AddsPlaces item place l u old new
+index_adds {item} {place} {u = u} {old = old} {mid} {new} a fits x buffers items unused all room =
+    let each = times_is item mid.items a.room.sized a.room.fits in record {
+      adds = record {
+        buffers = buffers ∙ a.buffers;
+        items = items ∙ a.items;
+        room = record { bytes = a.room.bytes; sized = a.room.sized; fits = rw items a.room.fits };
+      };
+      spare_room = fits;
+      unused = omega (arith, unused, x, times_is place u fits.sized fits.fits);
+      room = rw items (omega (arith, room, rw items at all, each));
+    }
 
 -- Such a buffer cannot be added, since the bytes of all exceed a word.
-pub index_cannot : {item place : Option ℕ} {l u b x after all : ℕ} {old new : Places} → AddsItems item l old new →
-    FitsWord place u → x ≡ bytes_times place u → after ≡ b + x → all ≡ bytes_times item new.items → 2 ^ 64 ≤ all +
-    after →
-    CannotAddIndex item place l u old b
-index_cannot {item} {place} {u = u} {new = new} a fits x e all over = no_room_for_both a.room.sized fits.sized
+pub index_cannot : {item place : Option ℕ} {l u x all : ℕ} {old mid : Places} → AddsItems item l old mid →
+    FitsWord place u → x ≡ bytes_times place u → all ≡ bytes_times item mid.items → 2 ^ 64 ≤ all + (old.unused + x) →
+    CannotAdd item place l u old
+index_cannot {item} {place} {u = u} {mid = mid} a fits x all over = no_room_for_both a.room.sized fits.sized
     (omega (
       arith,
       over,
       all,
-      e,
       x,
-      times_is item new.items a.room.sized a.room.fits,
+      times_is item mid.items a.room.sized a.room.fits,
       times_is place u fits.sized fits.fits,
       ap (λ (i : ℕ). a.room.bytes * i) a.items,
     ))
 
 -- A container in the order of insertion is its own entry, with its items, its unused places and its table inside it.
-pub index_counted : {given item found size w : Option ℕ} {m l u places n unused unused' : ℕ} {k : Key} {p : Showing}
+pub index_counted : {given item found size w : Option ℕ} {m l u places n : ℕ} {k : Key} {p : Showing}
     {old new : Places} {s t : ℕ → Shape} {r r' : Shape} → HoldsBound item w → given ≡ item → found ≡ size → m ≡ l →
-    u ≡ places → n ≡ l → AddsIndex given found m u old unused new unused' → TalliesMany w l p s t →
+    u ≡ places → n ≡ l → AddsPlaces given found m u old new → TalliesMany w l p s t →
     ((z i : ℕ) → item ≡ Some z → direct (forest_of (s i)) ≤ z * i) → Tallies (Some 8) (table_shows n) r r' →
     TalliesNext (Some 72) (Field k (Some 72) (Both (index_data_shows size p places) (table_shows l)))
-    (λ i. entries k (Some 72) i (Beside (buffer_shape (codes "data") old.buffers (s old.items) unused) r))
-    (λ i. entries k (Some 72) i (Beside (buffer_shape (codes "data") new.buffers (t new.items) unused') r'))
-index_counted {item = item} {size = size} {l = l} {places = places} {unused = unused} {unused' = unused'} {old = old}
-    {new}
-    holds e i same spare count adds items most table =
-    let a : AddsIndex item size l places old unused new unused' = rw (e, i, same, spare) at adds in
-    let z = a.adds.room.bytes in
-    let all = ap (λ (i : ℕ). z * i) a.adds.items ∙ mul-add z old.items l in
+    (λ i. entries k (Some 72) i (Beside (buffer_shape (codes "data") old.buffers (s old.items) old.unused) r))
+    (λ i. entries k (Some 72) i (Beside (buffer_shape (codes "data") new.buffers (t new.items) new.unused) r'))
+index_counted {item = item} {size = size} {l = l} {places = places} {old = old} {new} holds e i same spare count adds items
+    most table =
+    let a : AddsPlaces item size l places old new = rw (e, i, same, spare) at adds in
+    let all = places_room a.adds.room.sized a.spare_room.sized a in
     next_container 72 (omega arith) (omega arith) (tallies_both (tallies_as index_data_as
-    (places_counted (codes "data") places a.adds.buffers a.spare_room.sized a.unused
+    (places_counted (codes "data") places a.adds.buffers a.spare_room.sized all.0
     (items_within l holds a.adds.room.sized (items.next old.items new.items a.adds.items))
-    (omega (arith, most z old.items a.adds.room.sized, a.room, all, a.unused)))) (rw count at table))
+    (omega (arith, most a.adds.room.bytes old.items a.adds.room.sized, all.1)))) (rw count at table))
 
 -- ---- what is entered
 -- Items that were counted from nothing, and entered, were entered as each of them shows.

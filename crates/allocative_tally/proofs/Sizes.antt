@@ -44,27 +44,23 @@ holds_up (Some m) a h = record { room = λ d i. room_checked (up m a) d (omega (
 
 -- The first of two fields.
 pub holds_first : (u v : Option ℕ) {w : Option ℕ} → HoldsBound u w → HoldsBound (size_sum u v) w
-holds_first None v h = record { room = λ d i. tt }
-holds_first (Some m) None h = record { room = λ d i. tt }
 holds_first (Some m) (Some n) h = record { room = λ d i. room_checked (m + n) d (omega (arith, h.room d i)) }
+holds_first u v h = record { room = λ d i. tt }
 
 -- The fields behind a tag.
 pub holds_second : (u v : Option ℕ) {w : Option ℕ} → HoldsBound v w → HoldsBound (size_sum u v) w
-holds_second None v h = record { room = λ d i. tt }
-holds_second (Some m) None h = record { room = λ d i. tt }
 holds_second (Some m) (Some n) h = record { room = λ d i. room_checked (m + n) d (omega (arith, h.room d i)) }
+holds_second u v h = record { room = λ d i. tt }
 
 -- The fields of one variant.
 pub holds_first_of : (u v : Option ℕ) {w : Option ℕ} → HoldsBound u w → HoldsBound (size_max u v) w
-holds_first_of None v h = record { room = λ d i. tt }
-holds_first_of (Some m) None h = record { room = λ d i. tt }
 holds_first_of (Some m) (Some n) h = record { room = λ d i. omega (arith, h.room d i) }
+holds_first_of u v h = record { room = λ d i. tt }
 
 -- The fields of a later variant.
 pub holds_second_of : (u v : Option ℕ) {w : Option ℕ} → HoldsBound v w → HoldsBound (size_max u v) w
-holds_second_of None v h = record { room = λ d i. tt }
-holds_second_of (Some m) None h = record { room = λ d i. tt }
 holds_second_of (Some m) (Some n) h = record { room = λ d i. omega (arith, h.room d i) }
+holds_second_of u v h = record { room = λ d i. tt }
 
 -- A size holds only a bound that is there and not greater.
 pub not_greater : (w : Option ℕ) (m : ℕ) → HoldsBound (Some m) w → (k : ℕ) × (w ≡ Some k) × (k ≤ m)
@@ -73,19 +69,16 @@ not_greater (Some k) m h = (k, refl, h.room k (omega arith))
 
 -- Two lists of fields.
 pub holds_both : (u v w x : Option ℕ) → HoldsBound u w → HoldsBound v x → HoldsBound (size_sum u v) (both_bounds w x)
-holds_both None v w x a b = record { room = λ d h. tt }
-holds_both (Some m) None w x a b = record { room = λ d h. tt }
 holds_both (Some m) (Some n) w x a b =
     let y = not_greater w m a in
     let z = not_greater x n b in
     let sums = λ (d : ℕ) (h : IsWithin d (both_bounds w x)). subst (λ (u : Option ℕ). IsWithin d
     (both_bounds u (Some z.0))) y.1 (subst (λ (u : Option ℕ). IsWithin d (both_bounds w u)) z.1 h) in
     record { room = λ d h. room_checked (m + n) d (omega (arith, y.2, z.2, sums d h)) }
+holds_both u v w x a b = record { room = λ d h. tt }
 
 -- Fields can be grouped either way.
 pub holds_grouped : (u v w : Option ℕ) {size : Option ℕ} → HoldsBound size (both_bounds (both_bounds u v) w) →
     HoldsBound size (both_bounds u (both_bounds v w))
-holds_grouped None v w a = a
-holds_grouped (Some m) None w a = a
-holds_grouped (Some m) (Some n) None a = a
 holds_grouped (Some m) (Some n) (Some k) a = record { room = λ d h. a.room d (omega (arith, h)) }
+holds_grouped u v w a = a

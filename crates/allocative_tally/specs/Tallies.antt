@@ -1,14 +1,14 @@
 -- What counting a value does to what was counted before.
-use Rattle.std.specs.Prelude.{◌≡◌, ◌≤◌, ◌<◌, ◌+◌, ◌-◌, ◌*◌, ◌^◌, ℕ, Bool, true, false, List, length, map, Option, None}
+use Rattle.std.specs.Prelude.{◌≡◌, ◌≤◌, ◌<◌, ◌+◌, ◌-◌, ◌*◌, ◌^◌, ℕ, Bool, true, false, List, length, Option, None}
 use Rattle.std.specs.Prelude.{Some, Result, ⊤, codes}
 use Rattle.std.specs.Option.{ForSome}
-use Rattle.std.specs.Iterator.{Drains, AlwaysYields}
+use Rattle.std.specs.Iterator.{AlwaysYields}
 use Rattle.allocative_graph.specs.Path.{Key}
 use Rattle.allocative_graph.specs.Forest.{Forest, followed_by}
 use Rattle.allocative_graph.specs.Owned.{direct}
-use Rattle.allocative_graph.specs.Shows.{Showing, Field, each_shows}
+use Rattle.allocative_graph.specs.Shows.{Showing, Field, each_shows, slice_shows}
 use Rattle.allocative_graph.specs.declared.refusal.Refusal.{Refusal}
-use Rattle.allocative.specs.Bodies.{are_shown_each}
+use Rattle.allocative.specs.Bodies.{are_shown_each, cut_shows}
 use Rattle.allocative.specs.Runs.{field_of}
 use Rattle.allocative.specs.Visited.{Entered}
 use Rattle.allocative.specs.declared.visitor.Visitor.{Visitor}
@@ -83,13 +83,6 @@ pub record TalliesEach {T : Type 0} (size : Option ℕ) (p : T → Showing) (xs 
   pub fields : (k : Key) → TalliesMany size (length xs) (each_shows (field_of k size p) xs) (λ n. entries k size n (s n))
       (λ n. entries k size n (t n))
 
--- r holds of the items of some whole run of an iterator that starts at s; v is what a contract sees of an item.
-pub record HoldsOfRun {S A B : Type 0} (steps : S → Option A → S → Type 0) (s : S) (v : A → B) (r : List B → Type 0)
-    : Type 0 where
-  pub given : List A
-  pub drained : Drains steps s given
-  pub holds : r (map v given)
-
 -- One more value of a number of its own was counted.
 pub record TalliesOwn (size : Option ℕ) (p : Showing) (n : ℕ) (s : ℕ → Shape) (m : ℕ) (t : ℕ → Shape) : Type 0 where
   pub more : m ≡ n + 1
@@ -99,13 +92,20 @@ pub record TalliesOwn (size : Option ℕ) (p : Showing) (n : ℕ) (s : ℕ → S
 pub record CannotTallyOwn (size : Option ℕ) (p : Showing) (n : ℕ) (s : ℕ → Shape) : Type 0 where
   pub next : (k : Key) → Exceeds (Field k size p) (entries k size n (s n))
 
--- What a slice of l items of a declared size shows was counted into the items of slices, which are shown one by one or
--- as one entry: n and m are how many slices there were before and then, i and j how many items.
-pub record TalliesSlice (size : Option ℕ) (l : ℕ) (needs_drop : Bool) (name : Key) (p : Showing) (s t : ℕ → Shape)
-    : Type 0 where
-  pub next : (z n m i j : ℕ) → size ≡ Some z → 0 < m → m ≤ n + 1 → j ≡ i + l
-      → Tallies (Some (z * l)) p (items_shape (are_shown_each needs_drop size) name n (z * i) (s i))
-      (items_shape (are_shown_each needs_drop size) name m (z * j) (t j))
+-- What items show as a slice, in one piece or cut in two.
+abbrev pub in_slices : {T : Type 0} → Bool → Key → Option ℕ → Bool → (T → Showing) → List T → Showing
+in_slices false name size needs_drop p xs = slice_shows name size needs_drop p xs
+in_slices true name size needs_drop p xs = cut_shows name size needs_drop p xs
+
+-- Items of a declared size were counted into the items of slices, which are shown one by one or as one entry: n and m
+-- are how many slices there were before and then, i and j how many items.
+pub record TalliesSlice {T : Type 0} (size : Option ℕ) (needs_drop : Bool) (name : Key) (p : T → Showing) (xs : List T)
+    (s t : ℕ → Shape) : Type 0
+  where
+    pub next : (cut : Bool) (z n m i j : ℕ) → size ≡ Some z → 0 < m → m ≤ n + 1 → j ≡ i + length xs
+        → Tallies (Some (z * length xs)) (in_slices cut name size needs_drop p xs)
+        (items_shape (are_shown_each needs_drop size) name n (z * i) (s i))
+        (items_shape (are_shown_each needs_drop size) name m (z * j) (t j))
 
 -- The bytes of n items of a declared size fit a word.
 pub record FitsWord (size : Option ℕ) (n : ℕ) : Type 0 where
@@ -131,21 +131,7 @@ no_places = record { buffers = 0; items = 0; unused = 0 }
 abbrev pub buffer_of : Key → Option ℕ → Bool → Places → (ℕ → Shape) → Shape
 buffer_of name size needs_drop places s = buffer_shape (codes "ptr") places.buffers
     (items_shape (are_shown_each needs_drop size) name places.buffers (bytes_times size places.items) (s places.items))
-    (bytes_times size places.unused)
-
--- A buffer with so many used and spare places of a declared size each was added, and the bytes of all fit a word.
-pub record AddsPlaces (size : Option ℕ) (used spare : ℕ) (old new : Places) : Type 0 where
-  pub buffers : new.buffers ≡ old.buffers + 1
-  pub items : new.items ≡ old.items + used
-  pub unused : new.unused ≡ old.unused + spare
-  pub room : FitsWord size (new.items + new.unused)
-
--- Such a buffer cannot be added: a number does not fit a word, or there is no size, or the bytes of all do not fit.
-pub data CannotAdd (size : Option ℕ) (used spare : ℕ) (old : Places) : Type 0 where
-  many_buffers : 2 ^ 64 ≤ old.buffers + 1 → CannotAdd size used spare old
-  many_places : 2 ^ 64 ≤ old.items + used + (old.unused + spare) → CannotAdd size used spare old
-  many_bytes : ForSome size (λ s. 2 ^ 64 ≤ s * (old.items + used + (old.unused + spare)))
-      → CannotAdd size used spare old
+    places.unused
 
 -- A buffer with so many items of a declared size was added, and no unused place, and the bytes of all items fit a word.
 pub record AddsItems (size : Option ℕ) (used : ℕ) (old new : Places) : Type 0 where
@@ -159,49 +145,29 @@ pub data CannotAddItems (size : Option ℕ) (used : ℕ) (old : Places) : Type 0
   too_many_items : 2 ^ 64 ≤ old.items + used → CannotAddItems size used old
   too_many_bytes : ForSome size (λ s. 2 ^ 64 ≤ s * (old.items + used)) → CannotAddItems size used old
 
--- A buffer of n items of a declared size, with room for so many, was added, if there is one; otherwise nothing.
-pub data CountsRoom (size : Option ℕ) (n capacity : ℕ) (old new : Places) : Bool → Type 0 where
-  no_bytes : size ≡ Some 0 → new ≡ old → CountsRoom size n capacity old new false
-  no_room : (item : ℕ) → size ≡ Some item → n ≡ 0 → capacity ≡ 0 → new ≡ old → CountsRoom size n capacity old new false
-  is_room : {item : ℕ} → size ≡ Some item → 0 < item → 0 < n + capacity → AddsPlaces size n (capacity - n) old new
-      → CountsRoom size n capacity old new true
-
--- Whether n items of a declared size, with room for so many, have a buffer.
-pub data HasBuffer (size : Option ℕ) (n capacity : ℕ) : Bool → Type 0 where
-  without_bytes : size ≡ Some 0 → HasBuffer size n capacity false
-  without_items : {item : ℕ} → size ≡ Some item → n ≡ 0 → capacity ≡ 0 → HasBuffer size n capacity false
-  with_buffer : {item : ℕ} → size ≡ Some item → 0 < item → 0 < n + capacity → HasBuffer size n capacity true
-
--- Such a buffer cannot be added: there is no size, or there is a buffer that cannot be added.
-pub data CannotCountRoom (size : Option ℕ) (n capacity : ℕ) (old : Places) : Type 0 where
-  no_size : size ≡ None → CannotCountRoom size n capacity old
-  no_place : {item : ℕ} → size ≡ Some item → 0 < item → 0 < n + capacity → CannotAdd size n (capacity - n) old
-      → CannotCountRoom size n capacity old
-
--- A slice cannot be counted, and its items are shown one by one.
-pub record CannotTallySlice (size : Option ℕ) (needs_drop : Bool) (p : Showing) (s : ℕ → Shape) : Type 0 where
-  pub is_each : are_shown_each needs_drop size ≡ true
-  pub items : CannotTally p s
-
 -- r holds of each list that every run of an iterator that starts at s gives; v is what a contract sees of an item.
 pub record HoldsOfEveryRun {S A B : Type 0} (steps : S → Option A → S → Type 0) (s : S) (v : A → B)
     (r : List B → Type 0) : Type 0 where
   pub along : (xs : List B) → AlwaysYields steps v s xs → r xs
 
--- A buffer with so many items of a declared size was added, and unused places of another: the bytes of the places
--- before and then, and those of all items and places fit a word.
-pub record AddsIndex (item place : Option ℕ) (used spare : ℕ) (old : Places) (before : ℕ) (new : Places) (after : ℕ) :
-    Type 0
+-- A slice cannot be counted: its items are shown one by one, and cannot be.
+pub record CannotTallySlice {T : Type 0} (size : Option ℕ) (needs_drop : Bool) (p : T → Showing) (xs : List T)
+    (s : ℕ → Shape) : Type 0
   where
-    pub adds : AddsItems item used old new
-    pub spare_room : FitsWord place spare
-    pub unused : after ≡ before + spare_room.bytes * spare
-    pub room : adds.room.bytes * new.items + after < 2 ^ 64
+    pub is_each : are_shown_each needs_drop size ≡ true
+    pub items : CannotTally (each_shows p xs) s
+
+-- A buffer with so many items of a declared size was added, and unused places of another, and the bytes of all items
+-- and places fit a word.
+pub record AddsPlaces (item place : Option ℕ) (used spare : ℕ) (old new : Places) : Type 0 where
+  pub adds : AddsItems item used old new
+  pub spare_room : FitsWord place spare
+  pub unused : new.unused ≡ old.unused + spare_room.bytes * spare
+  pub room : adds.room.bytes * new.items + new.unused < 2 ^ 64
 
 -- Such a buffer cannot be added.
-pub data CannotAddIndex (item place : Option ℕ) (used spare : ℕ) (old : Places) (before : ℕ) : Type 0 where
-  no_room_for_items : CannotAddItems item used old → CannotAddIndex item place used spare old before
-  no_room_for_places : ForSome place (λ s. 2 ^ 64 ≤ before + s * spare) → CannotAddIndex item place used spare old
-      before
+pub data CannotAdd (item place : Option ℕ) (used spare : ℕ) (old : Places) : Type 0 where
+  no_room_for_items : CannotAddItems item used old → CannotAdd item place used spare old
+  no_room_for_places : ForSome place (λ s. 2 ^ 64 ≤ old.unused + s * spare) → CannotAdd item place used spare old
   no_room_for_both : {z s : ℕ} → item ≡ Some z → place ≡ Some s
-      → 2 ^ 64 ≤ z * (old.items + used) + (before + s * spare) → CannotAddIndex item place used spare old before
+      → 2 ^ 64 ≤ z * (old.items + used) + (old.unused + s * spare) → CannotAdd item place used spare old

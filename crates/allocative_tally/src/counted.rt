@@ -6,7 +6,7 @@ ghost use Rattle.std.specs.Iterator.{IsFinite};
 ghost use Rattle.std.specs.Map.Iter.{deref};
 ghost use Rattle.allocative_graph.specs.Shows.{each_shows};
 ghost use Rattle.allocative.specs.Visited.{Entered};
-ghost use Rattle.allocative_tally.specs.Tallies.{TalliesEach, CannotTally, HoldsOfRun, HoldsOfEveryRun, FitsWord};
+ghost use Rattle.allocative_tally.specs.Tallies.{TalliesEach, CannotTally, HoldsOfEveryRun, FitsWord};
 
 use crate::tally::{CountError, Tallied, product};
 use allocative::{Allocative, Described, Part, Refusal, Visitor};
@@ -27,11 +27,9 @@ pub fn count_run<'a, T: Tallied + 'a, I: Iterator<Item = &'a T> + Drop>(
 ) -> Result<(), CountError>
     requires can { I.can_next items }
     requires ends { IsFinite (I.remaining items) }
-    ensures { MatchResult result
-        (λ _. HoldsOfRun I.next_gives items deref
-        (λ xs. TalliesEach T.size T.may_show xs (T.shape tally.old) (T.shape tally.new)))
-        (λ _. HoldsOfEveryRun I.next_gives items deref
-        (λ xs. CannotTally (each_shows T.may_show xs) (T.shape tally.old))) }
+    ensures { HoldsOfEveryRun I.next_gives items deref (λ xs. MatchResult result
+        (λ _. TalliesEach T.size T.may_show xs (T.shape tally.old) (T.shape tally.new))
+        (λ _. CannotTally (each_shows T.may_show xs) (T.shape tally.old))) }
 {
     for item in items {
         item.tally(tally)?;

@@ -12,7 +12,7 @@ ghost use Rattle.allocative.specs.Runs.{field_of, pair_shows};
 ghost use Rattle.allocative.specs.StdShows.{in_any_order};
 ghost use Rattle.allocative_tally.specs.Shapes.{Beside, EntryAt, Wide, Narrow, entries, pairs_shape, data_shape};
 ghost use Rattle.allocative_tally.specs.Shapes.{sum_times};
-ghost use Rattle.allocative_tally.specs.Tallies.{Tallies, TalliesMany, HoldsOfRun, HoldsOfEveryRun, FitsWord};
+ghost use Rattle.allocative_tally.specs.Tallies.{Tallies, TalliesMany, HoldsOfEveryRun, FitsWord};
 ghost use Rattle.allocative_tally.specs.Tallies.{Exceeds, CannotTally, both_bounds, no_places};
 
 use crate::counted::count_run;
@@ -44,13 +44,12 @@ pub fn count_pairs<'a, K: Tallied + 'a, V: Tallied + 'a, I: Iterator<Item = (&'a
 ) -> Result<(), CountError>
     requires can { I.can_next pairs }
     requires ends { IsFinite (I.remaining pairs) }
-    ensures { MatchResult result
-        (λ _. HoldsOfRun I.next_gives pairs deref_pair (λ es. TalliesMany (both_bounds K.size V.size) (length es)
+    ensures { HoldsOfEveryRun I.next_gives pairs deref_pair (λ es. MatchResult result
+        (λ _. TalliesMany (both_bounds K.size V.size) (length es)
         (each_shows (pair_shows K.size K.may_show V.size V.may_show) es)
         (pairs_shape K.size V.size (K.shape tally.old.0) (V.shape tally.old.1))
-        (pairs_shape K.size V.size (K.shape tally.new.0) (V.shape tally.new.1))))
-        (λ _. HoldsOfEveryRun I.next_gives pairs deref_pair (λ es. CannotTally
-        (each_shows (pair_shows K.size K.may_show V.size V.may_show) es)
+        (pairs_shape K.size V.size (K.shape tally.new.0) (V.shape tally.new.1)))
+        (λ _. CannotTally (each_shows (pair_shows K.size K.may_show V.size V.may_show) es)
         (pairs_shape K.size V.size (K.shape tally.old.0) (V.shape tally.old.1)))) }
 {
     for pair in pairs {
@@ -99,12 +98,12 @@ fn count_map<'a, K: Tallied + 'a, V: Tallied + 'a, I: Iterator<Item = (&'a K, &'
 ) -> Result<(), CountError>
     requires can { I.can_next pairs }
     requires ends { IsFinite (I.remaining pairs) }
-    ensures { MatchResult result
-        (λ _. HoldsOfEveryRun I.next_gives pairs deref_pair (λ es. count ≡ length es → Tallies (Some 8)
+    ensures { HoldsOfEveryRun I.next_gives pairs deref_pair (λ es. count ≡ length es → MatchResult result
+        (λ _. Tallies (Some 8)
         (shows_inside (codes "data") 8 (each_shows (pair_shows K.size K.may_show V.size V.may_show) es))
         (data_shape tally.old (λ v. pairs_shape K.size V.size (K.shape v.0) (V.shape v.1)))
-        (data_shape tally.new (λ v. pairs_shape K.size V.size (K.shape v.0) (V.shape v.1)))))
-        (λ _. HoldsOfEveryRun I.next_gives pairs deref_pair (λ es. count ≡ length es → Exceeds
+        (data_shape tally.new (λ v. pairs_shape K.size V.size (K.shape v.0) (V.shape v.1))))
+        (λ _. Exceeds
         (shows_inside (codes "data") 8 (each_shows (pair_shows K.size K.may_show V.size V.may_show) es))
         (data_shape tally.old (λ v. pairs_shape K.size V.size (K.shape v.0) (V.shape v.1))))) }
 {
@@ -128,12 +127,12 @@ fn count_set<'a, K: Tallied + 'a, I: Iterator<Item = &'a K> + Drop>(
 ) -> Result<(), CountError>
     requires can { I.can_next keys }
     requires ends { IsFinite (I.remaining keys) }
-    ensures { MatchResult result
-        (λ _. HoldsOfEveryRun I.next_gives keys deref (λ ks. count ≡ length ks → Tallies (Some 8)
+    ensures { HoldsOfEveryRun I.next_gives keys deref (λ ks. count ≡ length ks → MatchResult result
+        (λ _. Tallies (Some 8)
         (shows_inside (codes "data") 8 (each_shows (field_of (codes "key") K.size K.may_show) ks))
         (data_shape tally.old (λ v i. entries (codes "key") K.size i (K.shape v i)))
-        (data_shape tally.new (λ v i. entries (codes "key") K.size i (K.shape v i)))))
-        (λ _. HoldsOfEveryRun I.next_gives keys deref (λ ks. count ≡ length ks → Exceeds
+        (data_shape tally.new (λ v i. entries (codes "key") K.size i (K.shape v i))))
+        (λ _. Exceeds
         (shows_inside (codes "data") 8 (each_shows (field_of (codes "key") K.size K.may_show) ks))
         (data_shape tally.old (λ v i. entries (codes "key") K.size i (K.shape v i))))) }
 {
@@ -287,7 +286,7 @@ fn count_fitting<'a, K: Tallied + 'a, V: Tallied + 'a, I: Iterator<Item = (&'a K
 ) -> Result<(), CountError>
     requires can { I.can_next pairs }
     requires ends { IsFinite (I.remaining pairs) }
-    ensures each { IfOk result (λ _. HoldsOfRun I.next_gives pairs deref_pair (λ es.
+    ensures each { HoldsOfEveryRun I.next_gives pairs deref_pair (λ es. IfOk result (λ _.
         TalliesMany (both_bounds K.size V.size) (length es)
         (each_shows (pair_shows K.size K.may_show V.size V.may_show) es)
         (pairs_shape K.size V.size (K.shape tally.old.0) (V.shape tally.old.1))

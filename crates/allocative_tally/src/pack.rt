@@ -1,36 +1,30 @@
 //! `IndexMap`, `IndexSet`, `SmallVec` and `Slab`.
 #![tactic(auto)]
 
-ghost use Rattle.std.specs.Prelude.{◌≡◌, codes, length, MatchResult, Some};
+ghost use Rattle.std.specs.Prelude.{◌≡◌, codes, MatchResult, Some};
 ghost use Rattle.allocative_tally.specs.Whole.{is_whole};
-ghost use Rattle.slab.specs.Slab.{values};
-ghost use Rattle.allocative_graph.specs.Shows.{slice_shows};
 ghost use Rattle.allocative.specs.Bodies.{table_shows};
 ghost use Rattle.allocative_tally.specs.Shapes.{Unique as unique_width, EntryAt, Beside, NoEntry, entries, sum_times};
 ghost use Rattle.allocative_tally.specs.Shapes.{buffer_shape, pairs_shape, table_shape};
-ghost use Rattle.allocative_tally.specs.Tallies.{TalliesSlice, CannotTallySlice};
-ghost use Rattle.allocative_tally.specs.Tallies.{Tallies, Exceeds, AddsIndex, CannotAddIndex, buffer_of, no_places};
+ghost use Rattle.allocative_tally.specs.Tallies.{Tallies, Exceeds, buffer_of, no_places};
 
 use crate::counted::{count_each, count_run};
 use crate::field::{FieldMany, OwnTally};
 use crate::map::{PairsMany, count_pairs, pair_size};
-use crate::places::{Buffers, Places};
-use crate::sequence::{BuffersMany, are_shown_each, count_room, has_buffer};
-use crate::tally::{
-    CountError, Entries, InlineSum, Sum, Tallied, UniqueSum, added, bytes_of, declared, product,
-};
+use crate::places::Buffers;
+use crate::sequence::{BuffersMany, count_buffer};
+use crate::tally::{CountError, Entries, InlineSum, Sum, Tallied, UniqueSum, added, declared};
 use allocative::{Described, Refusal, Visitor, raw_table_alloc_size_for_len};
 use indexmap::{IndexMap, IndexSet};
 use slab::Slab;
 use smallvec::SmallVec;
 use std::hash::Hash;
 
-/// Containers in the order of insertion, counted: their items, the bytes of their unused places, how many hash tables
-/// there are, and the bytes of their buckets.
+/// Containers in the order of insertion, counted: their items, how many hash tables there are, and the bytes of their
+/// buckets.
 #[derive(Drop)]
 pub struct IndexTally<S> {
     items: Buffers<S>,
-    unused: usize,
     tables: usize,
     buckets: usize,
 }
@@ -40,40 +34,16 @@ impl<S: Drop> IndexTally<S> {
     fn none(values: S) -> IndexTally<S>
         ensures { result ≡ record {
           items = record { places = no_places; values = values };
-          unused = 0;
           tables = 0;
           buckets = 0;
         } }
     {
         IndexTally {
             items: Buffers::none(values),
-            unused: 0,
             tables: 0,
             buckets: 0,
         }
     }
-}
-
-// Adds a buffer of so many items of a declared size, and the bytes of so many unused places of another. It returns `Err`
-// exactly if a size is missing, or a number or the bytes of all do not fit a word.
-fn add_index(
-    places: &mut Places,
-    bytes: &mut usize,
-    sizes: (Option<usize>, Option<usize>),
-    items: usize,
-    unused: usize,
-) -> Result<(), CountError>
-    ensures { MatchResult result
-        (λ _. AddsIndex sizes.0 sizes.1 items unused places.old bytes.old places.new bytes.new)
-        (λ _. CannotAddIndex sizes.0 sizes.1 items unused places.old bytes.old) }
-{
-    let (item, place) = sizes;
-    places.add_full(item, items)?;
-    let spare = product(place, unused)?;
-    *bytes = added(*bytes, spare)?;
-    let all = bytes_of(item, places.items);
-    added(all, *bytes)?;
-    Ok(())
 }
 
 /// What containers in the order of insertion show inside their entries: by their tally, and the entries of their items.
@@ -82,12 +52,12 @@ struct IndexMany<'a, S, P>(&'a IndexTally<S>, P);
 
 impl<'a, S, P: Entries> Entries for IndexMany<'a, S, P> {
     ghost shape = { λ e. Beside (buffer_shape (codes "data") e.0.now.items.places.buffers (P.shape e.1)
-        e.0.now.unused) (table_shape e.0.now.tables e.0.now.buckets) };
+        e.0.now.items.places.unused) (table_shape e.0.now.tables e.0.now.buckets) };
 
     fn enter(self, visitor: &mut Visitor<'_>) -> Result<(), Refusal> {
         let IndexMany(tally, items) = self;
         let places = tally.items.places;
-        let unused = Sum::of(places.buffers, tally.unused);
+        let unused = Sum::of(places.buffers, places.unused);
         let inside = (items, InlineSum("unused_capacity", unused, ()));
         let data = UniqueSum("data", Sum::times(Some(8), places.buffers), inside);
         let buckets = InlineSum("alloc", Sum::of(tally.tables, tally.buckets), ());
@@ -119,7 +89,7 @@ impl<K: Tallied + Eq + Hash, V: Tallied> Tallied for IndexMap<K, V> {
 
     ghost shape = { λ t n. entries (codes "IndexMap") (Some 72) n (Beside (buffer_shape (codes "data") t.items.places.buffers
         (pairs_shape K.size V.size (K.shape t.items.values.0) (V.shape t.items.values.1) t.items.places.items)
-        t.unused)
+        t.items.places.unused)
         (table_shape t.tables t.buckets)) };
 
     ghost whole = { is_whole };
@@ -137,13 +107,7 @@ impl<K: Tallied + Eq + Hash, V: Tallied> Tallied for IndexMap<K, V> {
     fn tally(&self, tally: &mut Self::Tally) -> Result<(), CountError> {
         let unused = self.capacity() - self.len();
         let sizes = (pair_size::<K, V>(), <(K, V)>::size());
-        add_index(
-            &mut tally.items.places,
-            &mut tally.unused,
-            sizes,
-            self.len(),
-            unused,
-        )?;
+        tally.items.places.add(sizes, self.len(), unused)?;
         count_pairs(self.iter(), &mut tally.items.values)?;
         count_table(self.len(), &mut tally.tables, &mut tally.buckets)
     }
@@ -154,7 +118,7 @@ impl<T: Tallied + Eq + Hash> Tallied for IndexSet<T> {
 
     ghost shape = { λ t n. entries (codes "IndexSet") (Some 72) n (Beside (buffer_shape (codes "data") t.items.places.buffers
         (entries (codes "value") T.size t.items.places.items (T.shape t.items.values t.items.places.items))
-        t.unused)
+        t.items.places.unused)
         (table_shape t.tables t.buckets)) };
 
     ghost whole = { is_whole };
@@ -172,13 +136,7 @@ impl<T: Tallied + Eq + Hash> Tallied for IndexSet<T> {
     fn tally(&self, tally: &mut Self::Tally) -> Result<(), CountError> {
         let unused = self.capacity() - self.len();
         let sizes = (T::size(), T::size());
-        add_index(
-            &mut tally.items.places,
-            &mut tally.unused,
-            sizes,
-            self.len(),
-            unused,
-        )?;
+        tally.items.places.add(sizes, self.len(), unused)?;
         count_run(self.iter(), &mut tally.items.values)?;
         count_table(self.len(), &mut tally.tables, &mut tally.buckets)
     }
@@ -231,21 +189,6 @@ impl<T: Tallied, const N: usize> Tallied for SmallVec<T, N> {
     }
 }
 
-// Counts the values of a slab. It returns `Err` as `Tallied::tally` does.
-#[inline(always)]
-fn count_values<T: Tallied>(slab: &Slab<T>, tally: &mut T::Tally) -> Result<(), CountError>
-    ensures { MatchResult result
-        (λ _. TalliesSlice T.size (length (values slab.now)) T.needs_drop T.name
-        (slice_shows T.name T.size T.needs_drop T.may_show (values slab.now)) (T.shape tally.old) (T.shape tally.new))
-        (λ _. CannotTallySlice T.size T.needs_drop
-        (slice_shows T.name T.size T.needs_drop T.may_show (values slab.now)) (T.shape tally.old)) }
-{
-    if are_shown_each::<T>() {
-        return count_run(slab.iter().map(|(_key, value)| value), tally);
-    }
-    Ok(())
-}
-
 impl<T: Tallied> Tallied for Slab<T> {
     type Tally = Buffers<T::Tally>;
 
@@ -264,12 +207,7 @@ impl<T: Tallied> Tallied for Slab<T> {
     }
 
     fn tally(&self, tally: &mut Self::Tally) -> Result<(), CountError> {
-        let is_there = has_buffer::<T>(self.len(), self.capacity())?;
-        if !is_there {
-            return Ok(());
-        }
-        count_values(self, &mut tally.values)?;
-        count_room::<T>(self.len(), self.capacity(), &mut tally.places)?;
-        Ok(())
+        let values = self.iter().map(|(_key, value)| value);
+        count_buffer(values, self.len(), self.capacity(), tally)
     }
 }

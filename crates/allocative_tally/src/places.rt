@@ -1,12 +1,12 @@
-//! Numbers of buffers, of their items and of their unused places.
+//! Numbers of buffers and of their items, and the bytes of their unused places.
 #![tactic(auto)]
 
 ghost use Rattle.std.specs.Prelude.{◌≡◌, MatchResult};
 ghost use Rattle.allocative_tally.specs.Tallies.{no_places, AddsPlaces, AddsItems, CannotAdd, CannotAddItems};
 
-use crate::tally::{CountError, added, product};
+use crate::tally::{CountError, added, bytes_of, product};
 
-/// How many buffers there are, how many items are in them, and how many places in them are unused.
+/// How many buffers there are, how many items are in them, and the bytes of their unused places.
 #[derive(Clone, Copy)]
 pub struct Places {
     pub(crate) buffers: usize,
@@ -26,30 +26,6 @@ impl Places {
         }
     }
 
-    /// Adds a buffer of so many items and unused places, of a declared size each. It returns `Err` exactly if the size
-    /// is missing, or a number or the bytes of all places do not fit a word.
-    #[inline(always)]
-    pub fn add(
-        &mut self,
-        size: Option<usize>,
-        items: usize,
-        unused: usize,
-    ) -> Result<(), CountError>
-        ensures { MatchResult result (λ _. AddsPlaces size items unused self.old self.new)
-            (λ _. CannotAdd size items unused self.old) }
-    {
-        let buffers = added(self.buffers, 1)?;
-        let items = added(self.items, items)?;
-        let unused = added(self.unused, unused)?;
-        product(size, added(items, unused)?)?;
-        *self = Places {
-            buffers,
-            items,
-            unused,
-        };
-        Ok(())
-    }
-
     /// Adds a buffer of so many items of a declared size, where no place is unused. It returns `Err` exactly if the
     /// size is missing, or a number or the bytes of all items do not fit a word.
     #[inline(always)]
@@ -62,6 +38,28 @@ impl Places {
         product(size, items)?;
         self.buffers = buffers;
         self.items = items;
+        Ok(())
+    }
+
+    /// Adds a buffer of so many items and unused places. The first size is that of an item, the second that of a place.
+    /// It returns `Err` exactly if a size is missing, or a number or the bytes of all do not fit a word.
+    #[inline(always)]
+    pub fn add(
+        &mut self,
+        sizes: (Option<usize>, Option<usize>),
+        items: usize,
+        unused: usize,
+    ) -> Result<(), CountError>
+        ensures { MatchResult result (λ _. AddsPlaces sizes.0 sizes.1 items unused self.old self.new)
+            (λ _. CannotAdd sizes.0 sizes.1 items unused self.old) }
+    {
+        let (item, place) = sizes;
+        let before = self.unused;
+        self.add_full(item, items)?;
+        let spare = product(place, unused)?;
+        self.unused = added(before, spare)?;
+        let all = bytes_of(item, self.items);
+        added(all, self.unused)?;
         Ok(())
     }
 }

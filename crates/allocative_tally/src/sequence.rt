@@ -1,18 +1,19 @@
 //! Texts, boxes, vectors, deques and arrays.
 #![tactic(auto)]
 
-ghost use Rattle.std.specs.Prelude.{◌≡◌, None, codes, MatchResult, Some, length};
+ghost use Rattle.std.specs.Prelude.{◌≡◌, None, Bool, codes, MatchResult, Some, length};
+ghost use Rattle.std.specs.Iterator.{IsFinite};
+ghost use Rattle.std.specs.Map.Iter.{deref};
 ghost use Rattle.allocative_tally.specs.Whole.{is_whole};
-ghost use Rattle.allocative_graph.specs.Shows.{slice_shows};
-ghost use Rattle.allocative.specs.Bodies.{are_shown_each as is_each};
+ghost use Rattle.allocative.specs.Bodies.{are_shown_each as is_each, buffer_shows};
 ghost use Rattle.allocative_tally.specs.Shapes.{Unique, Wide, EntryAt, Beside, NoEntry, entries, items_shape};
 ghost use Rattle.allocative_tally.specs.Shapes.{bytes_times, sum_of, sum_times, unused_shape};
-ghost use Rattle.allocative_tally.specs.Tallies.{buffer_of, HasBuffer, CannotCountRoom, CountsRoom, CannotTallySlice};
-ghost use Rattle.allocative_tally.specs.Tallies.{TalliesSlice};
+ghost use Rattle.allocative_tally.specs.Tallies.{Tallies, Exceeds, TalliesSlice, CannotTallySlice, HoldsOfEveryRun};
+ghost use Rattle.allocative_tally.specs.Tallies.{buffer_of, in_slices};
 
-use crate::counted::count_each;
+use crate::counted::{count_each, count_run};
 use crate::field::{FieldMany, Many, OwnTally};
-use crate::places::{Buffers, Places};
+use crate::places::Buffers;
 use crate::tally::{
     CountError, Entries, InlineSum, Sum, Tallied, UniqueSum, added, bytes_of, declared,
 };
@@ -99,7 +100,7 @@ impl<'a, T: Tallied> Entries for BuffersMany<'a, T> {
 
     fn enter(self, visitor: &mut Visitor<'_>) -> Result<(), Refusal> {
         let places = self.0.places;
-        let unused = Sum::of(places.buffers, bytes_of(T::size(), places.unused));
+        let unused = Sum::of(places.buffers, places.unused);
         let inside = (
             ItemsMany::<T>(self.0),
             InlineSum("unused_capacity", unused, ()),
@@ -108,56 +109,57 @@ impl<'a, T: Tallied> Entries for BuffersMany<'a, T> {
     }
 }
 
-/// Counts the items of a slice. It returns `Err` as `Tallied::tally` does.
+// Counts the items that an iterator gives, as those of a slice. It returns `Err` as `Tallied::tally` does.
 #[inline(always)]
-pub fn count_slice<T: Tallied>(items: &[T], tally: &mut T::Tally) -> Result<(), CountError>
-    ensures { MatchResult result
-        (λ _. TalliesSlice T.size (length items.now) T.needs_drop T.name
-        (slice_shows T.name T.size T.needs_drop T.may_show items.now) (T.shape tally.old) (T.shape tally.new))
-        (λ _. CannotTallySlice T.size T.needs_drop
-        (slice_shows T.name T.size T.needs_drop T.may_show items.now) (T.shape tally.old)) }
+fn count_items<'a, T: Tallied + 'a, I: Iterator<Item = &'a T> + Drop>(
+    items: I,
+    tally: &mut T::Tally,
+) -> Result<(), CountError>
+    requires can { I.can_next items }
+    requires ends { IsFinite (I.remaining items) }
+    ensures { HoldsOfEveryRun I.next_gives items deref (λ xs. MatchResult result
+        (λ _. TalliesSlice T.size T.needs_drop T.name T.may_show xs (T.shape tally.old) (T.shape tally.new))
+        (λ _. CannotTallySlice T.size T.needs_drop T.may_show xs (T.shape tally.old))) }
 {
     if are_shown_each::<T>() {
-        return count_each(items, tally);
+        return count_run(items, tally);
     }
     Ok(())
 }
 
-/// Whether so many items of a type, with room for so many, have a buffer. It returns `Err` exactly if the size is
-/// missing.
+/// Counts the buffer of so many items, which an iterator gives, with room for so many. There is none if the items have
+/// size 0, or if there is neither an item nor room for one. It returns `Err` as `Tallied::tally` does.
 #[inline(always)]
-pub fn has_buffer<T: Described>(count: usize, capacity: usize) -> Result<bool, CountError>
-    ensures { MatchResult result (HasBuffer T.size count capacity) (λ _. T.size ≡ None) }
+pub fn count_buffer<'a, T: Tallied + 'a, I: Iterator<Item = &'a T> + Drop>(
+    items: I,
+    count: usize,
+    capacity: usize,
+    tally: &mut Buffers<T::Tally>,
+) -> Result<(), CountError>
+    requires can { I.can_next items }
+    requires ends { IsFinite (I.remaining items) }
+    ensures { HoldsOfEveryRun I.next_gives items deref
+        (λ xs. count ≡ length xs → (cut : Bool) → MatchResult result
+        (λ _. Tallies (Some 8)
+        (buffer_shows T.size (in_slices cut T.name T.size T.needs_drop T.may_show xs) count capacity)
+        (buffer_of T.name T.size T.needs_drop tally.old.places (T.shape tally.old.values))
+        (buffer_of T.name T.size T.needs_drop tally.new.places (T.shape tally.new.values)))
+        (λ _. Exceeds
+        (buffer_shows T.size (in_slices cut T.name T.size T.needs_drop T.may_show xs) count capacity)
+        (buffer_of T.name T.size T.needs_drop tally.old.places (T.shape tally.old.values)))) }
 {
     let Some(size) = T::size() else {
         return Err(CountError);
     };
     if size == 0 {
-        return Ok(false);
+        return Ok(());
     }
     if count.max(capacity) == 0 {
-        return Ok(false);
+        return Ok(());
     }
-    Ok(true)
-}
-
-/// Counts the places of a buffer, and returns whether there is one. It returns `Err` exactly if the size is missing, or
-/// there is a buffer and `Places::add` returns `Err`.
-#[inline(always)]
-pub fn count_room<T: Described>(
-    count: usize,
-    capacity: usize,
-    places: &mut Places,
-) -> Result<bool, CountError>
-    ensures { MatchResult result (CountsRoom T.size count capacity places.old places.new)
-        (λ _. CannotCountRoom T.size count capacity places.old) }
-{
-    let is_there = has_buffer::<T>(count, capacity)?;
-    if !is_there {
-        return Ok(false);
-    }
-    places.add(T::size(), count, capacity.saturating_sub(count))?;
-    Ok(true)
+    count_items(items, &mut tally.values)?;
+    let unused = capacity.saturating_sub(count);
+    tally.places.add((Some(size), Some(size)), count, unused)
 }
 
 impl<T: Tallied> Tallied for Box<T> {
@@ -204,13 +206,7 @@ impl<T: Tallied> Tallied for Vec<T> {
 
     #[inline(always)]
     fn tally(&self, tally: &mut Self::Tally) -> Result<(), CountError> {
-        let is_there = has_buffer::<T>(self.len(), self.capacity())?;
-        if !is_there {
-            return Ok(());
-        }
-        count_slice(self.as_slice(), &mut tally.values)?;
-        count_room::<T>(self.len(), self.capacity(), &mut tally.places)?;
-        Ok(())
+        count_buffer(self.as_slice().iter(), self.len(), self.capacity(), tally)
     }
 }
 
@@ -233,15 +229,7 @@ impl<T: Tallied> Tallied for VecDeque<T> {
 
     #[inline(always)]
     fn tally(&self, tally: &mut Self::Tally) -> Result<(), CountError> {
-        let is_there = has_buffer::<T>(self.len(), self.capacity())?;
-        if !is_there {
-            return Ok(());
-        }
-        let (front, back) = self.as_slices();
-        count_slice(front, &mut tally.values)?;
-        count_slice(back, &mut tally.values)?;
-        count_room::<T>(self.len(), self.capacity(), &mut tally.places)?;
-        Ok(())
+        count_buffer(self.iter(), self.len(), self.capacity(), tally)
     }
 }
 

@@ -3,7 +3,7 @@ use Rattle.std.proofs.Common.{map}
 use Rattle.std.proofs.lemmas.List.{map-append}
 use Rattle.std.specs.Map.Iter.{deref}
 use Rattle.allocative_tally.proofs.Weighing.{stops}
-use Rattle.allocative_tally.proofs.Items.{each_none, each_more, run_cannot}
+use Rattle.allocative_tally.proofs.Items.{each_none, each_more, run_as, run_cannot, run_ends}
 use Rattle.allocative_tally.proofs.counted.count_run.Goals as goal
 
 pub loop-item-init : goal.loop-item-init
@@ -16,15 +16,12 @@ loop-item-preserved g c = rw map-append (each_more _ (map deref c.loop-item.yiel
 pub returns-in_err-tally : goal.returns-in_err-tally
 returns-in_err-tally g c =
     let l = c.loop-item in
-    stops c.from_residual.result _ _ c.from_residual.ensures.0
-    (rw (← c.into_iter-item-iterator.ensures.into_iter_gives) (run_cannot _ l.item-iterator l.yielded l.yielded_by
-    c.in-Some.ensures.steps l.invariant.items c.in_err-tally.ensures))
+    rw (← c.into_iter-item-iterator.ensures.into_iter_gives) (run_as (run_cannot _ l.item-iterator l.yielded l.yielded_by
+    c.in-Some.ensures.steps l.invariant.items c.in_err-tally.ensures) (λ xs. stops c.from_residual.result _ _
+    c.from_residual.ensures.0))
 
 pub returns : goal.returns
 returns g c =
     let l = c.loop-item in
-    rw (← c.into_iter-item-iterator.ensures.into_iter_gives) (record {
-      given = l.yielded;
-      drained = (c.next.new.self, (l.item-iterator, l.yielded_by, c.in-None.ensures.steps));
-      holds = l.invariant;
-    })
+    rw (← c.into_iter-item-iterator.ensures.into_iter_gives) (run_ends l.yielded l.yielded_by c.in-None.ensures.steps
+    l.invariant)

@@ -1,17 +1,16 @@
 -- of the tally of `HashSet`: its entry, and inside it that of its keys
-use Rattle.std.proofs.Common.{arith, codes, false, rules}
+use Rattle.std.proofs.Common.{arith, codes, false, refl, rules}
 use Rattle.std.proofs.lemmas.Iterator.Consumers.{YieldsList-from_rest}
 use Rattle.std.proofs.lemmas.Result.{MatchResult-weaker}
 use Rattle.allocative_tally.proofs.Counting.{tallies_as}
-use Rattle.allocative_tally.proofs.Items.{next_container, of_every}
-use Rattle.allocative_tally.proofs.Weighing.{cannot_case, exceeds_as}
+use Rattle.allocative_tally.proofs.Weighing.{exceeds_as}
 use Rattle.allocative_tally.proofs.Exceeding.{inside_as, order_as}
+use Rattle.allocative_tally.proofs.Items.{of_every, next_or_cannot}
 use Rattle.allocative_tally.proofs.map.HashSetTallied.tally.Goals as goal
 
 pub returns : goal.returns
 returns g c =
-    let all = YieldsList-from_rest _ c.iter.ensures.rest in
+    let entry = of_every (YieldsList-from_rest _ c.iter.ensures.rest) c.count_set.ensures (search rules) in
     let order = inside_as false (codes "data") 8 (order_as _ c.args.self.now.keys) in
-    MatchResult-weaker c.count_set.result c.count_set.ensures (λ _ entry. next_container 48 (omega arith) (omega arith)
-    (tallies_as order (of_every all entry (search rules))))
-    (λ _ entry. cannot_case (exceeds_as order (of_every all entry (search rules))))
+    next_or_cannot 48 (omega arith) (omega arith) c.count_set.result (MatchResult-weaker c.count_set.result entry
+    (λ _. tallies_as order) (λ _. exceeds_as order))
