@@ -117,21 +117,18 @@ second_counted {u = u} c =
 -- Entries of one kind keep what they own when they are merged.
 keeps_owned : (x : Width) (m n : ℕ) (f h : Forest) → HasWidth x m f → HasWidth x n h → KeepsOwned (is_unique x) m n f h
 keeps_owned Unique m n f h a b e = absurd (false≢true (sym e))
-keeps_owned Wide m n f h a b e = omega (arith, a, b)
-keeps_owned Narrow m n f h a b e = omega (arith, a, b)
+keeps_owned x m n f h a b e = omega (arith, a, b)
 
 -- The kind depends on the bytes directly inside alone.
 keeps_same : (x : Width) (n : ℕ) (f g : Forest) → direct f ≡ direct g → HasWidth x n f → HasWidth x n g
 keeps_same Unique n f g e a = tt
-keeps_same Wide n f g e a = omega (arith, a, e)
-keeps_same Narrow n f g e a = omega (arith, a, e)
+keeps_same x n f g e a = omega (arith, a, e)
 
 -- The merged entry is of the same kind.
 keeps_both : (x : Width) (m n : ℕ) (f h g : Forest) → HasWidth x m f → HasWidth x n h → direct f + direct h ≡ direct g →
     HasWidth x (m + n) g
 keeps_both Unique m n f h g a b e = tt
-keeps_both Wide m n f h g a b e = omega (arith, a, b, e)
-keeps_both Narrow m n f h g a b e = omega (arith, a, b, e)
+keeps_both x m n f h g a b e = omega (arith, a, b, e)
 
 -- If what is inside two entries was merged, so are the entries.
 entries_merged : (u : Bool) (k : Key) (m n : ℕ) (f h g : Forest) → m + n < 2 ^ 64 → KeepsOwned u m n f h →
@@ -240,8 +237,7 @@ entry_direct x k sum s = by_test x (is_there sum)
   where
     by_test : (x : Width) (b : Bool) → direct (entry_counted b (is_unique x) k sum.bytes (forest_of s)) ≤ sum.bytes
     by_test Unique true = omega arith
-    by_test Wide true = omega arith
-    by_test _ true = omega arith
+    by_test x true = omega arith
     by_test x false = omega arith
 
 -- A shape has at most the bytes of its sums.

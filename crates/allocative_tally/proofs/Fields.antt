@@ -72,6 +72,11 @@ tallies_within v h t =
           t.weighs;
     }
 
+-- Fields within a bound are within a size that holds the bound.
+pub next_within : {v w : Option ℕ} {p : Showing} {s t : ℕ → Shape} → HoldsBound v w → TalliesFields w p s t →
+    TalliesFields v p s t
+next_within h a = record { next = λ n. tallies_within _ h (a.next n) }
+
 -- A value is its own entry with its fields inside it.
 whole_counted : (n m : ℕ) {b : ℕ} {size w : Option ℕ} {k : Key} {p : Showing} {s t : Shape} → size ≡ Some b → m ≡ n + 1 →
     Tallies w p s t → HoldsBound size w → Tallies size (Field k size p) (entries k size n s) (entries k size m t)

@@ -1,38 +1,34 @@
 -- How texts, buffers and items are counted, and those of arrays, boxes, maps and the packs.
 use Rattle.std.proofs.Common.{◌≡◌, ◌≤◌, ◌<◌, ◌+◌, ◌-◌, ◌*◌, ◌^◌, mul-add, ℕ, Bool, true, false, codes, List, ◌++◌}
 use Rattle.std.proofs.Common.{length, length-append, Option, Some, None, refl, sym, ap, subst, ◌∙◌, arith, ◌∷◌, inl}
-use Rattle.std.proofs.Common.{le_refl, Result, MatchResult, mul-suc, []}
-use Rattle.std.proofs.lemmas.Result.{MatchResult-weaker}
-use Rattle.allocative_tally.proofs.Weighing.{cannot_case}
-use Rattle.allocative_described.specs.Sizes.{checked, size_product, IsRawTableSize, size_sum, size_up}
+use Rattle.std.proofs.Common.{le_refl, Result, mul-suc, [], map}
+use Rattle.allocative_tally.proofs.Weighing.{cannot_case, pair_heavy, pairs_load, text_as, each_in, slice_one_as}
+use Rattle.allocative_tally.proofs.Weighing.{cut_as, buffer_as, inline_as, spilled_as, index_data_as, table_as}
+use Rattle.allocative_tally.proofs.Weighing.{item_cannot, small_vec_size}
+use Rattle.allocative_described.specs.Sizes.{checked, size_product, IsRawTableSize, size_sum}
 use Rattle.allocative_graph.specs.Owned.{direct}
 use Rattle.allocative_graph.proofs.Owned.{direct-following}
-use Rattle.allocative.proofs.Common.{Key, Showing, Nothing, Both, Inside, InsideAs, Field, slice_shows, buffer_shows}
-use Rattle.allocative.proofs.Common.{without_room, without_size, Forest, sized, each_shows, table_shows}
-use Rattle.allocative.proofs.Common.{Refusal, Entered, Empty}
+use Rattle.allocative.proofs.Common.{Key, Showing, Both, Inside, InsideAs, Field, buffer_shows, Forest, sized}
+use Rattle.allocative.proofs.Common.{each_shows, table_shows, Refusal, Entered, Empty}
 use Rattle.allocative.proofs.ContainerMeaning.{checked_fits}
-use Rattle.allocative.specs.Bodies.{cut_shows, text_shows, are_shown_each, bytes_shown, data_shows}
+use Rattle.allocative.specs.Bodies.{text_shows, are_shown_each, bytes_shown, data_shows}
 use Rattle.allocative_tally.specs.Shapes.{Shape, Unique, Wide, NoEntry, Beside, EntryAt, forest_of, sum_of, sum_times}
 use Rattle.allocative_tally.specs.Shapes.{entries, bytes_times, top_bytes, items_shape, buffer_shape, unused_shape}
-use Rattle.allocative_tally.specs.Shapes.{pairs_shape, Narrow, table_shape, shape_shows, IsNothing}
-use Rattle.allocative_tally.specs.Tallies.{Tallies, TalliesNext, TalliesEach, TalliesSlice, size_times, AddsPlaces}
-use Rattle.allocative_tally.specs.Tallies.{buffer_of, in_slices, TalliesMany, FitsWord}
-use Rattle.allocative_tally.specs.Tallies.{IsDeclared, IsWithin, both_bounds, TalliesFields, EntersShape}
+use Rattle.allocative_tally.specs.Shapes.{pairs_shape, Narrow, table_shape, shape_shows, IsNothing, ShownAs}
+use Rattle.allocative_tally.specs.Shapes.{least_weight}
+use Rattle.allocative_tally.specs.Tallies.{Tallies, TalliesNext, TalliesSlice, size_times, AddsPlaces, buffer_of}
+use Rattle.allocative_tally.specs.Tallies.{in_slices, TalliesMany, FitsWord, IsDeclared, IsWithin, both_bounds}
+use Rattle.allocative_tally.specs.Tallies.{TalliesFields, AddsItems, AreFields, CannotAdd, no_room_for_both}
+use Rattle.allocative_tally.specs.Tallies.{HoldsOfEveryRun, CannotTally, Exceeds}
 use Rattle.allocative_tally.specs.declared.places.Places.{Places}
 use Rattle.allocative_tally.proofs.Counting.{counted_field, counted_inline, counted_unique, counted_leaf, tallies_both}
-use Rattle.allocative_tally.specs.Shapes.{ShownAs}
-use Rattle.allocative_tally.specs.Tallies.{AddsItems, CannotAdd, no_room_for_both}
-use Rattle.allocative_tally.proofs.Exceeding.{text_as, each_in, slice_one_as, cut_as, buffer_as, inline_as, spilled_as}
-use Rattle.allocative_tally.proofs.Exceeding.{index_data_as, table_as, item_cannot, small_vec_size}
-use Rattle.allocative_tally.specs.Tallies.{HoldsOfEveryRun, CannotTally, Exceeds}
-use Rattle.std.specs.Iterator.{Yields, AlwaysYields}
-use Rattle.std.proofs.Common.{map}
 use Rattle.allocative_tally.proofs.Counting.{tallies_as, tallies_then, tallies_none, entry_direct, shape_direct}
 use Rattle.allocative_tally.proofs.Counting.{counted_narrow, first_counted, second_counted, tallies_more}
-use Rattle.allocative_tally.proofs.Sizes.{holds_bytes, room_checked, not_greater, checked_is, HoldsBound, holds_up}
-use Rattle.allocative_tally.proofs.Sizes.{holds_second, holds_first_of, holds_second_of, holds_both, holds_itself}
-use Rattle.allocative_tally.proofs.Fields.{adds_of, one_more, next_case, tallies_within, starts_both}
-use Rattle.allocative_tally.proofs.Fields.{starts_entry, next_value, next_field}
+use Rattle.allocative_tally.specs.Whole.{field_least}
+use Rattle.std.specs.Iterator.{Yields, AlwaysYields}
+use Rattle.allocative_tally.proofs.Sizes.{holds_bytes, room_checked, checked_is, HoldsBound, holds_up, holds_second}
+use Rattle.allocative_tally.proofs.Sizes.{holds_first_of, holds_second_of}
+use Rattle.allocative_tally.proofs.Fields.{adds_of, one_more, next_case, tallies_within}
 use Rattle.std.proofs.lemmas.Nat.{mul-le}
 use Rattle.smallvec.specs.SmallVec.{SmallVec, IsSpilled}
 use Rattle.allocative.specs.Runs.{field_of, pair_shows}
@@ -81,14 +77,6 @@ pub next_container : {m : ℕ} (n : ℕ) {k : Key} {p : Showing} {s t : Shape} �
     TalliesNext (Some n) (Field k (Some n) p) (λ i. entries k (Some n) i s) (λ i. entries k (Some n) i t)
 next_container n room fits inside =
     next_case (record { bytes = n; sized = refl; fits = fits }) inside (holds_bytes room)
-
--- A container is counted, or cannot be, with what it shows inside its entry.
-pub next_or_cannot : {X E : Type 0} {m : ℕ} (n : ℕ) {k : Key} {p : Showing} {s t : Shape} → m ≤ n → n < 2 ^ 64 →
-    (r : Result X E) → MatchResult r (λ _. Tallies (Some m) p s t) (λ _. Exceeds p s) →
-    MatchResult r (λ _. TalliesNext (Some n) (Field k (Some n) p) (λ i. entries k (Some n) i s)
-    (λ i. entries k (Some n) i t)) (λ _. CannotTally (Field k (Some n) p) (λ i. entries k (Some n) i s))
-next_or_cannot n room fits r h =
-    MatchResult-weaker r h (λ _ inside. next_container n room fits inside) (λ _ inside. cannot_case inside)
 
 -- ---- places
 -- The bytes of so many values of a size, if they fit a word.
@@ -158,12 +146,13 @@ one_in true name z needs_drop p xs n m i j is some one more =
 
 -- A slice of items that are shown one by one is what each item shows.
 pub slice_each : {T : Type 0} (name : Key) (size : Option ℕ) (needs_drop : Bool) (p : T → Showing) (xs : List T)
-    {s t : ℕ → Shape} → are_shown_each needs_drop size ≡ true → TalliesEach size p xs s t →
+    {s t : ℕ → Shape} → are_shown_each needs_drop size ≡ true →
+    TalliesMany size (length xs) (each_shows p xs) s t →
     TalliesSlice size needs_drop name p xs s t
 slice_each name None needs_drop p xs is c = absurd (cc)
 slice_each name (Some y) needs_drop p xs is c = record {
   next = λ cut z n m i j e some one more. rw is (tallies_as (each_in cut name y needs_drop p xs is)
-      (times_counted (length xs) e (c.items.next i j more)));
+      (times_counted (length xs) e (c.next i j more)));
 }
 
 -- A slice of other items is one entry.
@@ -241,18 +230,6 @@ many_more {w = w} p xs x {s} {t} {u} a b = record {
       same (tallies_more p xs x (a.next n (n + length xs) refl) (b.next (n + length xs))));
 }
 
--- No item was counted.
-pub each_none : {T : Type 0} {w : Option ℕ} (p : T → Showing) {s : ℕ → Shape} → TalliesEach w p [] s s
-each_none p = record { items = many_none refl; fields = λ k. many_none refl }
-
--- One more item was counted.
-pub each_more : {T : Type 0} {w : Option ℕ} (p : T → Showing) (xs : List T) (x : T) {s t u : ℕ → Shape} →
-    TalliesEach w p xs s t → TalliesNext w (p x) t u → TalliesEach w p (xs ++ x ∷ []) s u
-each_more {w = w} p xs x a b = record {
-  items = many_more p xs x a.items (next_value b);
-  fields = λ k. many_more (field_of k w p) xs x (a.fields k) (next_field b);
-}
-
 -- What holds of every list that every run gives holds of such a list.
 pub of_every : {S A B : Type 0} {steps : S → Option A → S → Type 0} {s : S} {v : A → B} {r : List B → Type 0}
     {all : List B} → YieldsList steps v s all → HoldsOfEveryRun steps s v r → r all
@@ -287,10 +264,10 @@ run_cannot steps {s = s} t {v} {p} {x} xs {a} g n c e = record {
 }
 
 -- What holds of all items of a run that has ended holds of every list that every run gives.
-pub run_ends : {S A B : Type 0} {steps : S → Option A → S → Type 0} {s t u : S} {v : A → B} {r : List B → Type 0}
-    (xs : List A) → Yields steps s xs t → steps t None u → r (map v xs) → HoldsOfEveryRun steps s v r
-run_ends {t = t} {u} {r = r} xs g n h =
-    record { along = λ ys y. subst r (items_from_drains xs (t, g, λ _. (u, n)) (record { runs = y })) h }
+pub run_ends : {S A B : Type 0} {steps : S → Option A → S → Type 0} {s : S} (t u : S) {v : A → B}
+    {r : List B → Type 0} (xs : List A) → Yields steps s xs t → steps t None u → r (map v xs) → HoldsOfEveryRun steps s v r
+run_ends {steps = steps} {s} t u {v} {r} xs g n h =
+    record { along = λ ys y. subst r (items_from_drains {steps = steps} {v = v} {s = s} xs (t, g, λ _. (u, n)) (record { runs = y })) h }
 
 -- ---- arrays
 -- A size that has room for n items has room for at most n items.
@@ -306,14 +283,16 @@ product_order n None = refl
 product_order n (Some s) = ap checked (omega arith)
 
 -- An array is its own entry with a field for each item inside it.
-pub array_counted : {T : Type 0} {w : Option ℕ} {k : Key} {p : T → Showing} (n : ℕ) (xs : List T) {i j : ℕ}
-    {s t : ℕ → Shape} → length xs ≡ n → IsDeclared (size_product (Some n) w) → j ≡ i + n → TalliesEach w p xs s t →
+pub array_counted : {T : Type 0} {w : Option ℕ} {k : Key} (p : T → Showing) (n : ℕ) (xs : List T) {i j : ℕ}
+    {s t : ℕ → Shape} → length xs ≡ n → IsDeclared (size_product (Some n) w) → j ≡ i + n →
+    TalliesMany w (length xs) (data_shows w p xs) (λ m. entries (codes "data") w m (s m))
+    (λ m. entries (codes "data") w m (t m)) →
     TalliesNext (size_product (Some n) w) (Field k (size_product w (Some (length xs))) (data_shows w p xs))
     (λ m. entries k (size_product (Some n) w) m (entries (codes "data") w i (s i)))
     (λ m. entries k (size_product (Some n) w) m (entries (codes "data") w j (t j)))
-array_counted {w = w} n xs {i} {j} count declared more each =
+array_counted {w = w} p n xs {i} {j} count declared more each =
     rw (count, ← product_order n w) (next_case declared
-    ((each.fields (codes "data")).next i j (omega (arith, more, count))) (holds_items (length xs) n w (omega (arith, count))))
+    (each.next i j (omega (arith, more, count))) (holds_items (length xs) n w (omega (arith, count))))
 
 -- ---- boxes
 -- A box's pointer is counted with the value inside it.
@@ -332,31 +311,33 @@ box_counted {size} {old} {new} {p} {s} {t} a most value =
 -- A small vector whose items are in place has a field for each item inside its entry.
 pub inline_counted : {T : Type 0} {w : Option ℕ} {k : Key} {p : T → Showing} (n align : ℕ) (xs : SmallVec T)
     {i j : ℕ} {s t : ℕ → Shape} {r : Shape} → ¬ IsSpilled n xs → length xs.items ≤ n →
-    IsDeclared (small_vec_size n w align) → j ≡ i + length xs.items → TalliesEach w p xs.items s t →
+    IsDeclared (small_vec_size n w align) → j ≡ i + length xs.items →
+    TalliesMany w (length xs.items) (data_shows w p xs.items)
+    (λ m. entries (codes "data") w m (s m)) (λ m. entries (codes "data") w m (t m)) →
     TalliesNext (small_vec_size n w align) (Field k (small_vec_size n w align) (small_vec_inside n w p xs))
     (λ m. entries k (small_vec_size n w align) m (Beside (entries (codes "data") w i (s i)) r))
     (λ m. entries k (small_vec_size n w align) m (Beside (entries (codes "data") w j (t j)) r))
 inline_counted {w = w} n align xs {i} {j} is room declared more each =
     next_case declared (tallies_as (inline_as is)
-    (first_counted ((each.fields (codes "data")).next i j more)))
+    (first_counted (each.next i j more)))
     (holds_up _ align (holds_second (Some 8) _ (holds_second_of (Some 16) (size_product (Some n) w)
     (holds_items (length xs.items) n w room))))
 
 -- A small vector whose items are in an allocation has them inside a pointer.
 pub spilled_counted : {T : Type 0} {w : Option ℕ} {k : Key} {p : T → Showing} (n align : ℕ) (xs : SmallVec T)
-    {old new : Places} {s t : ℕ → Shape} {r : Shape} {l : ℕ} → IsSpilled n xs →
-    IsDeclared (small_vec_size n w align) → l ≡ length xs.items → AddsItems w l old new →
-    TalliesEach w p xs.items s t →
+    {old new : Places} {s t : ℕ → Shape} {r : Shape} → IsSpilled n xs →
+    IsDeclared (small_vec_size n w align) → AddsItems w (length xs.items) old new →
+    TalliesMany w (length xs.items) (data_shows w p xs.items)
+    (λ m. entries (codes "data") w m (s m)) (λ m. entries (codes "data") w m (t m)) →
     TalliesNext (small_vec_size n w align) (Field k (small_vec_size n w align) (small_vec_inside n w p xs))
     (λ m. entries k (small_vec_size n w align) m (Beside r (EntryAt Unique (codes "ptr") (sum_times (Some 8) old.buffers)
     (entries (codes "data") w old.items (s old.items)))))
     (λ m. entries k (small_vec_size n w align) m (Beside r (EntryAt Unique (codes "ptr") (sum_times (Some 8) new.buffers)
     (entries (codes "data") w new.items (t new.items)))))
-spilled_counted {w = w} n align xs {old} {new} {s} {l = l} is declared count adds each =
-    let a : AddsItems w (length xs.items) old new = rw count at adds in
+spilled_counted {w = w} n align xs {old} {new} {s} is declared a each =
     next_case declared (tallies_as (spilled_as is) (second_counted (pointer_counted (codes "ptr") a
     (most_direct old.items (entries (codes "data") w old.items (s old.items)) a.room.sized (le_refl _))
-    (times_counted (length xs.items) a.room.sized ((each.fields (codes "data")).next old.items new.items a.items)))))
+    (times_counted (length xs.items) a.room.sized (each.next old.items new.items a.items)))))
     (holds_up _ align (holds_second (Some 8) _ (holds_first_of (Some 16) (size_product (Some n) w)
     (holds_bytes (omega arith)))))
 
@@ -383,29 +364,35 @@ each_direct p z one [] f e = ap direct e ∙ omega arith
 each_direct p z one (y ∷ ys) f (g, h, x, l, i) =
     omega (arith, ap direct i ∙ direct-following g h, one y g x, each_direct p z one ys h l)
 
--- A size that has room for a bound has room for so many times the bound.
-pub items_within : {size w : Option ℕ} {z : ℕ} (l : ℕ) {p : Showing} {s t : Shape} → HoldsBound size w → size ≡ Some z →
-    Tallies (size_times w l) p s t → Tallies (Some (z * l)) p s t
-items_within {w = w} {z} l holds e c =
-    let y = not_greater w z (subst (λ (v : Option ℕ). HoldsBound v w) e holds) in
-    tallies_within (Some (z * l)) (holds_bytes (mul-le y.0 l z l y.2 (omega arith)))
-    (times_counted l y.1 c)
+-- Pairs have at most the bytes of both sizes at the top.
+pairs_most : (v w : Option ℕ) (z i : ℕ) (s t : ℕ → Shape) → size_sum v w ≡ Some z →
+    direct (forest_of (pairs_shape v w s t i)) ≤ z * i
+pairs_most None w z i s t e = absurd (cc)
+pairs_most (Some m) None z i s t e = absurd (cc)
+pairs_most (Some m) (Some n) z i s t e =
+    let same : (m + n) * i ≡ z * i = ap (λ (x : ℕ). x * i) (checked_is (m + n) z e) in
+    omega (arith, shape_direct (pairs_shape (Some m) (Some n) s t i), same)
 
--- The pair of two sizes has room for both.
-pub holds_pair : (v w : Option ℕ) → HoldsBound (size_sum v w) (both_bounds v w)
-holds_pair v w = holds_both v w v w holds_itself holds_itself
+-- Fields under a key have their declared size.
+pub are_fields : {T S : Type 0} (k : Key) (size : Option ℕ) (p : T → Showing) (s : S → ℕ → Shape) →
+    AreFields size (field_of k size p) (λ t n. entries k size n (s t n))
+are_fields k size p s = record {
+  heavy = λ x f e y. omega (arith, field_least f y, ap least_weight e);
+  bytes = λ x z f e. field_direct k size z (p x) f e;
+  numbers = λ t n. omega arith;
+  most = λ t z n e. most_direct n (entries k size n (s t n)) e (le_refl _);
+}
 
--- Pairs have at most the bytes of a size that has room for both at the top.
-pub pairs_most : {size : Option ℕ} (v w : Option ℕ) {z : ℕ} (i : ℕ) (s t : ℕ → Shape) → HoldsBound size (both_bounds v w) →
-    size ≡ Some z → direct (forest_of (pairs_shape v w s t i)) ≤ z * i
-pairs_most {size} v w {z} i s t holds e =
-    let y = not_greater (both_bounds v w) z (subst (λ (x : Option ℕ). HoldsBound x (both_bounds v w)) e holds) in
-    omega (arith, shape_direct (pairs_shape v w s t i), both v w y.0 y.1, mul-le y.0 i z i y.2 (omega arith))
-  where
-    both : (v w : Option ℕ) (y : ℕ) → both_bounds v w ≡ Some y → bytes_times v i + bytes_times w i ≤ y * i
-    both None w y e = cc
-    both (Some m) None y e = cc
-    both (Some m) (Some n) y e = let same : (m + n) * i ≡ y * i = ap (λ (x : ℕ). x * i) (cc) in omega (arith, same)
+-- Pairs of fields have the sum of both declared sizes.
+pub pairs_are_fields : {K V S R : Type 0} (v w : Option ℕ) (p : K → Showing) (q : V → Showing) (s : S → ℕ → Shape)
+    (t : R → ℕ → Shape) →
+    AreFields (size_sum v w) (pair_shows v p w q) (λ (u : S × R). pairs_shape v w (s u.0) (t u.1))
+pairs_are_fields v w p q s t = record {
+  heavy = pair_heavy v w p q;
+  bytes = λ e z f i. pair_direct v w z p q e f i;
+  numbers = λ u n. pairs_load v w (s u.0) (t u.1) n;
+  most = λ u z n. pairs_most v w z n (s u.0) (t u.1);
+}
 
 -- ---- the entry `data`
 -- An entry `data` of no items was counted.
@@ -421,34 +408,30 @@ empty_counted p [] {old} {new} s a e =
 empty_counted p (x ∷ xs) s a e = absurd (omega (arith, e))
 
 -- An entry `data` of items that have at most 8 bytes was counted.
-pub small_counted : {found size w : Option ℕ} {m l : ℕ} {q : Showing} {old new : Places} {s t : ℕ → Shape} {r : Shape} →
-    HoldsBound size w → found ≡ size → bytes_times found m ≤ 8 → AddsItems found m old new → m ≡ l →
-    TalliesMany w l q s t → Tallies (Some 8) (Inside (codes "data") 8 q)
+pub small_counted : {size : Option ℕ} {l : ℕ} {q : Showing} {old new : Places} {s t : ℕ → Shape} {r : Shape} →
+    bytes_times size l ≤ 8 → AddsItems size l old new → TalliesMany size l q s t →
+    Tallies (Some 8) (Inside (codes "data") 8 q)
     (Beside (EntryAt Wide (codes "data") (sum_times (Some 8) old.buffers) (s old.items)) r)
     (Beside (EntryAt Wide (codes "data") (sum_times (Some 8) new.buffers) (t new.items)) r)
-small_counted {found} {m = m} {l} {old = old} {new} holds e least a same items =
-    let z = a.room.bytes in
-    let bytes = times_is found m a.room.sized (omega (arith, items_fit a)) in
+small_counted {size} {l} {old = old} {new} least a items =
+    let bytes = times_is size l a.room.sized (omega (arith, items_fit a)) in
     first_counted (counted_inline (one_more (Some 8) old.buffers new.buffers refl a.buffers)
-    (items_within l holds (sym e ∙ a.room.sized) (items.next old.items new.items (omega (arith, a.items, same))))
-    (holds_bytes (omega (arith, least, bytes, ap (λ (i : ℕ). z * i) same))))
+    (times_counted l a.room.sized (items.next old.items new.items a.items)) (holds_bytes (omega (arith, least, bytes))))
 
 -- An entry `data` of items that have more than 8 bytes was counted.
-pub large_counted : {found size w : Option ℕ} {m l : ℕ} {q : Showing} {old new : Places} {s t : ℕ → Shape} {r : Shape} →
-    HoldsBound size w → found ≡ size → 8 < bytes_times found m → AddsItems found m old new → m ≡ l →
-    TalliesMany w l q s t → ((z i : ℕ) → size ≡ Some z → direct (forest_of (s i)) ≤ z * i) →
+pub large_counted : {size : Option ℕ} {l : ℕ} {q : Showing} {old new : Places} {s t : ℕ → Shape} {r : Shape} →
+    8 < bytes_times size l → AddsItems size l old new → TalliesMany size l q s t →
+    ((z i : ℕ) → size ≡ Some z → direct (forest_of (s i)) ≤ z * i) →
     ((z : ℕ) (f : Forest) → size ≡ Some z → q f → direct f ≡ z * l) → Tallies (Some 8) (Inside (codes "data") 8 q)
     (Beside r (EntryAt Narrow (codes "data") (sum_times (Some 8) old.buffers) (s old.items)))
     (Beside r (EntryAt Narrow (codes "data") (sum_times (Some 8) new.buffers) (t new.items)))
-large_counted {found} {m = m} {l} {old = old} {new} holds e least a same items most direct_is =
+large_counted {size} {l} {old = old} {new} least a items most direct_is =
     let z = a.room.bytes in
-    let is_size = sym e ∙ a.room.sized in
-    let all = items_within l holds is_size (items.next old.items new.items (omega (arith, a.items, same))) in
-    let bytes = times_is found m a.room.sized (omega (arith, items_fit a)) in
-    let same_bytes = ap (λ (i : ℕ). z * i) same in
+    let all = times_counted l a.room.sized (items.next old.items new.items a.items) in
+    let bytes = times_is size l a.room.sized (omega (arith, items_fit a)) in
     second_counted (counted_narrow (one_more (Some 8) old.buffers new.buffers refl a.buffers) all
-    (λ r. omega (arith, most z old.items is_size, all.within, items_fit a, same_bytes))
-    (λ f x. omega (arith, least, bytes, same_bytes, direct_is z f is_size x)))
+    (λ r. omega (arith, most z old.items a.room.sized, all.within, items_fit a))
+    (λ f x. omega (arith, least, bytes, direct_is z f a.room.sized x)))
 
 -- ---- containers in the order of insertion
 -- No items have no hash table.
@@ -499,41 +482,29 @@ index_cannot {item} {place} {u = u} {mid = mid} a fits x all over = no_room_for_
     ))
 
 -- A container in the order of insertion is its own entry, with its items, its unused places and its table inside it.
-pub index_counted : {given item found size w : Option ℕ} {m l u places n : ℕ} {k : Key} {p : Showing}
-    {old new : Places} {s t : ℕ → Shape} {r r' : Shape} → HoldsBound item w → given ≡ item → found ≡ size → m ≡ l →
-    u ≡ places → n ≡ l → AddsPlaces given found m u old new → TalliesMany w l p s t →
+pub index_counted : {given item found size : Option ℕ} {m l u places n : ℕ} {k : Key} {p : Showing}
+    {old new : Places} {s t : ℕ → Shape} {r r' : Shape} → given ≡ item → found ≡ size → m ≡ l →
+    u ≡ places → n ≡ l → AddsPlaces given found m u old new → TalliesMany item l p s t →
     ((z i : ℕ) → item ≡ Some z → direct (forest_of (s i)) ≤ z * i) → Tallies (Some 8) (table_shows n) r r' →
     TalliesNext (Some 72) (Field k (Some 72) (Both (index_data_shows size p places) (table_shows l)))
     (λ i. entries k (Some 72) i (Beside (buffer_shape (codes "data") old.buffers (s old.items) old.unused) r))
     (λ i. entries k (Some 72) i (Beside (buffer_shape (codes "data") new.buffers (t new.items) new.unused) r'))
-index_counted {item = item} {size = size} {l = l} {places = places} {old = old} {new} holds e i same spare count adds items
+index_counted {item = item} {size = size} {l = l} {places = places} {old = old} {new} e i same spare count adds items
     most table =
     let a : AddsPlaces item size l places old new = rw (e, i, same, spare) at adds in
     let all = places_room a.adds.room.sized a.spare_room.sized a in
     next_container 72 (omega arith) (omega arith) (tallies_both (tallies_as index_data_as
     (places_counted (codes "data") places a.adds.buffers a.spare_room.sized all.0
-    (items_within l holds a.adds.room.sized (items.next old.items new.items a.adds.items))
+    (times_counted l a.adds.room.sized (items.next old.items new.items a.adds.items))
     (omega (arith, most a.adds.room.bytes old.items a.adds.room.sized, all.1)))) (rw count at table))
 
 -- ---- what is entered
 -- Items that were counted from nothing, and entered, were entered as each of them shows.
-pub entered_all : {T : Type 0} {size : Option ℕ} {x : Bool} {p : T → Showing} {xs : List T} {n : ℕ} {s t : ℕ → Shape}
-    {a b : Visitor} {r : Result (Unit {0}) Refusal} → IsNothing (s 0) → TalliesEach size p xs s t →
-    FitsWord size (length xs) → n ≡ length xs → EntersShape (t n) a b r → Entered x (each_shows p xs) a b r
-entered_all {size = size} {p = p} {xs} {n} {s} {t} none each room count entered =
-    let items : Tallies (size_times size (length xs)) (each_shows p xs) (s 0) (t n) =
-    each.items.next 0 n (omega (arith, count)) in
-    let bound : size_times size (length xs) ≡ Some (room.bytes * length xs) =
-    ap (λ (w : Option ℕ). size_times w (length xs)) room.sized in
-    entered_counted (counts none items bound room.fits) entered.entered
-
--- Pairs that were counted from nothing, and entered, were entered as each of them shows.
-pub entered_pairs : {x : Bool} {n l : ℕ} {q u : Showing} (v w : Option ℕ) (s s' t t' : ℕ → Shape) {a b : Visitor}
-    {r : Result (Unit {0}) Refusal} → ShownAs q u → IsNothing (s 0) → IsNothing (t 0) →
-    FitsWord (size_sum v w) n → n ≡ l → TalliesMany (both_bounds v w) l q (pairs_shape v w s t) (pairs_shape v w s' t') →
-    Entered true (shape_shows (pairs_shape v w s' t' n)) a b r → Entered x u a b r
-entered_pairs {n = n} {l} v w s s' t t' up none_s none_t room same items entered =
-    let none = starts_both _ _ (starts_entry (codes "key") (s 0) v none_s) (starts_entry (codes "value") (t 0) w none_t) in
-    let counted = items_within l (holds_pair v w) room.sized (items.next 0 n (omega (arith, same))) in
-    entered_counted (counts none (tallies_as up counted) refl
+pub entered_all : {x : Bool} {size : Option ℕ} {n l : ℕ} {q u : Showing} {s t : ℕ → Shape} {a b : Visitor}
+    {r : Result (Unit {0}) Refusal} → ShownAs q u → IsNothing (s 0) → FitsWord size n → n ≡ l → TalliesMany size l q s t →
+    Entered true (shape_shows (t n)) a b r → Entered x u a b r
+entered_all {size = size} {n} {l} {q} {s = s} {t} up none room same items entered =
+    let counted : Tallies (size_times size l) q (s 0) (t n) = items.next 0 n (omega (arith, same)) in
+    let bound : size_times size l ≡ Some (room.bytes * l) = ap (λ (w : Option ℕ). size_times w l) room.sized in
+    entered_counted (counts none (tallies_as up counted) bound
     (omega (arith, room.fits, ap (λ (i : ℕ). room.bytes * i) same))) entered

@@ -4,5 +4,4 @@ pub mod Sizes
 pub mod Counting
 pub mod Entering
 pub mod Fields
-pub mod Exceeding
 pub mod Items

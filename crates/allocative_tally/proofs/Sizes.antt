@@ -77,6 +77,10 @@ holds_both (Some m) (Some n) w x a b =
     record { room = λ d h. room_checked (m + n) d (omega (arith, y.2, z.2, sums d h)) }
 holds_both u v w x a b = record { room = λ d h. tt }
 
+-- The pair of two sizes has room for both.
+pub holds_pair : (v w : Option ℕ) → HoldsBound (size_sum v w) (both_bounds v w)
+holds_pair v w = holds_both v w v w holds_itself holds_itself
+
 -- Fields can be grouped either way.
 pub holds_grouped : (u v w : Option ℕ) {size : Option ℕ} → HoldsBound size (both_bounds (both_bounds u v) w) →
     HoldsBound size (both_bounds u (both_bounds v w))

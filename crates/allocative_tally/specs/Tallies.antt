@@ -9,7 +9,6 @@ use Rattle.allocative_graph.specs.Owned.{direct}
 use Rattle.allocative_graph.specs.Shows.{Showing, Field, each_shows, slice_shows}
 use Rattle.allocative_graph.specs.declared.refusal.Refusal.{Refusal}
 use Rattle.allocative.specs.Bodies.{are_shown_each, cut_shows}
-use Rattle.allocative.specs.Runs.{field_of}
 use Rattle.allocative.specs.Visited.{Entered}
 use Rattle.allocative.specs.declared.visitor.Visitor.{Visitor}
 use Rattle.allocative_tally.specs.Shapes.{Merged, Shape, forest_of, Holds, IsRight, shape_shows, entries, items_shape}
@@ -77,12 +76,6 @@ size_times (Some s) n = Some (s * n)
 pub record TalliesMany (size : Option ℕ) (count : ℕ) (p : Showing) (s t : ℕ → Shape) : Type 0 where
   pub next : (n m : ℕ) → m ≡ n + count → Tallies (size_times size count) p (s n) (t m)
 
--- Each item was counted: what it shows, and, whatever the key, a field of its declared size with that inside it.
-pub record TalliesEach {T : Type 0} (size : Option ℕ) (p : T → Showing) (xs : List T) (s t : ℕ → Shape) : Type 0 where
-  pub items : TalliesMany size (length xs) (each_shows p xs) s t
-  pub fields : (k : Key) → TalliesMany size (length xs) (each_shows (field_of k size p) xs) (λ n. entries k size n (s n))
-      (λ n. entries k size n (t n))
-
 -- One more value of a number of its own was counted.
 pub record TalliesOwn (size : Option ℕ) (p : Showing) (n : ℕ) (s : ℕ → Shape) (m : ℕ) (t : ℕ → Shape) : Type 0 where
   pub more : m ≡ n + 1
@@ -91,6 +84,14 @@ pub record TalliesOwn (size : Option ℕ) (p : Showing) (n : ℕ) (s : ℕ → S
 -- A value of a number of its own cannot be counted, as one more entry of its declared size.
 pub record CannotTallyOwn (size : Option ℕ) (p : Showing) (n : ℕ) (s : ℕ → Shape) : Type 0 where
   pub next : (k : Key) → Exceeds (Field k size p) (entries k size n (s n))
+
+-- Each item has the bytes of a declared size at its top, and too much to count if there is none; so many items have at
+-- least their number and bytes, and at most those bytes at the top.
+pub record AreFields {A S : Type 0} (size : Option ℕ) (p : A → Showing) (s : S → ℕ → Shape) : Type 0 where
+  pub heavy : (x : A) (f : Forest) → size ≡ None → p x f → 2 ^ 64 ≤ weight f
+  pub bytes : (x : A) (z : ℕ) (f : Forest) → size ≡ Some z → p x f → direct f ≡ z
+  pub numbers : (t : S) (n : ℕ) → n + bytes_times size n ≤ load (s t n)
+  pub most : (t : S) (z n : ℕ) → size ≡ Some z → direct (forest_of (s t n)) ≤ z * n
 
 -- What items show as a slice, in one piece or cut in two.
 abbrev pub in_slices : {T : Type 0} → Bool → Key → Option ℕ → Bool → (T → Showing) → List T → Showing

@@ -1,40 +1,148 @@
 //! Parts of values that are counted first.
 #![tactic(auto)]
 
-ghost use Rattle.std.specs.Prelude.{IfOk, MatchResult, length};
+ghost use Rattle.std.specs.Prelude.{ℕ, IfOk, MatchResult, Option, length};
 ghost use Rattle.std.specs.Iterator.{IsFinite};
-ghost use Rattle.std.specs.Map.Iter.{deref};
+ghost use Rattle.std.specs.Map.Iter.{deref, deref_pair};
+ghost use Rattle.allocative_described.specs.Sizes.{size_sum};
+ghost use Rattle.allocative_graph.specs.Forest.{Forest};
 ghost use Rattle.allocative_graph.specs.Shows.{each_shows};
+ghost use Rattle.allocative.specs.Runs.{field_of, pair_shows};
 ghost use Rattle.allocative.specs.Visited.{Entered};
-ghost use Rattle.allocative_tally.specs.Tallies.{TalliesEach, CannotTally, HoldsOfEveryRun, FitsWord};
+ghost use Rattle.allocative_tally.specs.Shapes.{Shape, entries, pairs_shape};
+ghost use Rattle.allocative_tally.specs.Tallies.{TalliesFields, TalliesMany, CannotTally, HoldsOfEveryRun, FitsWord};
 
 use crate::tally::{CountError, Tallied, product};
-use allocative::{Allocative, Described, Part, Refusal, Visitor};
+use allocative::{Allocative, Described, IntoKey, Part, Refusal, Visitor};
 
-/// Counts what each item shows. It returns `Err` as `Tallied::tally` does.
-pub fn count_each<T: Tallied>(items: &[T], tally: &mut T::Tally) -> Result<(), CountError>
-    ensures { MatchResult result
-        (λ _. TalliesEach T.size T.may_show items.now (T.shape tally.old) (T.shape tally.new))
-        (λ _. CannotTally (each_shows T.may_show items.now) (T.shape tally.old)) }
-{
-    count_run(items.iter(), tally)
+/// How a loop counts each item that an iterator gives, into the tally `S`.
+pub(crate) trait CountItem<A, S>: Drop {
+    /// The values that contracts see as items.
+    ghost Seen: { Type 0 };
+
+    /// What contracts see of an item.
+    ghost seen: { A → Seen };
+
+    /// The declared size of an item. What it shows has at most these bytes at its top.
+    ghost size: { Option ℕ };
+
+    /// The forests that an item may show.
+    ghost may_show: { Self → Seen → Forest → Type 0 };
+
+    /// What so many items show, by their tally.
+    ghost shape: { Self → S → ℕ → Shape };
+
+    /// Counts an item. It returns `Err` as `Tallied::tally` does.
+    fn count_item(&self, item: A, tally: &mut S) -> Result<(), CountError>
+        ensures { MatchResult result
+            (λ _. TalliesFields size (may_show self.now (seen item))
+            (shape self.now tally.old) (shape self.now tally.new))
+            (λ _. CannotTally (may_show self.now (seen item)) (shape self.now tally.old)) };
 }
 
-/// Counts what each item of an iterator shows. It returns `Err` as `Tallied::tally` does.
-pub fn count_run<'a, T: Tallied + 'a, I: Iterator<Item = &'a T> + Drop>(
+/// What the item shows, with no entry of its own.
+#[derive(Drop)]
+pub(crate) struct Itself;
+
+impl<'a, T: Tallied> CountItem<&'a T, T::Tally> for Itself {
+    ghost Seen = { T };
+
+    ghost seen = { deref };
+
+    ghost size = { T.size };
+
+    ghost may_show = { λ _. T.may_show };
+
+    ghost shape = { λ _. T.shape };
+
+    #[inline(always)]
+    fn count_item(&self, item: &'a T, tally: &mut T::Tally) -> Result<(), CountError> {
+        item.tally(tally)
+    }
+}
+
+/// A field under the key.
+#[derive(Drop)]
+pub(crate) struct FieldUnder(pub(crate) &'static str);
+
+impl<'a, T: Tallied> CountItem<&'a T, T::Tally> for FieldUnder {
+    ghost Seen = { T };
+
+    ghost seen = { deref };
+
+    ghost size = { T.size };
+
+    ghost may_show = { λ f. field_of (⟦<&'static str as IntoKey>⟧.key f.0) T.size T.may_show };
+
+    ghost shape = { λ f t n. entries (⟦<&'static str as IntoKey>⟧.key f.0) T.size n (T.shape t n) };
+
+    #[inline(always)]
+    fn count_item(&self, item: &'a T, tally: &mut T::Tally) -> Result<(), CountError> {
+        item.tally(tally)
+    }
+}
+
+/// The fields `key` and `value` of a pair.
+#[derive(Drop)]
+pub(crate) struct KeyAndValue;
+
+impl<'a, K: Tallied, V: Tallied> CountItem<(&'a K, &'a V), (K::Tally, V::Tally)> for KeyAndValue {
+    ghost Seen = { K × V };
+
+    ghost seen = { deref_pair };
+
+    ghost size = { size_sum K.size V.size };
+
+    ghost may_show = { λ _. pair_shows K.size K.may_show V.size V.may_show };
+
+    ghost shape = { λ _ t. pairs_shape K.size V.size (K.shape t.0) (V.shape t.1) };
+
+    #[inline(always)]
+    fn count_item(
+        &self,
+        item: (&'a K, &'a V),
+        tally: &mut (K::Tally, V::Tally),
+    ) -> Result<(), CountError> {
+        let (key, value) = item;
+        key.tally(&mut tally.0)?;
+        value.tally(&mut tally.1)
+    }
+}
+
+/// Counts each item that an iterator gives. It returns `Err` as `Tallied::tally` does.
+pub(crate) fn count_run<A: Drop, S, C: CountItem<A, S>, I: Iterator<Item = A> + Drop>(
+    how: C,
     items: I,
-    tally: &mut T::Tally,
+    tally: &mut S,
 ) -> Result<(), CountError>
     requires can { I.can_next items }
     requires ends { IsFinite (I.remaining items) }
-    ensures { HoldsOfEveryRun I.next_gives items deref (λ xs. MatchResult result
-        (λ _. TalliesEach T.size T.may_show xs (T.shape tally.old) (T.shape tally.new))
-        (λ _. CannotTally (each_shows T.may_show xs) (T.shape tally.old))) }
+    ensures { HoldsOfEveryRun I.next_gives items C.seen (λ xs. MatchResult result
+        (λ _. TalliesMany C.size (length xs) (each_shows (C.may_show how) xs) (C.shape how tally.old) (C.shape how tally.new))
+        (λ _. CannotTally (each_shows (C.may_show how) xs) (C.shape how tally.old))) }
 {
     for item in items {
-        item.tally(tally)?;
+        how.count_item(item, tally)?;
     }
     Ok(())
+}
+
+/// Counts each of so many items that an iterator gives, if their bytes fit a word.
+pub(crate) fn count_fitting<A: Drop, S, C: CountItem<A, S>, I: Iterator<Item = A> + Drop>(
+    how: C,
+    items: I,
+    size: Option<usize>,
+    count: usize,
+    tally: &mut S,
+) -> Result<(), CountError>
+    requires can { I.can_next items }
+    requires ends { IsFinite (I.remaining items) }
+    ensures each { HoldsOfEveryRun I.next_gives items C.seen (λ xs. IfOk result (λ _.
+        TalliesMany C.size (length xs) (each_shows (C.may_show how) xs) (C.shape how tally.old) (C.shape how tally.new))) }
+    ensures fits { IfOk result (λ _. FitsWord size count) }
+{
+    product(size, count)?;
+    count_run(how, items, tally)
 }
 
 /// What a value shows, counted first and entered once.
@@ -120,20 +228,12 @@ impl<'a, T: Tallied> Part for CountedEach<&'a [T]> {
 
     fn enter(self, visitor: &mut Visitor<'_>) -> Result<(), Refusal> {
         let mut tally = T::none_counted();
-        match count_all(self.0, &mut tally) {
-            Ok(()) => T::show(&tally, self.0.len(), visitor),
+        let count = self.0.len();
+        match count_fitting(Itself, self.0.iter(), T::size(), count, &mut tally) {
+            Ok(()) => T::show(&tally, count, visitor),
             Err(_) => enter_each(self.0, visitor),
         }
     }
-}
-
-// Counts what each item shows, if the bytes of all items fit a word. It returns `Err` as `Tallied::tally` does.
-fn count_all<T: Tallied>(items: &[T], tally: &mut T::Tally) -> Result<(), CountError>
-    ensures each { IfOk result (λ _. TalliesEach T.size T.may_show items.now (T.shape tally.old) (T.shape tally.new)) }
-    ensures fits { IfOk result (λ _. FitsWord T.size (length items.now)) }
-{
-    product(T::size(), items.len())?;
-    count_each(items, tally)
 }
 
 // What each item shows, one by one. It halves the slice, so its stack does not grow with the number of items.

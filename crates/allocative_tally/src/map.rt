@@ -2,23 +2,21 @@
 //! of 8 bytes.
 #![tactic(auto)]
 
-ghost use Rattle.std.specs.Prelude.{◌≡◌, ◌&&◌, true, codes, IfOk, MatchResult, Some, length};
+ghost use Rattle.std.specs.Prelude.{◌≡◌, ◌&&◌, true, codes, MatchResult, Some, length};
 ghost use Rattle.std.specs.Iterator.{IsFinite};
-ghost use Rattle.std.specs.Map.Iter.{deref, deref_pair};
 ghost use Rattle.allocative_tally.specs.Whole.{is_whole};
 ghost use Rattle.allocative_described.specs.Sizes.{size_sum};
 ghost use Rattle.allocative_graph.specs.Shows.{Inside as shows_inside, each_shows};
-ghost use Rattle.allocative.specs.Runs.{field_of, pair_shows};
+ghost use Rattle.allocative.specs.Runs.{pair_shows};
 ghost use Rattle.allocative.specs.StdShows.{in_any_order};
 ghost use Rattle.allocative_tally.specs.Shapes.{Beside, EntryAt, Wide, Narrow, entries, pairs_shape, data_shape};
 ghost use Rattle.allocative_tally.specs.Shapes.{sum_times};
-ghost use Rattle.allocative_tally.specs.Tallies.{Tallies, TalliesMany, HoldsOfEveryRun, FitsWord};
-ghost use Rattle.allocative_tally.specs.Tallies.{Exceeds, CannotTally, both_bounds, no_places};
+ghost use Rattle.allocative_tally.specs.Tallies.{Tallies, Exceeds, AreFields, HoldsOfEveryRun, no_places};
 
-use crate::counted::count_run;
+use crate::counted::{CountItem, FieldUnder, KeyAndValue, count_fitting, count_run};
 use crate::field::FieldMany;
 use crate::places::Buffers;
-use crate::tally::{CountError, Entries, InlineSum, Sum, Tallied, bytes_of, product};
+use crate::tally::{CountError, Entries, InlineSum, Sum, Tallied, bytes_of};
 use allocative::{Described, Pairs, Part, Refusal, Visitor};
 use std::collections::{BTreeMap, BTreeSet, HashMap, HashSet};
 use std::hash::Hash;
@@ -35,29 +33,6 @@ impl<'a, K: Tallied, V: Tallied> Entries for PairsMany<'a, K, V> {
         let values = FieldMany::<V>("value", &self.0.1, self.1);
         (keys, values).enter(visitor)
     }
-}
-
-/// Counts each pair that an iterator gives. It returns `Err` as `Tallied::tally` does.
-pub fn count_pairs<'a, K: Tallied + 'a, V: Tallied + 'a, I: Iterator<Item = (&'a K, &'a V)> + Drop>(
-    pairs: I,
-    tally: &mut (K::Tally, V::Tally),
-) -> Result<(), CountError>
-    requires can { I.can_next pairs }
-    requires ends { IsFinite (I.remaining pairs) }
-    ensures { HoldsOfEveryRun I.next_gives pairs deref_pair (λ es. MatchResult result
-        (λ _. TalliesMany (both_bounds K.size V.size) (length es)
-        (each_shows (pair_shows K.size K.may_show V.size V.may_show) es)
-        (pairs_shape K.size V.size (K.shape tally.old.0) (V.shape tally.old.1))
-        (pairs_shape K.size V.size (K.shape tally.new.0) (V.shape tally.new.1)))
-        (λ _. CannotTally (each_shows (pair_shows K.size K.may_show V.size V.may_show) es)
-        (pairs_shape K.size V.size (K.shape tally.old.0) (V.shape tally.old.1)))) }
-{
-    for pair in pairs {
-        let (key, value) = pair;
-        key.tally(&mut tally.0)?;
-        value.tally(&mut tally.1)?;
-    }
-    Ok(())
 }
 
 /// The declared size of a pair's key and value in bytes. `None` if a size is missing, or the sum exceeds a word.
@@ -90,62 +65,34 @@ impl<S: Drop> DataTally<S> {
     }
 }
 
-// Counts the entry `data` of so many pairs that an iterator gives. It returns `Err` as `Tallied::tally` does.
-fn count_map<'a, K: Tallied + 'a, V: Tallied + 'a, I: Iterator<Item = (&'a K, &'a V)> + Drop>(
-    pairs: I,
+// Counts the entry `data` of so many items of a declared size that an iterator gives. It returns `Err` as
+// `Tallied::tally` does.
+fn count_data<A: Drop, S, C: CountItem<A, S>, I: Iterator<Item = A> + Drop>(
+    how: C,
+    items: I,
+    size: Option<usize>,
     count: usize,
-    tally: &mut DataTally<(K::Tally, V::Tally)>,
+    tally: &mut DataTally<S>,
 ) -> Result<(), CountError>
-    requires can { I.can_next pairs }
-    requires ends { IsFinite (I.remaining pairs) }
-    ensures { HoldsOfEveryRun I.next_gives pairs deref_pair (λ es. count ≡ length es → MatchResult result
-        (λ _. Tallies (Some 8)
-        (shows_inside (codes "data") 8 (each_shows (pair_shows K.size K.may_show V.size V.may_show) es))
-        (data_shape tally.old (λ v. pairs_shape K.size V.size (K.shape v.0) (V.shape v.1)))
-        (data_shape tally.new (λ v. pairs_shape K.size V.size (K.shape v.0) (V.shape v.1))))
-        (λ _. Exceeds
-        (shows_inside (codes "data") 8 (each_shows (pair_shows K.size K.may_show V.size V.may_show) es))
-        (data_shape tally.old (λ v. pairs_shape K.size V.size (K.shape v.0) (V.shape v.1))))) }
+    requires can { I.can_next items }
+    requires ends { IsFinite (I.remaining items) }
+    requires sized { size ≡ C.size }
+    requires are_fields { AreFields C.size (C.may_show how) (C.shape how) }
+    ensures { HoldsOfEveryRun I.next_gives items C.seen (λ xs. count ≡ length xs → MatchResult result
+        (λ _. Tallies (Some 8) (shows_inside (codes "data") 8 (each_shows (C.may_show how) xs))
+        (data_shape tally.old (C.shape how)) (data_shape tally.new (C.shape how)))
+        (λ _. Exceeds (shows_inside (codes "data") 8 (each_shows (C.may_show how) xs))
+        (data_shape tally.old (C.shape how)))) }
 {
     if count == 0 {
         return tally.small.places.add_full(Some(0), 0);
     }
-    let size = pair_size::<K, V>();
     if bytes_of(size, count) <= 8 {
-        tally.small.places.add_full(size, count)?;
-        return count_pairs(pairs, &mut tally.small.values);
+        count_run(how, items, &mut tally.small.values)?;
+        return tally.small.places.add_full(size, count);
     }
-    tally.large.places.add_full(size, count)?;
-    count_pairs(pairs, &mut tally.large.values)
-}
-
-// Counts the entry `data` of so many keys that an iterator gives. It returns `Err` as `Tallied::tally` does.
-fn count_set<'a, K: Tallied + 'a, I: Iterator<Item = &'a K> + Drop>(
-    keys: I,
-    count: usize,
-    tally: &mut DataTally<K::Tally>,
-) -> Result<(), CountError>
-    requires can { I.can_next keys }
-    requires ends { IsFinite (I.remaining keys) }
-    ensures { HoldsOfEveryRun I.next_gives keys deref (λ ks. count ≡ length ks → MatchResult result
-        (λ _. Tallies (Some 8)
-        (shows_inside (codes "data") 8 (each_shows (field_of (codes "key") K.size K.may_show) ks))
-        (data_shape tally.old (λ v i. entries (codes "key") K.size i (K.shape v i)))
-        (data_shape tally.new (λ v i. entries (codes "key") K.size i (K.shape v i))))
-        (λ _. Exceeds
-        (shows_inside (codes "data") 8 (each_shows (field_of (codes "key") K.size K.may_show) ks))
-        (data_shape tally.old (λ v i. entries (codes "key") K.size i (K.shape v i))))) }
-{
-    if count == 0 {
-        return tally.small.places.add_full(Some(0), 0);
-    }
-    let size = K::size();
-    if bytes_of(size, count) <= 8 {
-        tally.small.places.add_full(size, count)?;
-        return count_run(keys, &mut tally.small.values);
-    }
-    tally.large.places.add_full(size, count)?;
-    count_run(keys, &mut tally.large.values)
+    count_run(how, items, &mut tally.large.values)?;
+    tally.large.places.add_full(size, count)
 }
 
 /// The entries `data` of a tally, with entries inside those whose items have at most 8 bytes, and with others inside
@@ -196,7 +143,13 @@ impl<K: Tallied + Eq + Hash, V: Tallied> Tallied for HashMap<K, V> {
     }
 
     fn tally(&self, tally: &mut Self::Tally) -> Result<(), CountError> {
-        count_map(self.iter(), self.len(), tally)
+        count_data(
+            KeyAndValue,
+            self.iter(),
+            pair_size::<K, V>(),
+            self.len(),
+            tally,
+        )
     }
 }
 
@@ -222,7 +175,13 @@ impl<K: Tallied + Ord, V: Tallied> Tallied for BTreeMap<K, V> {
     }
 
     fn tally(&self, tally: &mut Self::Tally) -> Result<(), CountError> {
-        count_map(self.iter(), self.len(), tally)
+        count_data(
+            KeyAndValue,
+            self.iter(),
+            pair_size::<K, V>(),
+            self.len(),
+            tally,
+        )
     }
 }
 
@@ -246,7 +205,7 @@ impl<K: Tallied + Eq + Hash> Tallied for HashSet<K> {
     }
 
     fn tally(&self, tally: &mut Self::Tally) -> Result<(), CountError> {
-        count_set(self.iter(), self.len(), tally)
+        count_data(FieldUnder("key"), self.iter(), K::size(), self.len(), tally)
     }
 }
 
@@ -270,32 +229,13 @@ impl<K: Tallied + Ord> Tallied for BTreeSet<K> {
     }
 
     fn tally(&self, tally: &mut Self::Tally) -> Result<(), CountError> {
-        count_set(self.iter(), self.len(), tally)
+        count_data(FieldUnder("key"), self.iter(), K::size(), self.len(), tally)
     }
 }
 
 /// The fields `key` and `value` for each pair of a map, as `Pairs` enters them, counted first.
 #[derive(Drop)]
 pub struct CountedPairs<V>(pub V);
-
-// Counts each of so many pairs that an iterator gives, if their bytes fit a word.
-fn count_fitting<'a, K: Tallied + 'a, V: Tallied + 'a, I: Iterator<Item = (&'a K, &'a V)> + Drop>(
-    pairs: I,
-    count: usize,
-    tally: &mut (K::Tally, V::Tally),
-) -> Result<(), CountError>
-    requires can { I.can_next pairs }
-    requires ends { IsFinite (I.remaining pairs) }
-    ensures each { HoldsOfEveryRun I.next_gives pairs deref_pair (λ es. IfOk result (λ _.
-        TalliesMany (both_bounds K.size V.size) (length es)
-        (each_shows (pair_shows K.size K.may_show V.size V.may_show) es)
-        (pairs_shape K.size V.size (K.shape tally.old.0) (V.shape tally.old.1))
-        (pairs_shape K.size V.size (K.shape tally.new.0) (V.shape tally.new.1)))) }
-    ensures fits { IfOk result (λ _. FitsWord (size_sum K.size V.size) count) }
-{
-    product(pair_size::<K, V>(), count)?;
-    count_pairs(pairs, tally)
-}
 
 impl<'a, K: Tallied + Ord, V: Tallied> Part for CountedPairs<&'a BTreeMap<K, V>> {
     ghost may_show = { λ m. each_shows (pair_shows K.size K.may_show V.size V.may_show) m.0.now.entries };
@@ -305,7 +245,8 @@ impl<'a, K: Tallied + Ord, V: Tallied> Part for CountedPairs<&'a BTreeMap<K, V>>
     fn enter(self, visitor: &mut Visitor<'_>) -> Result<(), Refusal> {
         let count = self.0.len();
         let mut tally = (K::none_counted(), V::none_counted());
-        match count_fitting(self.0.iter(), count, &mut tally) {
+        let size = pair_size::<K, V>();
+        match count_fitting(KeyAndValue, self.0.iter(), size, count, &mut tally) {
             Ok(()) => PairsMany::<K, V>(&tally, count).enter(visitor),
             Err(_) => Pairs(self.0).enter(visitor),
         }
@@ -320,7 +261,8 @@ impl<'a, K: Tallied + Eq + Hash, V: Tallied> Part for CountedPairs<&'a HashMap<K
     fn enter(self, visitor: &mut Visitor<'_>) -> Result<(), Refusal> {
         let count = self.0.len();
         let mut tally = (K::none_counted(), V::none_counted());
-        match count_fitting(self.0.iter(), count, &mut tally) {
+        let size = pair_size::<K, V>();
+        match count_fitting(KeyAndValue, self.0.iter(), size, count, &mut tally) {
             Ok(()) => PairsMany::<K, V>(&tally, count).enter(visitor),
             Err(_) => Pairs(self.0).enter(visitor),
         }

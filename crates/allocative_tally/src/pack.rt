@@ -8,9 +8,9 @@ ghost use Rattle.allocative_tally.specs.Shapes.{Unique as unique_width, EntryAt,
 ghost use Rattle.allocative_tally.specs.Shapes.{buffer_shape, pairs_shape, table_shape};
 ghost use Rattle.allocative_tally.specs.Tallies.{Tallies, Exceeds, buffer_of, no_places};
 
-use crate::counted::{count_each, count_run};
+use crate::counted::{FieldUnder, KeyAndValue, count_run};
 use crate::field::{FieldMany, OwnTally};
-use crate::map::{PairsMany, count_pairs, pair_size};
+use crate::map::{PairsMany, pair_size};
 use crate::places::Buffers;
 use crate::sequence::{BuffersMany, count_buffer};
 use crate::tally::{CountError, Entries, InlineSum, Sum, Tallied, UniqueSum, added, declared};
@@ -107,8 +107,8 @@ impl<K: Tallied + Eq + Hash, V: Tallied> Tallied for IndexMap<K, V> {
     fn tally(&self, tally: &mut Self::Tally) -> Result<(), CountError> {
         let unused = self.capacity() - self.len();
         let sizes = (pair_size::<K, V>(), <(K, V)>::size());
+        count_run(KeyAndValue, self.iter(), &mut tally.items.values)?;
         tally.items.places.add(sizes, self.len(), unused)?;
-        count_pairs(self.iter(), &mut tally.items.values)?;
         count_table(self.len(), &mut tally.tables, &mut tally.buckets)
     }
 }
@@ -136,8 +136,8 @@ impl<T: Tallied + Eq + Hash> Tallied for IndexSet<T> {
     fn tally(&self, tally: &mut Self::Tally) -> Result<(), CountError> {
         let unused = self.capacity() - self.len();
         let sizes = (T::size(), T::size());
+        count_run(FieldUnder("value"), self.iter(), &mut tally.items.values)?;
         tally.items.places.add(sizes, self.len(), unused)?;
-        count_run(self.iter(), &mut tally.items.values)?;
         count_table(self.len(), &mut tally.tables, &mut tally.buckets)
     }
 }
@@ -178,14 +178,17 @@ impl<T: Tallied, const N: usize> Tallied for SmallVec<T, N> {
     fn tally(&self, tally: &mut Self::Tally) -> Result<(), CountError> {
         declared::<SmallVec<T, N>>()?;
         if self.spilled() {
-            tally.spilled.places.add_full(T::size(), self.len())?;
-            return count_each(self.as_slice(), &mut tally.spilled.values);
+            let items = self.as_slice().iter();
+            count_run(FieldUnder("data"), items, &mut tally.spilled.values)?;
+            return tally.spilled.places.add_full(T::size(), self.len());
         }
         // They have at most the bytes of the places, so they fit the entry.
         let count = self.len();
         prove!(count <= N);
+        let items = self.as_slice().iter();
+        count_run(FieldUnder("data"), items, &mut tally.in_place.values)?;
         tally.in_place.count = added(tally.in_place.count, count)?;
-        count_each(self.as_slice(), &mut tally.in_place.values)
+        Ok(())
     }
 }
 

@@ -15,17 +15,6 @@ pub struct Places {
 }
 
 impl Places {
-    /// No buffer.
-    pub fn none() -> Places
-        ensures { result ≡ no_places }
-    {
-        Places {
-            buffers: 0,
-            items: 0,
-            unused: 0,
-        }
-    }
-
     /// Adds a buffer of so many items of a declared size, where no place is unused. It returns `Err` exactly if the
     /// size is missing, or a number or the bytes of all items do not fit a word.
     #[inline(always)]
@@ -76,7 +65,11 @@ impl<S: Drop> Buffers<S> {
     pub fn none(values: S) -> Buffers<S>
         ensures { result ≡ record { places = no_places; values = values } }
     {
-        let places = Places::none();
+        let places = Places {
+            buffers: 0,
+            items: 0,
+            unused: 0,
+        };
         Buffers { places, values }
     }
 }

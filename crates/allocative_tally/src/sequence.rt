@@ -11,7 +11,7 @@ ghost use Rattle.allocative_tally.specs.Shapes.{bytes_times, sum_of, sum_times, 
 ghost use Rattle.allocative_tally.specs.Tallies.{Tallies, Exceeds, TalliesSlice, CannotTallySlice, HoldsOfEveryRun};
 ghost use Rattle.allocative_tally.specs.Tallies.{buffer_of, in_slices};
 
-use crate::counted::{count_each, count_run};
+use crate::counted::{FieldUnder, Itself, count_run};
 use crate::field::{FieldMany, Many, OwnTally};
 use crate::places::Buffers;
 use crate::tally::{
@@ -122,7 +122,7 @@ fn count_items<'a, T: Tallied + 'a, I: Iterator<Item = &'a T> + Drop>(
         (λ _. CannotTallySlice T.size T.needs_drop T.may_show xs (T.shape tally.old))) }
 {
     if are_shown_each::<T>() {
-        return count_run(items, tally);
+        return count_run(Itself, items, tally);
     }
     Ok(())
 }
@@ -253,7 +253,8 @@ impl<T: Tallied, const N: usize> Tallied for [T; N] {
     #[inline(always)]
     fn tally(&self, tally: &mut Self::Tally) -> Result<(), CountError> {
         declared::<[T; N]>()?;
+        count_run(FieldUnder("data"), self.iter(), &mut tally.values)?;
         tally.count = added(tally.count, N)?;
-        count_each(self, &mut tally.values)
+        Ok(())
     }
 }

@@ -1,10 +1,11 @@
 -- of count_run: the invariant of its loop
-use Rattle.std.proofs.Common.{map}
-use Rattle.std.specs.Map.Iter.{deref}
-use Rattle.allocative_tally.specs.Tallies.{TalliesEach}
+use Rattle.std.proofs.Common.{map, length}
+use Rattle.allocative_graph.specs.Shows.{each_shows}
+use Rattle.allocative_tally.specs.Tallies.{TalliesMany}
 use Rattle.allocative_tally.proofs.counted.count_run.Given as goal
 
 -- The items so far are counted.
 abbrev pub invariant-loop-item : goal.invariant-loop-item
-invariant-loop-item g l = TalliesEach g.T.Described.size g.T.Allocative.may_show (map deref l.yielded)
-    (g.T.Tallied.shape l.initial.tally) (g.T.Tallied.shape l.tally)
+invariant-loop-item g l = let xs = map g.C.CountItem.seen l.yielded in
+    TalliesMany g.C.CountItem.size (length xs) (each_shows (g.C.CountItem.may_show l.how) xs)
+    (g.C.CountItem.shape l.how l.initial.tally) (g.C.CountItem.shape l.how l.tally)

@@ -1,8 +1,7 @@
 -- of count_table: no table, or one
 use Rattle.std.proofs.Common.{arith, rules}
 use Rattle.allocative_tally.proofs.Items.{no_table_counted, table_counted}
-use Rattle.allocative_tally.proofs.Weighing.{stops}
-use Rattle.allocative_tally.proofs.Exceeding.{table_missing, buckets_full}
+use Rattle.allocative_tally.proofs.Weighing.{stops, table_missing, buckets_full}
 use Rattle.allocative_tally.proofs.pack.count_table.Goals as goal
 
 pub returns-then-count-eq0 : goal.returns-then-count-eq0

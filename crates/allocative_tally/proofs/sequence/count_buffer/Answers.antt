@@ -4,8 +4,7 @@ use Rattle.std.proofs.lemmas.Result.{MatchResult-weaker}
 use Rattle.allocative.proofs.Common.{without_room, without_size}
 use Rattle.allocative_tally.proofs.Counting.{tallies_none}
 use Rattle.allocative_tally.proofs.Items.{buffer_counted}
-use Rattle.allocative_tally.proofs.Weighing.{stops}
-use Rattle.allocative_tally.proofs.Exceeding.{buffer_exceeds, buffer_unsized, places_exceed}
+use Rattle.allocative_tally.proofs.Weighing.{stops, buffer_exceeds, buffer_unsized, places_exceed}
 use Rattle.allocative_tally.proofs.sequence.count_buffer.Goals as goal
 
 pub returns-in_default : goal.returns-in_default

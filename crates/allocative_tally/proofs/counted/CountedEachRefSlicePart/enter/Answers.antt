@@ -1,9 +1,11 @@
 -- of what enters counted items: the tally's shape merges the forests of the items
 use Rattle.std.proofs.Common.{rules}
-use Rattle.allocative_tally.proofs.Items.{entered_all}
+use Rattle.std.proofs.lemmas.Iterator.{YieldsList-from_slice}
+use Rattle.allocative_tally.specs.Whole.{as_itself}
+use Rattle.allocative_tally.proofs.Items.{of_every, entered_all}
 use Rattle.allocative_tally.proofs.counted.CountedEachRefSlicePart.enter.Goals as goal
 
 pub returns-in-Ok : goal.returns-in-Ok
-returns-in-Ok g c =
-    let counted = c.in-Ok.ensures in
-    entered_all {b = c.show.new.visitor} c.none_counted-tally.ensures counted.each counted.fits (search rules) c.show.ensures
+returns-in-Ok g c = entered_all {b = c.show.new.visitor} as_itself c.none_counted-tally.ensures
+    (rw c.size.ensures at c.in-Ok.ensures.fits) (search rules)
+    (of_every (YieldsList-from_slice _ c.iter.ensures.rest) c.in-Ok.ensures.each) c.show.ensures.entered

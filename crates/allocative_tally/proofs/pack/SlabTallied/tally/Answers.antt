@@ -1,5 +1,5 @@
 -- of the tally of `Slab`: its entry, and inside it its buffer
-use Rattle.std.proofs.Common.{ℕ, ◌∙◌, arith, false, refl, rules, sym}
+use Rattle.std.proofs.Common.{◌≡◌, ℕ, ◌∙◌, arith, false, refl, rules, sym}
 use denote.Ref.{Bor}
 use Rattle.std.specs.Map.Iter.{deref}
 use Rattle.std.proofs.lemmas.Iterator.{YieldsList-from_map_by}
@@ -15,8 +15,9 @@ returns g c =
     let slab = c.args.self.now in
     let entries = YieldsList-from_first {A = ℕ × Bor g.row.T.Denot} (λ e. (e.0, e.1.now)) (λ rest. rest)
     _ (c.map-values.ensures.source ∙ c.iter.ensures.rest) in
-    let values = rw (← values_from 0 slab.slots) (YieldsList-from_map_by _ deref (λ (e : ℕ × g.row.T.Denot). e.1) entries
-    c.map-values.ensures.closure (λ x r q k. search rules)) in
-    MatchResult-weaker c.count_buffer.result (rw (c.len.ensures, c.capacity.ensures) at
-    (of_every values c.count_buffer.ensures (c.len.ensures ∙ sym (values_count slab.slots)) false))
+    let capacity : c.capacity.result ≡ slab.capacity = search rules in
+    MatchResult-weaker c.count_buffer.result (rw (c.len.ensures, capacity) at
+    (of_every (rw (← values_from 0 slab.slots) (YieldsList-from_map_by _ deref (λ (e : ℕ × g.row.T.Denot). e.1) entries
+    c.map-values.ensures.closure (λ x r q k. search rules)))
+    c.count_buffer.ensures (c.len.ensures ∙ sym (values_count slab.slots)) false))
     (λ _. next_inside 40 (omega arith) (omega arith)) (λ _. cannot_inside 40)

@@ -1,9 +1,9 @@
 -- of a box's tally: the box, its pointer, and inside it the value
 use Rattle.std.proofs.Common.{arith, true}
 use Rattle.std.proofs.lemmas.Result.{MatchResult-weaker}
+use Rattle.allocative_tally.specs.Shapes.{Unique}
 use Rattle.allocative_tally.proofs.Items.{next_container, box_counted}
-use Rattle.allocative_tally.proofs.Weighing.{cannot_case, exceeds_inside, stops}
-use Rattle.allocative_tally.proofs.Exceeding.{box_exceeds}
+use Rattle.allocative_tally.proofs.Weighing.{cannot_case, exceeds_inside, stops, declared_some, run_exceeds}
 use Rattle.allocative_tally.proofs.sequence.BoxTallied.tally.Goals as goal
 
 pub returns-in_err-tally : goal.returns-in_err-tally
@@ -11,8 +11,9 @@ returns-in_err-tally g c = stops c.from_residual.result _ _ c.from_residual.ensu
     (exceeds_inside true 8 ((rw c.deref.ensures at c.in_err-tally.ensures).next c.args.tally.now.places.items)))
 
 pub returns : goal.returns
-returns g c = MatchResult-weaker c.add_full.result c.add_full.ensures
-    (λ _ adds. next_container 8 (omega arith) (omega arith) (box_counted (rw c.size.ensures at adds)
-    (g.met.T.Tallied.whole.most c.args.tally.now.values) (rw c.deref.ensures at c.in_ok-tally.ensures)))
-    (λ _ cannot. cannot_case (box_exceeds (rw c.size.ensures at cannot)
-    (g.met.T.Tallied.whole.least c.tally.new.tally) (rw c.deref.ensures at c.in_ok-tally.ensures)))
+returns g c =
+    let value = rw c.deref.ensures at c.in_ok-tally.ensures in
+    MatchResult-weaker c.add_full.result (rw c.size.ensures at c.add_full.ensures) (λ _ adds. next_container 8 (omega arith)
+    (omega arith) (box_counted adds (g.met.T.Tallied.whole.most c.args.tally.now.values) value))
+    (λ _ cannot. cannot_case (run_exceeds {x = Unique} cannot (λ f e. absurd (declared_some value.declared e))
+    (g.met.T.Tallied.whole.least c.tally.new.tally _) (value.next c.args.tally.now.places.items)))

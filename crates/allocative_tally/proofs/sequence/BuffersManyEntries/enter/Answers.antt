@@ -2,4 +2,4 @@
 use Rattle.allocative_tally.proofs.sequence.BuffersManyEntries.enter.Goals as goal
 
 pub returns : goal.returns
-returns g c = rw (c.of-unused.ensures, c.bytes_of.ensures, c.size.ensures, c.times.ensures) at c.enter.ensures
+returns g c = rw (c.of-unused.ensures, c.times.ensures) at c.enter.ensures
