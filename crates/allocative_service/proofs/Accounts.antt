@@ -124,11 +124,6 @@ pub OnErr-always : {T E P : Type 0} (r : Result T E) → P → OnErr r P
 OnErr-always (Ok x) h = tt
 OnErr-always (Err e) h = h
 
--- What holds holds also if the option is None.
-pub IfNone-always : {T P : Type 0} (r : Option T) → P → IfNone r P
-IfNone-always None h = h
-IfNone-always (Some x) h = tt
-
 -- If P implies Q, and P holds if the option is None, so does Q.
 pub IfNone-weaker : {T P Q : Type 0} (r : Option T) → (P → Q) → IfNone r P → IfNone r Q
 IfNone-weaker None f h = f h

@@ -4,7 +4,7 @@ use Rattle.std.proofs.Common.{append_assoc, All}
 use Rattle.allocative_service.proofs.Common.{values_of, Kept, Entries, bytes_of, KeepsRecent}
 use Rattle.std.proofs.lemmas.List.{map-append}
 use Rattle.std.proofs.lemmas.List.Elements.{All-take}
-use Rattle.std.proofs.lemmas.List.Sums.{sum_by-append, sum_by-cons}
+use Rattle.std.proofs.lemmas.List.Sums.{sum_by-cons}
 use Rattle.std.proofs.Math.Seq.{take-append_seam}
 use Rattle.lru.specs.LruCache.{last_entry}
 use Rattle.lru.proofs.Pairs.{cut_end, last_of_push}
@@ -16,10 +16,8 @@ bytes_of-cons {K} {V} e es = sum_by-cons (λ (k : Kept V). k.bytes) e.1 (values_
 
 -- One entry more adds its bytes.
 bytes_of-push : {K V : Type 0} (us : Entries K V) (e : K × Kept V) → bytes_of (us ++ e ∷ []) ≡ bytes_of us + e.1.bytes
-bytes_of-push {K} {V} us e =
-    let last = bytes_of-cons e [] in
-    rw (map-append (λ (e : K × Kept V). e.1) us (e ∷ []))
-    (sum_by-append (λ (k : Kept V). k.bytes) (values_of us) (e.1 ∷ []) ∙ omega (arith, last))
+bytes_of-push [] e = omega (arith, bytes_of-cons e [])
+bytes_of-push (u ∷ us) e = omega (arith, bytes_of-cons u us, bytes_of-cons u (us ++ e ∷ []), bytes_of-push us e)
 
 -- Entries that had to go beside another have to go from the room that it leaves.
 less_needed : {K V : Type 0} (room : ℕ) (k : K × Kept V) (others gone : Entries K V) → k.1.bytes ≤ room →

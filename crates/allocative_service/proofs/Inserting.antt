@@ -1,5 +1,5 @@
 -- The entries after an insertion.
-use Rattle.std.proofs.Common.{◌≡◌, ℕ, ◌+◌, ◌-◌, ◌<◌, ◌≤◌, Bool, Option, None, [], ◌∷◌, length, refl}
+use Rattle.std.proofs.Common.{◌≡◌, ℕ, ◌+◌, ◌<◌, ◌≤◌, Bool, Option, None, [], ◌∷◌, length, refl}
 use Rattle.std.proofs.Common.{ap, ◌∙◌, subst, arith, take_all}
 use Rattle.allocative_service.proofs.Common.{lookup, lookup_entry, remove_entry, values_of, Forest, Kept, Entries}
 use Rattle.allocative_service.proofs.Common.{bytes_of, Bounded, KeepsRecent, IsBounded, IsMeasured}
@@ -7,7 +7,7 @@ use Rattle.std.specs.Option.{option_map, unwrap_or}
 use Rattle.std.proofs.lemmas.List.Elements.{All-cons}
 use Rattle.std.proofs.lemmas.Map.Entries.{sum_by-remove_entry}
 use Rattle.std.proofs.lemmas.Map.Views.{All-map-remove_entry}
-use Rattle.lru.specs.LruCache.{lru_cache, put_entries}
+use Rattle.lru.specs.LruCache.{LruCache, put_entries}
 use Rattle.allocative_service.specs.declared.measure.Measure.{Measure}
 use Rattle.allocative_service.specs.Entries.{AreKept, kept, with_entries, stored_key, IsFigure, Inserts}
 use Rattle.allocative_service.proofs.Evicting.{bytes_of-cons, first_stays, All-recent}
@@ -19,9 +19,9 @@ module _ {K V : Type 0} where
   none_removed test (e ∷ es) none = grind (arith, none_removed test es)
 
   -- Below the capacity, `put` places the pair first and removes only the entry of an equal key.
-  pub put_entries-unbounded : (eq : K → K → Bool) (key : K) (k : Kept V) (es : Entries K V) (cap : ℕ) →
-      length es < cap → put_entries eq (lru_cache es cap) key k ≡ (stored_key eq key es, k) ∷ remove_entry (eq key) es
-  put_entries-unbounded eq key k es cap fewer = grind (arith, none_removed, take_all)
+  pub put_entries-unbounded : (eq : K → K → Bool) (c : LruCache K (Kept V)) (key : K) (k : Kept V) → length c.entries < c.cap
+      → put_entries eq c key k ≡ (stored_key eq key c.entries, k) ∷ remove_entry (eq key) c.entries
+  put_entries-unbounded eq c key k fewer = grind (arith, none_removed, take_all)
 
   -- The bytes under a removed key and those of the remaining entries are the bytes of all.
   pub bytes_of-remove_entry : (test : K → Bool) (es : Entries K V) (had : Option (Kept V)) → had ≡ lookup test es →
@@ -74,5 +74,5 @@ module _ {F K V : Type 0} {size : Option ℕ} {may_show : V → Forest → Type 
   Inserts-bounded i h = rw i.is (first-kept _ old.bound i.figure i.fits
       (recent-kept old.bound i.recent (omega (arith, i.fits)) (without-kept (eq key) h)))
 
--- The lemma on the bytes of entries without one.
-pub ruleset putting = (bytes_of-remove_entry)
+-- The lemmas on the entries that a value is put into.
+pub ruleset putting = (bytes_of-remove_entry, put_entries-unbounded)

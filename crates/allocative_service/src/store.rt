@@ -227,14 +227,14 @@ impl<K: Eq + Hash + Drop, V: Allocative + Described> Store<K, V> {
         self.bytes = rest + bytes;
         let ledger_excess = self.bytes.saturating_sub(self.limit);
         self.overgrown = self.overgrown.max(ledger_excess);
-        if !changed? {
-            return Ok(None);
+        if changed? {
+            return Ok(Some(Standing {
+                bytes,
+                excess,
+                ledger_excess,
+            }));
         }
-        Ok(Some(Standing {
-            bytes,
-            excess,
-            ledger_excess,
-        }))
+        Ok(None)
     }
 
     /// Removes the tenant's value under the key, and returns it with its key. If there is none, it returns None and

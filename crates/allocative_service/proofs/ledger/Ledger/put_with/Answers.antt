@@ -1,6 +1,5 @@
 -- of Ledger::put_with: invariants, unchanged and stored
 use Rattle.std.proofs.Common.{arith, refl, sym}
-use Rattle.std.proofs.lemmas.Result.{on_err_weaker}
 use Rattle.allocative_service.proofs.Accounts.{account_bytes, OnErr-always, stored_by, written}
 use Rattle.allocative_service.proofs.ledger.Ledger.put_with.Goals as goal
 
@@ -17,8 +16,7 @@ pub returns-in_err-total-clause-unchanged : goal.returns-in_err-total-clause-unc
 returns-in_err-total-clause-unchanged g c =
     let w = written account_bytes c.args.tenant.now _ _ c.args.self.now.accounts (c.get_mut.follows.lender c.put_with.new.self)
     c.in-Some.ensures.value (c.get_mut.follows.holds c.put_with.new.self) in
-    on_err_weaker c.from_residual.result (λ is. (w.same is, (refl, refl), refl))
-    (OnErr-always c.from_residual.result c.in_err-total.ensures.unchanged)
+    OnErr-always c.from_residual.result (w.same c.in_err-total.ensures.unchanged, (refl, refl), refl)
 
 -- The sum has the new bytes of the account in place of those that it had.
 pub invariant_of-self-2 : goal.invariant_of-self-2

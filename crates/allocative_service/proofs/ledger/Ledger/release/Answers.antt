@@ -2,7 +2,7 @@
 use Rattle.std.proofs.Common.{arith, ap, refl, sym, ◌≡◌, ◌+◌, subst}
 use Rattle.allocative_service.proofs.Common.{AccountData}
 use Rattle.allocative_service.specs.AccountData.{sum_of}
-use Rattle.allocative_service.proofs.Accounts.{account_bytes, IfNone-always, IfNone-weaker, in_ledger, written}
+use Rattle.allocative_service.proofs.Accounts.{account_bytes, in_ledger, written}
 use Rattle.allocative_service.proofs.ledger.Ledger.release.Goals as goal
 
 -- If there is no entry, the sum is as it was.
@@ -17,8 +17,7 @@ pub returns-in_err-bytes-clause-unchanged : goal.returns-in_err-bytes-clause-unc
 returns-in_err-bytes-clause-unchanged c =
     let w = written account_bytes c.args.tenant.now _ _ c.args.self.now.accounts (c.get_mut.follows.lender c.release.new.self)
     c.in_ok-account.ensures.value (c.get_mut.follows.holds c.release.new.self) in
-    IfNone-weaker c.from_residual-in_err-bytes.result (λ is. (w.same is, (refl, refl), refl))
-    (IfNone-always c.from_residual-in_err-bytes.result c.in_err-bytes.ensures.unchanged)
+    rw c.from_residual-in_err-bytes.ensures (w.same c.in_err-bytes.ensures.unchanged, (refl, refl), refl)
 
 -- The sum is less by the bytes of the entry.
 pub invariant_of-self-2 : goal.invariant_of-self-2

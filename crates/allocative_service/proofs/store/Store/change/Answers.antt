@@ -1,43 +1,51 @@
--- of Store::change: an invariant, refused, err, none, changed and standing
-use Rattle.std.proofs.Common.{◌≡◌, ◌-◌, true, false, arith, ap, max, refl, rules, sym}
-use Rattle.allocative_service.proofs.Accounts.{OnErr-always, written}
+-- of Store::change: invariants, refused, err, changed, standing and none
+use Rattle.std.proofs.Common.{◌≡◌, ◌+◌, ◌-◌, arith, ap, rules}
+use Rattle.allocative_service.proofs.Accounts.{OnErr-always, Written, written}
 use Rattle.allocative_service.proofs.Common.{bytes_of}
 use Rattle.allocative_service.proofs.Storing.{passed_on, replaces, shelf_bytes}
-use Rattle.allocative_service.specs.Store.{all_kept, stored}
+use Rattle.allocative_service.specs.Shelf.{Shelved}
+use Rattle.allocative_service.specs.Store.{IsTotal, Replaces, all_kept, stored}
+use Rattle.allocative_service.proofs.store.Store.change.Given.{Over}
+use Rattle.allocative_service.proofs.store.Store.change.Goals.{After-max-self-inside}
 use Rattle.allocative_service.proofs.store.Store.change.Goals as goal
 
+-- What was written through the lent shelf.
+wrote : (g : Over) (c : After-max-self-inside g) → Written shelf_bytes c.args.tenant.now c.in-Some.shelf.now
+    c.change-changed.new.self c.self.inside.shelves (c.get_mut.follows.lender c.change-changed.new.self)
+wrote g c = written shelf_bytes c.args.tenant.now _ _ c.self.inside.shelves
+    (c.get_mut.follows.lender c.change-changed.new.self) c.in-Some.ensures.value (c.get_mut.follows.holds c.change-changed.new.self)
+
 -- The bytes of all have those of the shelf in place of what it had.
+total : (g : Over) (c : After-max-self-inside g) → IsTotal (c.self.inside.bytes - c.bytes.result + c.bytes-bytes.result)
+    (stored (c.get_mut.follows.lender c.change-changed.new.self).entries c.self.inside.limit c.max-self-inside.result
+    c.self.inside.measure)
+total g c =
+    let w = wrote g c in
+    record {
+      sum = omega (arith, w.all, w.part, c.bytes.ensures.sum, c.bytes-bytes.ensures.sum, c.self.invariant.sum);
+      within = omega arith;
+      fits = omega (arith, w.part, c.bytes.ensures.sum, c.bytes-bytes.ensures.sum, c.change-changed.ensures.fits, c.self.invariant.sum);
+    }
+
+-- The tenant's shelf is replaced by the one after the change.
+replaced : (g : Over) (c : After-max-self-inside g) (P : Shelved g.row.K.Denot g.row.V.Denot → Shelved g.row.K.Denot g.row.V.Denot → Type 0)
+    → P c.in-Some.shelf.now c.change-changed.new.self → Replaces c.args.tenant.now P (stored c.self.inside.shelves.entries c.self.inside.limit c.self.inside.overgrown c.self.inside.measure)
+    (stored (c.get_mut.follows.lender c.change-changed.new.self).entries c.self.inside.limit c.max-self-inside.result
+    c.self.inside.measure)
+replaced g c P changes =
+    let s = c.self.inside in
+    let w = wrote g c in
+    replaces c.args.tenant.now _ _ s.shelves _ P s.limit s.overgrown c.max-self-inside.result s.measure c.in-Some.ensures.value
+    changes w (omega (arith, w.all, w.part, c.bytes.ensures.sum, c.bytes-bytes.ensures.sum, c.self.invariant.sum))
+
 pub invariant_of-self-in_err-changed : goal.invariant_of-self-in_err-changed
-invariant_of-self-in_err-changed g c =
-    let w = written shelf_bytes c.args.tenant.now _ _ c.self.inside.shelves
-    (c.get_mut.follows.lender c.change-changed.new.self) c.in-Some.ensures.value (c.get_mut.follows.holds c.change-changed.new.self) in
-    record {
-      sum = omega (arith, w.all, w.part, c.bytes.ensures.sum, c.bytes-bytes.ensures.sum, c.self.invariant.sum);
-      within = omega arith;
-      fits = omega (arith, w.part, c.bytes.ensures.sum, c.bytes-bytes.ensures.sum, c.change-changed.ensures.fits, c.self.invariant.sum);
-    }
+invariant_of-self-in_err-changed g c = total g (goal.at.invariant_of-self-in_err-changed g c).After-max-self-inside
 
--- The same if there is no such value.
-pub invariant_of-self-then-not-branch : goal.invariant_of-self-then-not-branch
-invariant_of-self-then-not-branch g c =
-    let w = written shelf_bytes c.args.tenant.now _ _ c.self.inside.shelves
-    (c.get_mut.follows.lender c.change-changed.new.self) c.in-Some.ensures.value (c.get_mut.follows.holds c.change-changed.new.self) in
-    record {
-      sum = omega (arith, w.all, w.part, c.bytes.ensures.sum, c.bytes-bytes.ensures.sum, c.self.invariant.sum);
-      within = omega arith;
-      fits = omega (arith, w.part, c.bytes.ensures.sum, c.bytes-bytes.ensures.sum, c.change-changed.ensures.fits, c.self.invariant.sum);
-    }
+pub invariant_of-self-then-branch : goal.invariant_of-self-then-branch
+invariant_of-self-then-branch g c = total g (goal.at.invariant_of-self-then-branch g c).After-max-self-inside
 
--- The same after a change.
 pub invariant_of-self-2 : goal.invariant_of-self-2
-invariant_of-self-2 g c =
-    let w = written shelf_bytes c.args.tenant.now _ _ c.self.inside.shelves
-    (c.get_mut.follows.lender c.change-changed.new.self) c.in-Some.ensures.value (c.get_mut.follows.holds c.change-changed.new.self) in
-    record {
-      sum = omega (arith, w.all, w.part, c.bytes.ensures.sum, c.bytes-bytes.ensures.sum, c.self.invariant.sum);
-      within = omega arith;
-      fits = omega (arith, w.part, c.bytes.ensures.sum, c.bytes-bytes.ensures.sum, c.change-changed.ensures.fits, c.self.invariant.sum);
-    }
+invariant_of-self-2 g c = total g (goal.at.invariant_of-self-2 g c).After-max-self-inside
 
 -- A refusal is that of the shelf.
 pub returns-in_err-changed-clause-refused : goal.returns-in_err-changed-clause-refused
@@ -50,54 +58,31 @@ returns-in_err-changed-clause-refused g c =
 
 -- The tenant's shelf is without the refused value.
 pub returns-in_err-changed-clause-err : goal.returns-in_err-changed-clause-err
-returns-in_err-changed-clause-err g c =
-    let s = c.self.inside in
-    let w = written shelf_bytes c.args.tenant.now _ _ s.shelves
-    (c.get_mut.follows.lender c.change-changed.new.self) c.in-Some.ensures.value (c.get_mut.follows.holds c.change-changed.new.self) in
-    let grown : c.max-self-inside.result
-    ≡ max s.overgrown (all_kept (c.get_mut.follows.lender c.change-changed.new.self).entries - s.limit) =
-    omega (arith, w.all, w.part, c.bytes.ensures.sum, c.bytes-bytes.ensures.sum, c.self.invariant.sum) in
-    rw (← c.self.view_is) (OnErr-always c.from_residual.result
-    (replaces c.args.tenant.now _ _ s.shelves _ _ s.limit s.overgrown c.max-self-inside.result s.measure
-    c.in-Some.ensures.value c.in_err-changed.ensures.err w grown))
+returns-in_err-changed-clause-err g c = rw (← c.self.view_is) (OnErr-always c.from_residual.result
+    (replaced g (goal.at.returns-in_err-changed-clause-err g c).After-max-self-inside _ c.in_err-changed.ensures.err))
+
+-- The tenant's shelf has the changed value.
+pub returns-then-branch-clause-changed : goal.returns-then-branch-clause-changed
+returns-then-branch-clause-changed g c =
+    let yes = c.if-branch.true in
+    rw (← c.self.view_is) (replaced g (goal.at.returns-then-branch-clause-changed g c).After-max-self-inside _
+    (rw yes at c.in_ok-changed.ensures.ok))
+
+-- The standing is that of the shelf and of the store after the change.
+pub returns-then-branch-clause-standing : goal.returns-then-branch-clause-standing
+returns-then-branch-clause-standing g c =
+    let w = wrote g (goal.at.returns-then-branch-clause-standing g c).After-max-self-inside in
+    rw w.one.changed ((c.bytes-bytes.ensures.sum, c.excess-excess.ensures), omega (arith, w.all, w.part, c.bytes.ensures.sum, c.bytes-bytes.ensures.sum, c.self.invariant.sum))
 
 -- If there is no such value, nothing changes.
-pub returns-then-not-branch-clause-none : goal.returns-then-not-branch-clause-none
-returns-then-not-branch-clause-none g c =
+pub returns-clause-none : goal.returns-clause-none
+returns-clause-none g c =
     let s = c.self.inside in
-    let no : c.in_ok-changed.field-0 ≡ false = (elim c.in_ok-changed.field-0 as (λ b. c.in_ok-changed.field-0 ≡ b → c.in_ok-changed.field-0 ≡ false) [
-      | true ↦ λ t. let h = rw t at c.if-not-branch.true in absurd cc
-      | false ↦ λ t. t
-    ]) refl in
+    let no = c.if-branch.false in
     let absent = rw no at c.in_ok-changed.ensures.ok in
-    let w = written shelf_bytes c.args.tenant.now _ _ s.shelves
-    (c.get_mut.follows.lender c.change-changed.new.self) c.in-Some.ensures.value (c.get_mut.follows.holds c.change-changed.new.self) in
+    let w = wrote g (goal.at.returns-clause-none g c).After-max-self-inside in
     let same = w.same absent.1 in
     let sum = ap (λ h. bytes_of h.entries) absent.1 in
     let over : c.max-self-inside.result ≡ s.overgrown =
     omega (arith, sum, w.part, c.bytes.ensures.sum, c.bytes-bytes.ensures.sum, c.self.invariant.sum, c.self.invariant.within) in
     rw (← c.self.view_is, ← c.in-Some.ensures.value) (absent.0, λ i. stored (same i) s.limit (over i) s.measure)
-
--- The tenant's shelf has the changed value.
-pub returns-clause-changed : goal.returns-clause-changed
-returns-clause-changed g c =
-    let s = c.self.inside in
-    let yes : c.in_ok-changed.field-0 ≡ true = (elim c.in_ok-changed.field-0 as (λ b. c.in_ok-changed.field-0 ≡ b → c.in_ok-changed.field-0 ≡ true) [
-      | true ↦ λ t. t
-      | false ↦ λ t. let h = rw t at c.if-not-branch.false in absurd cc
-    ]) refl in
-    let w = written shelf_bytes c.args.tenant.now _ _ s.shelves
-    (c.get_mut.follows.lender c.change-changed.new.self) c.in-Some.ensures.value (c.get_mut.follows.holds c.change-changed.new.self) in
-    let grown : c.max-self-inside.result
-    ≡ max s.overgrown (all_kept (c.get_mut.follows.lender c.change-changed.new.self).entries - s.limit) =
-    omega (arith, w.all, w.part, c.bytes.ensures.sum, c.bytes-bytes.ensures.sum, c.self.invariant.sum) in
-    rw (← c.self.view_is) (replaces c.args.tenant.now _ _ s.shelves _ _ s.limit s.overgrown c.max-self-inside.result
-    s.measure c.in-Some.ensures.value (rw yes at c.in_ok-changed.ensures.ok) w grown)
-
--- The standing is that of the shelf and of the store after the change.
-pub returns-clause-standing : goal.returns-clause-standing
-returns-clause-standing g c =
-    let s = c.self.inside in
-    let w = written shelf_bytes c.args.tenant.now _ _ s.shelves
-    (c.get_mut.follows.lender c.change-changed.new.self) c.in-Some.ensures.value (c.get_mut.follows.holds c.change-changed.new.self) in
-    rw w.one.changed ((c.bytes-bytes.ensures.sum, c.excess-excess.ensures), omega (arith, w.all, w.part, c.bytes.ensures.sum, c.bytes-bytes.ensures.sum, c.self.invariant.sum))

@@ -1,5 +1,5 @@
 -- of Store::put: an invariant, ok, had, refused and err
-use Rattle.std.proofs.Common.{◌≡◌, ◌-◌, arith, ap, max, sym}
+use Rattle.std.proofs.Common.{◌≡◌, ◌-◌, arith, ap}
 use Rattle.std.proofs.lemmas.Result.{on_ok_weaker, on_err_weaker}
 use Rattle.allocative_service.proofs.Accounts.{written}
 use Rattle.allocative_service.proofs.Common.{bytes_of}
@@ -26,12 +26,10 @@ returns-clause-ok g c =
     (c.get_mut.follows.lender c.put-kept.new.self) c.in-Some.ensures.value (c.get_mut.follows.holds c.put-kept.new.self) in
     let rest : s.bytes - c.bytes.result ≡ all_kept s.shelves.entries - bytes_of c.in-Some.shelf.now.entries =
     omega (arith, c.bytes.ensures.sum, c.self.invariant.sum) in
-    let grown : s.overgrown
-    ≡ max s.overgrown (all_kept (c.get_mut.follows.lender c.put-kept.new.self).entries - s.limit) =
-    omega (arith, w.all, w.part, c.bytes.ensures.sum, c.put-kept.ensures.within, c.self.invariant.sum, c.self.invariant.within) in
     rw (← c.self.view_is) (on_ok_weaker c.put-kept.result
     (λ keeps. replaces c.args.tenant.now _ _ s.shelves _ _ s.limit s.overgrown s.overgrown s.measure
-    c.in-Some.ensures.value (rw (← rest) keeps) w grown) c.put-kept.ensures.ok)
+    c.in-Some.ensures.value (rw (← rest) keeps) w
+    (omega (arith, w.all, w.part, c.bytes.ensures.sum, c.put-kept.ensures.within, c.self.invariant.sum, c.self.invariant.within))) c.put-kept.ensures.ok)
 
 -- The value that it had is that of the shelf.
 pub returns-clause-had : goal.returns-clause-had

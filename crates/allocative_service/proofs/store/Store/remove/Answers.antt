@@ -1,8 +1,8 @@
 -- of Store::remove: an invariant, removed and unchanged
-use Rattle.std.proofs.Common.{◌≡◌, ◌-◌, arith, ap, max, sym}
+use Rattle.std.proofs.Common.{arith, ap}
 use Rattle.allocative_service.proofs.Accounts.{IfNone-weaker, OnSome-always, written}
 use Rattle.allocative_service.proofs.Storing.{replaces, shelf_bytes}
-use Rattle.allocative_service.specs.Store.{all_kept, stored}
+use Rattle.allocative_service.specs.Store.{stored}
 use Rattle.allocative_service.proofs.store.Store.remove.Goals as goal
 
 -- The bytes of all have those of the shelf in place of what it had.
@@ -22,12 +22,10 @@ returns-clause-removed g c =
     let s = c.self.inside in
     let w = written shelf_bytes c.args.tenant.now _ _ s.shelves
     (c.get_mut.follows.lender c.remove-removed.new.self) c.in_ok-shelf.ensures.value (c.get_mut.follows.holds c.remove-removed.new.self) in
-    let grown : s.overgrown
-    ≡ max s.overgrown (all_kept (c.get_mut.follows.lender c.remove-removed.new.self).entries - s.limit) =
-    omega (arith, w.all, c.remove-removed.ensures.within, c.self.invariant.sum, c.self.invariant.within) in
     rw (← c.self.view_is) (OnSome-always c.remove-removed.result
     (replaces c.args.tenant.now _ _ s.shelves _ _ s.limit s.overgrown s.overgrown s.measure c.in_ok-shelf.ensures.value
-    c.remove-removed.ensures.others w grown))
+    c.remove-removed.ensures.others w
+    (omega (arith, w.all, c.remove-removed.ensures.within, c.self.invariant.sum, c.self.invariant.within))))
 
 -- If there is no such value, nothing changes.
 pub returns-clause-unchanged : goal.returns-clause-unchanged

@@ -1,10 +1,10 @@
 -- of Store::set_budget: an invariant, set and unchanged
-use Rattle.std.proofs.Common.{◌≡◌, ◌-◌, arith, ap, max}
+use Rattle.std.proofs.Common.{arith, ap}
 use Rattle.std.proofs.lemmas.Result.{on_ok_weaker, on_err_weaker}
 use Rattle.allocative_service.proofs.Accounts.{written}
 use Rattle.allocative_service.proofs.Common.{bytes_of}
 use Rattle.allocative_service.proofs.Storing.{replaces, shelf_bytes}
-use Rattle.allocative_service.specs.Store.{all_kept, stored}
+use Rattle.allocative_service.specs.Store.{stored}
 use Rattle.allocative_service.proofs.store.Store.set_budget.Goals as goal
 
 -- The entries are as they were, so the sum is.
@@ -26,11 +26,10 @@ returns-clause-set g c =
     let w = written shelf_bytes c.args.tenant.now _ _ s.shelves
     (c.get_mut.follows.lender c.set_budget.new.self) c.in-Some.ensures.value (c.get_mut.follows.holds c.set_budget.new.self) in
     let same = ap (λ es. bytes_of es) c.set_budget.ensures.entries in
-    let grown : s.overgrown ≡ max s.overgrown (all_kept (c.get_mut.follows.lender c.set_budget.new.self).entries - s.limit) =
-    omega (arith, w.all, same, c.self.invariant.sum, c.self.invariant.within) in
     rw (← c.self.view_is) (on_ok_weaker c.set_budget.result
     (λ is. replaces c.args.tenant.now _ _ s.shelves _ _ s.limit s.overgrown s.overgrown s.measure
-    c.in-Some.ensures.value is w grown) c.set_budget.ensures.set)
+    c.in-Some.ensures.value is w
+    (omega (arith, w.all, same, c.self.invariant.sum, c.self.invariant.within))) c.set_budget.ensures.set)
 
 -- A rejection changes nothing.
 pub returns-clause-unchanged : goal.returns-clause-unchanged
