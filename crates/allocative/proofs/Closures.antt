@@ -1,7 +1,7 @@
 -- What a caller of `visit_field_with` learns from the closure's outcome.
-use Rattle.std.proofs.Common.{◌≡◌, ℕ, Result, Ok, Err, MutBor, false, subst, refl, Some}
+use Rattle.std.proofs.Common.{◌≡◌, ℕ, Result, Ok, Err, MutBor, subst, refl}
 use Rattle.allocative.proofs.Common.{Restore, Refusal, Key, Forest, held, ShowsNoContent, State, Going, OfSum}
-use Rattle.allocative.proofs.Common.{nothing_held, close_entry, Showing, Inside, AddsForest, OpensEntry, Settles}
+use Rattle.allocative.proofs.Common.{nothing_held, close_entry, Showing, Inside, AddsForest, Settles}
 use Rattle.allocative.proofs.Common.{Visitor, called, refused_inside, IsSum, ClosesEntry}
 use Rattle.std.specs.Fn.{Once}
 use Rattle.allocative.specs.Closures.{CallShows, CallsInside, not_called, CalledAtRoot, AnswersSum, after_told}

@@ -1,6 +1,5 @@
 -- What a level shows of values of any number of levels is what a value of any number of levels shows.
-use Rattle.std.proofs.Common.{◌≡◌, ℕ, Bool, false, zero, suc, ◌+◌, List, [], ◌∷◌, None, Some}
-use Rattle.std.proofs.Common.{refl, arith, subst, sym}
+use Rattle.std.proofs.Common.{◌≡◌, ℕ, Bool, false, zero, suc, ◌+◌, List, [], ◌∷◌, None, Some, refl, arith, subst, sym}
 use Rattle.allocative.proofs.Common.{Forest, Showing, sized, each_shows, Both, without_size, without_room, with_room}
 use Rattle.allocative.proofs.Common.{in_any_order, IsDeclared, ShowsContents, Means, levels_shown}
 use Rattle.std.proofs.Math.Nat.{add_comm}

@@ -1,18 +1,17 @@
 -- How entries are opened and made, one after another and inside each other, by calls that visit no part.
 use Rattle.std.proofs.Common.{ℕ, ◌+◌, ◌<◌, ◌^◌, Bool, true, false, List, [], ◌∷◌, ◌≡◌, Option, Some, Result, Ok, Err}
 use Rattle.std.proofs.Common.{refl, sym, ◌∙◌, subst, ap}
-use Rattle.allocative.proofs.Common.{Restore, Yields, Refusal, TooLarge, Key, Identity, Live, Kind, OfGraph, OfSum}
-use Rattle.allocative.proofs.Common.{Summing, count_entry, entry_bytes, ExceedsSum, State, Failed, Going, close_entry}
-use Rattle.allocative.proofs.Common.{HasFailed, OpensEntry, stays_failed, is_refused, is_entered, RefusesSized}
-use Rattle.allocative.proofs.Common.{OpensShared, stays_shared, is_refused_shared, is_too_large_shared, counts}
-use Rattle.allocative.proofs.Common.{enters_first, enters_again, ClosesEntry, Nothing, Field, already}
+use Rattle.allocative.proofs.Common.{Restore, Yields, Refusal, Key, Identity, Live, Kind, OfGraph, State, Failed, Going}
+use Rattle.allocative.proofs.Common.{close_entry, HasFailed, OpensEntry, stays_failed, is_refused, is_entered}
+use Rattle.allocative.proofs.Common.{OpensShared, stays_shared, is_refused_shared, is_too_large_shared}
+use Rattle.allocative.proofs.Common.{counts, enters_first, enters_again, ClosesEntry, Nothing, Field, already}
 use Rattle.allocative.proofs.Common.{FailsOnlyIfFull, Entered, Visitor, with_state, Plan, Done, Entry, Makes, MakesPlan}
 use Rattle.allocative.proofs.Common.{made_none, made, entry_refused, inside_refused, makes, gives, one, Showing}
 use Rattle.std.proofs.lemmas.Bool.{false≢true}
 use Rattle.allocative_collectors.specs.Places.{MeetsAs}
 use Rattle.allocative_graph.specs.Collector.{enter, leave, outer_of}
 use Rattle.allocative_graph.specs.Sums.{bytes_entered}
-use Rattle.allocative_graph.specs.Visits.{HasRoom, Refuses}
+use Rattle.allocative_graph.specs.Visits.{HasRoom}
 use Rattle.allocative.specs.Making.{followed_by_plan, had_failed, KeepsFailure, MakesPlanOrGives}
 use Rattle.allocative.specs.Strict as refuses
 use Rattle.allocative.proofs.Strict.{only_if_full_nothing, only_if_full_field, only_if_full_not_field}
@@ -139,16 +138,6 @@ pub only_if_full_failed : {p : Showing} {s t : State} {e : Refusal} {r : Result 
 only_if_full_failed had_failed = refuses.had_failed
 
 -- ---- what the collector's own calls do, by what they find
--- Opening an entry in a failed collector returns its cause and leaves it as it is.
-pub opens_failed : {u : Bool} {k : Key} {y : Option ℕ} {s t : State} {r : Refusal} → s ≡ Failed r → t ≡ Failed r →
-    OpensEntry u k y s (Err r) t
-opens_failed i j = rw (i, j) stays_failed
-
--- Opening an entry may return an error that `RefusesSized` allows if the collector fails with that error.
-pub opens_refused : {u : Bool} {k : Key} {y : Option ℕ} (b : Kind) {s t : State} {e : Refusal} → s ≡ Going b →
-    RefusesSized u y b e → t ≡ Failed e → OpensEntry u k y s (Err e) t
-opens_refused b i h j = rw (i, j) (is_refused h)
-
 -- Opening an entry that has room adds it, with a visitor at it, and returns what closing it restores.
 pub opens_entered : {u : Bool} {k : Key} {y : Option ℕ} (n : ℕ) (b c : Kind) {o : Restore} {s t : State} → y ≡ Some n →
     s ≡ Going b → HasRoom u n b → o ≡ outer_of n b → c ≡ enter u k n b → t ≡ Going c → OpensEntry u k y s (Ok o) t
@@ -161,37 +150,7 @@ pub makes_one : {k : Key} {y : Option ℕ} (n : ℕ) (b c : Kind) {u : Unit} {s 
 makes_one n b c e i h g j = rw (e, i, j, g)
     (made (is_entered h refl refl) (made_none {u = tt}) (record { closes = refl }) made_none)
 
--- ---- no entry
--- Making no entry in a failed collector returns its cause and leaves it as it is.
-pub none_failed : {s : State} {r : Refusal} → s ≡ Failed r → Makes Done s (Err r) s
-none_failed i = rw i had_failed
-
--- Making no entry in a collector that has not failed returns Ok and leaves it as it is.
-pub none_made : (b : Kind) {u : Unit} {s : State} → s ≡ Going b → Makes Done s (Ok u) s
-none_made b i = rw i made_none
-
 -- ---- opening a shared entry
--- Opening a shared entry in a failed collector returns its cause and leaves it as it is.
-pub shared_failed : {k : Key} {n : ℕ} {i : Identity} {s t : State} {r : Refusal} → s ≡ Failed r → t ≡ Failed r →
-    OpensShared k n i s (Err r) t
-shared_failed i j = rw (i, j) stays_shared
-
--- A collector of a sum counts a shared pointer if the sum fits a word, and no content is shown.
-pub shared_counted : {k : Key} {n : ℕ} {i : Identity} (a : Summing) {s t : State} → s ≡ Going (OfSum a) →
-    a.sum + entry_bytes a.figure true n < 2 ^ 64 → t ≡ Going (OfSum (count_entry true n a)) →
-    OpensShared k n i s (Ok false) t
-shared_counted a i r j = rw (i, j) (counts r refl)
-
--- A collector of a sum refuses a shared pointer with TooLarge if the sum does not fit a word.
-pub shared_too_large : {k : Key} {n : ℕ} {i : Identity} (a : Summing) {s t : State} {e : Refusal} →
-    s ≡ Going (OfSum a) → e ≡ TooLarge → ExceedsSum true n a → t ≡ Failed e → OpensShared k n i s (Err e) t
-shared_too_large a i e r j = rw (i, j) (is_too_large_shared e r)
-
--- A flame graph's collector refuses a shared entry as it refuses an inline entry of as many bytes.
-pub shared_refused : {k : Key} {n : ℕ} {i : Identity} (c : Live) {s t : State} {e : Refusal} → s ≡ Going (OfGraph c) →
-    Refuses false n (OfGraph c) e → t ≡ Failed e → OpensShared k n i s (Err e) t
-shared_refused c i h j = rw (i, j) (is_refused_shared h)
-
 -- A flame graph's collector shows the content of a shared entry that has room exactly if its identity is new.
 pub shared_met : {k : Key} {n : ℕ} {i : Identity} (c d : Live) (is_first : Bool) {s t : State} → s ≡ Going (OfGraph c) →
     bytes_entered c.sums + n < 2 ^ 63 → MeetsAs k n i c is_first d → t ≡ Going (OfGraph d) →
@@ -200,4 +159,4 @@ shared_met c d true i r m j = rw (i, j) (enters_first r m.0 m.1)
 shared_met c d false i r m j = rw (i, j) (enters_again r m.0 m.1)
 
 -- The rules for the collector's own calls.
-pub ruleset opening = (opens_failed, opens_refused, opens_entered, entry_refused, makes_one, none_failed, none_made, shared_failed, shared_counted, shared_too_large, shared_refused, shared_met, refuses_entry)
+pub ruleset opening = (stays_failed, is_refused, opens_entered, entry_refused, makes_one, had_failed, made_none, stays_shared, counts, is_too_large_shared, is_refused_shared, shared_met, refuses_entry)

@@ -1,13 +1,13 @@
 -- What a visit by a root visitor amounts to.
-use Rattle.std.proofs.Common.{◌≡◌, ℕ, suc, ◌+◌, ◌<◌, ◌^◌, inr, List, length}
-use Rattle.std.proofs.Common.{take, get_or, Bool, IsTrue, Result, Ok, Err, IsErr, refl, ap, sym, subst, ◌∙◌, arith, inl}
-use Rattle.std.proofs.Common.{IfOk, IfErr, [], ◌∷◌, ◌++◌, drop, take-append-drop, true, false}
+use Rattle.std.proofs.Common.{◌≡◌, ℕ, suc, ◌+◌, ◌<◌, ◌^◌, inr, List, length, take, get_or, Bool, IsTrue, Result, Ok}
+use Rattle.std.proofs.Common.{Err, IsErr, refl, ap, sym, subst, ◌∙◌, arith, inl, IfOk, IfErr, [], ◌∷◌, ◌++◌, drop}
+use Rattle.std.proofs.Common.{take-append-drop, true, false}
 use Rattle.allocative.proofs.Common.{Restore, Refusal, Forest, followed_by, add_all, held, ShowsNoContent, Kind}
-use Rattle.allocative.proofs.Common.{OfGraph, OfSum, State, Failed, Going, leave, plus, Takes, visitors}
-use Rattle.allocative.proofs.Common.{is_graph, begin, outer_of, close_entry, nothing_held, Showing, Both}
-use Rattle.allocative.proofs.Common.{each_shows, AddsForest, refused, hidden, forgotten, OpensRoot, Settles, VisitsRoot}
-use Rattle.allocative.proofs.Common.{Profile, IsProfileOf, IsSum, MayRefuse, FailsOnlyIfFull, has_added}
-use Rattle.allocative.proofs.Common.{has_refused, RootFailsOnlyIfFull, ClosesEntry, all_bytes, HasRoomFor, CanTake}
+use Rattle.allocative.proofs.Common.{OfGraph, OfSum, State, Failed, Going, leave, plus, Takes, visitors, is_graph}
+use Rattle.allocative.proofs.Common.{begin, outer_of, close_entry, nothing_held, Showing, Both, each_shows, AddsForest}
+use Rattle.allocative.proofs.Common.{refused, hidden, forgotten, OpensRoot, Settles, VisitsRoot, Profile, IsProfileOf}
+use Rattle.allocative.proofs.Common.{IsSum, MayRefuse, FailsOnlyIfFull, has_added, has_refused, RootFailsOnlyIfFull}
+use Rattle.allocative.proofs.Common.{ClosesEntry, all_bytes, HasRoomFor, CanTake}
 use Rattle.allocative.specs.SizeOf.{AnswersVisitOf}
 use Rattle.allocative.specs.RefusedVisits.{RefusesVisit, RefusesVisits}
 use Rattle.allocative.proofs.Visits.{err_or, same_err}
@@ -20,13 +20,11 @@ use Rattle.allocative_graph.specs.Collector.{go, entries_at, IsClosed, IsAtRoot,
 use Rattle.allocative_graph.specs.Owned.{direct}
 use Rattle.allocative_graph.specs.Visits.{added, Ends, IsProfile, IsSumOfTwo}
 use Rattle.allocative_graph.proofs.Plus.{plus-following, takes_both, visitors-leave, closed-visitors, closed-plus}
-use Rattle.allocative_graph.proofs.Plus.{figure_after-zero, figure_after-none}
-use Rattle.allocative_graph.proofs.Plus.{is_graph-plus, is_graph-leave, is_graph-begin}
+use Rattle.allocative_graph.proofs.Plus.{figure_after-zero, figure_after-none, is_graph-plus, is_graph-leave}
+use Rattle.allocative_graph.proofs.Plus.{is_graph-begin}
 use Rattle.allocative.proofs.Strict.{bytes_entered-plus, can_first, can_second, may_refuse, each_append, each_one}
 use Rattle.allocative.proofs.Strict.{declared_append}
-use Rattle.allocative_graph.proofs.Showings.{all_is_meaning, reaches_exactly}
-use Rattle.allocative_graph.proofs.Showings.{one_sums}
-use Rattle.allocative_graph.proofs.Showings.{whole_following, graphs_add}
+use Rattle.allocative_graph.proofs.Showings.{all_is_meaning, reaches_exactly, one_sums, whole_following, graphs_add}
 use Rattle.std.specs.List.{list_all}
 use Rattle.std.proofs.lemmas.Bool.{false≢true}
 use Rattle.std.proofs.lemmas.List.{take_more, drop_more}
@@ -173,15 +171,6 @@ room_begun (OfGraph c) f g h = subst (λ (n : ℕ). n + all_bytes g < 2 ^ 63)
     (bytes_entered-plus (go [] c) f ∙ sym (bytes_entered-plus c f)) h
 room_begun (OfSum s) f g h = h
 
--- If all roots can be taken, so can one of them after those before it.
-can_among : {T : Type 0} (p : T → Showing) (front : List T) (x : T) (back : List T) (b : Kind) (f : Forest) →
-    each_shows p front f → CanTake (begin b) (each_shows p (front ++ x ∷ back)) → CanTake (begin (plus b f)) (p x)
-can_among p front x back b f a w =
-    let both : CanTake (begin b) (Both (each_shows p front) (each_shows p (x ∷ back))) =
-    (declared_append p front (x ∷ back) w.0, λ g y. w.1 g (each_append p front (x ∷ back) g y)) in
-    let after = can_second (begin b) f a both in
-    can_first (begin (plus b f)) (after.0, λ g y. room_begun b f g (after.1 g y))
-
 -- A root that is refused may be refused as one of all roots. What is strict of all is strict of it.
 only_if_full_among : {T : Type 0} (w y : Bool) (p : T → Showing) (front : List T) (x : T) (back : List T)
     (s m t : State) (u : Unit) (e : Refusal) → (IsTrue w → IsTrue y) →
@@ -194,7 +183,12 @@ only_if_full_among w y p front x back (Going b) (Going c) t u e only (z, f, a, k
     let m : MayRefuse (p x) (begin (plus b f)) e = subst (λ (v : Kind). MayRefuse (p x) (begin v) e) i r.1 in
     let same : is_graph (begin b) ≡ is_graph (begin (plus b f)) =
     is_graph-begin b ∙ sym (is_graph-plus b f) ∙ sym (is_graph-begin (plus b f)) in
-    (r.0, may_refuse (begin (plus b f)) (begin b) (can_among p front x back b f a) same e m)
+    let can : CanTake (begin b) (each_shows p (front ++ x ∷ back)) → CanTake (begin (plus b f)) (p x) = λ w.
+    let both : CanTake (begin b) (Both (each_shows p front) (each_shows p (x ∷ back))) =
+    (declared_append p front (x ∷ back) w.0, λ g y. w.1 g (each_append p front (x ∷ back) g y)) in
+    let after = can_second (begin b) f a both in
+    can_first (begin (plus b f)) (after.0, λ g y. room_begun b f g (after.1 g y)) in
+    (r.0, may_refuse (begin (plus b f)) (begin b) can same e m)
 
 -- The list is the items before the one with this index, that item, and those after it.
 pub around_item : {T : Type 0} (xs : List T) (i : ℕ) (x : T) → i < length xs → x ≡ get_or xs i x →

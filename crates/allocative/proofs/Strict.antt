@@ -1,15 +1,14 @@
 -- How visits that refuse only if they must compose: one after another, inside an entry, and as a shared content.
-use Rattle.std.proofs.Common.{◌≡◌, ℕ, ◌+◌, ◌<◌, ◌^◌, Bool, true, false, ◌&&◌, IsTrue, List, [], ◌∷◌, ◌++◌}
-use Rattle.std.proofs.Common.{flat_map, Option, Some, None, inl, inr, Result, Ok, Err, refl, sym, ◌∙◌, ap, subst, arith}
+use Rattle.std.proofs.Common.{◌≡◌, ℕ, ◌+◌, ◌<◌, ◌^◌, Bool, true, false, ◌&&◌, IsTrue, List, [], ◌∷◌, ◌++◌, flat_map}
+use Rattle.std.proofs.Common.{Option, Some, None, inl, inr, Result, Ok, Err, refl, sym, ◌∙◌, ap, subst, arith}
 use Rattle.allocative.proofs.Common.{Restore, Refusal, Memory, TooLarge, Key, Identity, Forest, Empty, First, Again}
-use Rattle.allocative.proofs.Common.{followed_by, entry_of, add_all, Live, Kind, OfGraph, OfSum, State, Failed}
-use Rattle.allocative.proofs.Common.{Going, plus, enter, enter_first, Takes, is_graph, outer_of, leave}
-use Rattle.allocative.proofs.Common.{failed_with, Showing, Nothing, Both, InsideAs, Inside, sized, Field}
-use Rattle.allocative.proofs.Common.{Shared, each_shows, HasFailed, OpensEntry, stays_failed, is_refused}
-use Rattle.allocative.proofs.Common.{is_entered, OpensShared, stays_shared, is_refused_shared, enters_first}
-use Rattle.allocative.proofs.Common.{enters_again, all_bytes, HasRoomFor, ShowsContents, IsDeclared, CanTake, MayRefuse}
-use Rattle.allocative.proofs.Common.{FailsOnlyIfFull, has_added, has_refused, ClosesEntry, is_too_large_shared}
-use Rattle.allocative.proofs.Common.{counts}
+use Rattle.allocative.proofs.Common.{followed_by, entry_of, add_all, Live, Kind, OfGraph, OfSum, State, Failed, Going}
+use Rattle.allocative.proofs.Common.{plus, enter, enter_first, Takes, is_graph, outer_of, leave, failed_with, Showing}
+use Rattle.allocative.proofs.Common.{Nothing, Both, InsideAs, Inside, sized, Field, Shared, each_shows, HasFailed}
+use Rattle.allocative.proofs.Common.{OpensEntry, stays_failed, is_refused, is_entered, OpensShared, stays_shared}
+use Rattle.allocative.proofs.Common.{is_refused_shared, enters_first, enters_again, all_bytes, HasRoomFor}
+use Rattle.allocative.proofs.Common.{ShowsContents, IsDeclared, CanTake, MayRefuse, FailsOnlyIfFull, has_added}
+use Rattle.allocative.proofs.Common.{has_refused, ClosesEntry, is_too_large_shared, counts}
 use Rattle.std.proofs.lemmas.Bool.{false≢true, and_parts}
 use Rattle.std.proofs.lemmas.Grind.{flat_map-append}
 use Rattle.allocative_graph.specs.declared.refusal.Refusal.TheVariants.{Open}
@@ -164,12 +163,6 @@ pub can_second : {p q : Showing} (b : Kind) (f : Forest) → p f → CanTake b (
 can_second b f x (d, room) =
     (declared_second d, λ g y. (room_apart b f g (room (followed_by f g) (f, g, x, y, refl))).1)
 
--- A collector that can take an entry with p inside it can take p once the entry is opened.
-can_inside : {p : Showing} (u : Bool) (k : Key) (n : ℕ) (b : Kind) → CanTake b (InsideAs u k n p) →
-    CanTake (enter u k n b) p
-can_inside u k n b (d, room) =
-    (declared_inside u k n d, λ f x. (room_within u k n b f (room (entry_of u k n f) (f, x, refl))).1)
-
 -- A collector that can take an entry with p inside it has room for the entry.
 can_entry : {p : Showing} (u : Bool) (k : Key) (n : ℕ) (b : Kind) → CanTake b (InsideAs u k n p) → HasRoom u n b
 can_entry u k n b (d, room) =
@@ -259,7 +252,9 @@ only_if_full_within {u} {p} {k} {n} (is_entered {b = b} h f e) (has_added {c = c
     (cc (inside_entry u k n b g)))
 only_if_full_within {u} {p} {k} {n} (is_entered {b = b} h f e) (has_refused {e = r} m) l =
     let m' : MayRefuse p (enter u k n b) r = subst (λ (z : Kind). MayRefuse p z r) e m in
-    rw l.closes (has_refused (may_refuse (enter u k n b) b (can_inside u k n b) (sym (is_graph-enter u k n b)) r m'))
+    rw l.closes (has_refused (may_refuse (enter u k n b) b (λ w.
+    (declared_inside u k n w.0, λ f x. (room_within u k n b f (w.1 (entry_of u k n f) (f, x, refl))).1))
+    (sym (is_graph-enter u k n b)) r m'))
 
 -- If opening an entry is refused, the visit that shows the entry fails only if full.
 pub only_if_full_not_within : {u : Bool} {p : Showing} {k : Key} {n : ℕ} {s t : State} {e : Refusal} →

@@ -1,21 +1,19 @@
 -- How visits compose: one after another, and inside an entry.
-use Rattle.std.proofs.Common.{Bool, true, false, inl, inr, Option, ◌≡◌, ℕ, suc, [], Result, Ok, Err}
-use Rattle.std.proofs.Common.{refl, sym, ◌∙◌, IsErr, ap, subst, arith, Some, None}
-use Rattle.allocative.proofs.Common.{Restore, Refusal, Key, Identity, Forest, Empty, First, Again, followed_by, entry_of}
-use Rattle.allocative.proofs.Common.{Live, Kind, OfGraph, State, Failed, Going, enter, enter_first, plus, Takes}
-use Rattle.allocative.proofs.Common.{is_graph, visitors, outer_of, failed_with, close_entry, Showing, Nothing, Both}
-use Rattle.allocative.proofs.Common.{InsideAs, Inside, Unique, Field, sized, Shared, AddsForest}
-use Rattle.allocative.proofs.Common.{already, refused, hidden, forgotten, HasFailed, OpensEntry, stays_failed}
-use Rattle.allocative.proofs.Common.{is_refused, is_entered, OpensShared, stays_shared, is_refused_shared}
-use Rattle.allocative.proofs.Common.{enters_first, enters_again, RefusesEntry, ClosesEntry, OfSum}
-use Rattle.allocative.proofs.Common.{is_too_large_shared, counts}
+use Rattle.std.proofs.Common.{Bool, true, false, inl, inr, Option, ◌≡◌, ℕ, suc, [], Result, Ok, Err, refl, sym, ◌∙◌}
+use Rattle.std.proofs.Common.{IsErr, ap, subst, arith, Some, None}
+use Rattle.allocative.proofs.Common.{Restore, Refusal, Key, Identity, Forest, Empty, First, Again, followed_by}
+use Rattle.allocative.proofs.Common.{entry_of, Live, Kind, OfGraph, State, Failed, Going, enter, enter_first, plus}
+use Rattle.allocative.proofs.Common.{Takes, is_graph, visitors, outer_of, failed_with, close_entry, Showing, Nothing}
+use Rattle.allocative.proofs.Common.{Both, InsideAs, Inside, Unique, Field, sized, Shared, AddsForest, already, refused}
+use Rattle.allocative.proofs.Common.{hidden, forgotten, HasFailed, OpensEntry, stays_failed, is_refused, is_entered}
+use Rattle.allocative.proofs.Common.{OpensShared, stays_shared, is_refused_shared, enters_first, enters_again}
+use Rattle.allocative.proofs.Common.{RefusesEntry, ClosesEntry, OfSum, is_too_large_shared, counts}
 use Rattle.std.proofs.lemmas.Bool.{false≢true}
 use Rattle.std.specs.FinSet.{contains}
 use Rattle.allocative_graph.specs.Visits.{added}
 use Rattle.allocative_graph.proofs.Plus.{plus-nothing, plus-following, takes_nothing, takes_both, inside_entry}
-use Rattle.allocative_graph.proofs.Plus.{takes_entry, inside_first, takes_shared, counted_again}
-use Rattle.allocative_graph.proofs.Plus.{visitors-plus, visitors-enter, visitors-leave, is_graph-plus, is_graph-enter}
-use Rattle.allocative_graph.proofs.Plus.{is_graph-leave}
+use Rattle.allocative_graph.proofs.Plus.{takes_entry, inside_first, takes_shared, counted_again, visitors-plus}
+use Rattle.allocative_graph.proofs.Plus.{visitors-enter, visitors-leave, is_graph-plus, is_graph-enter, is_graph-leave}
 
 -- ---- one after another
 -- A visit that leaves the collector as it is and returns Ok shows no entry.

@@ -1,11 +1,10 @@
 -- What containers show inside their own entries: the bytes of some number of items, and buffers with unused room.
 use Rattle.std.specs.Prelude.{◌≡◌, ◌⊎◌, ℕ, ◌+◌, ◌-◌, ◌<◌, Bool, false, length, List, ◌++◌, Option, None, Some, codes}
-use Rattle.allocative_described.specs.Sizes.{size_product}
+use Rattle.allocative_described.specs.Sizes.{size_product, IsRawTableSize}
 use Rattle.allocative_graph.specs.Path.{Key}
 use Rattle.allocative_graph.specs.Forest.{Forest, Empty}
 use Rattle.allocative_graph.specs.Shows.{Showing, Nothing, Both, Inside, Unique, Field, is_shown_each, each_shows}
 use Rattle.allocative_graph.specs.Shows.{slice_shows}
-use Rattle.allocative_described.specs.Sizes.{IsRawTableSize}
 use Rattle.allocative.specs.Runs.{field_of}
 
 -- Whether the items of a declared size are shown one by one in a slice. They are not if they have no size.

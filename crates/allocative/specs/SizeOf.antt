@@ -3,8 +3,7 @@ use Rattle.std.specs.Prelude.{◌≡◌, ℕ, ◌+◌, ◌<◌, ◌≤◌, ◌^�
 use Rattle.allocative_graph.specs.declared.refusal.Refusal.{Refusal}
 use Rattle.allocative_graph.specs.declared.refusal.Refusal.TheVariants.{TooLarge}
 use Rattle.allocative_graph.specs.Forest.{Forest}
-use Rattle.allocative_graph.specs.Owned.{held, ShowsNoContent}
-use Rattle.allocative_graph.specs.Owned.{owned}
+use Rattle.allocative_graph.specs.Owned.{held, ShowsNoContent, owned}
 use Rattle.allocative_graph.specs.Collector.{Kind, State, Going, OfSum, begin, close_entry, outer_of, nothing_held}
 use Rattle.allocative_graph.specs.Collector.{nothing_owned}
 use Rattle.allocative_graph.specs.Shows.{Showing}
