@@ -38,10 +38,6 @@ pub record Counts (p : Showing) (t : Shape) : Type 0 where
   pub allowed : p one
   pub merged : Merged one (forest_of t)
 
--- A shape shows its own forest.
-shown_itself : (t : Shape) → shape_shows t (forest_of t)
-shown_itself t = is_shape refl
-
 -- A shape shows no other forest.
 shown_alone : {t : Shape} {h : Forest} → shape_shows t h → h ≡ forest_of t
 shown_alone (is_shape e) = e
@@ -49,7 +45,7 @@ shown_alone (is_shape e) = e
 -- A collector that can take p can take what was counted.
 can_take : {p : Showing} {t : Shape} (b : Kind) → Counts p t → CanTake b p → CanTake b (shape_shows t)
 can_take {t = t} b w (d, room) = (
-  (forest_of t, shown_itself t, plain_shows (forest_of t) w.merged.plain_merged),
+  (forest_of t, is_shape refl, plain_shows (forest_of t) w.merged.plain_merged),
   λ h x. subst (HasRoomFor b) (sym (shown_alone x)) (room_merged b w.one (forest_of t) w.merged (room w.one w.allowed)),
 )
 

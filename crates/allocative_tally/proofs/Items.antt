@@ -2,7 +2,7 @@
 use Rattle.std.proofs.Common.{◌≡◌, ◌≤◌, ◌<◌, ◌+◌, ◌-◌, ◌*◌, ◌^◌, mul-add, ℕ, Bool, true, false, codes, List, ◌++◌}
 use Rattle.std.proofs.Common.{length, length-append, Option, Some, None, refl, sym, ap, subst, ◌∙◌, arith, ◌∷◌, inl}
 use Rattle.std.proofs.Common.{le_refl, Result, mul-suc, [], map}
-use Rattle.allocative_tally.proofs.Weighing.{cannot_case, pair_heavy, pairs_load, text_as, each_in, slice_one_as}
+use Rattle.allocative_tally.proofs.Weighing.{pair_heavy, pairs_load, text_as, each_in, slice_one_as}
 use Rattle.allocative_tally.proofs.Weighing.{cut_as, buffer_as, inline_as, spilled_as, index_data_as, table_as}
 use Rattle.allocative_tally.proofs.Weighing.{item_cannot, small_vec_size}
 use Rattle.allocative_described.specs.Sizes.{checked, size_product, IsRawTableSize, size_sum}
@@ -19,7 +19,7 @@ use Rattle.allocative_tally.specs.Shapes.{least_weight}
 use Rattle.allocative_tally.specs.Tallies.{Tallies, TalliesNext, TalliesSlice, size_times, AddsPlaces, buffer_of}
 use Rattle.allocative_tally.specs.Tallies.{in_slices, TalliesMany, FitsWord, IsDeclared, IsWithin, both_bounds}
 use Rattle.allocative_tally.specs.Tallies.{TalliesFields, AddsItems, AreFields, CannotAdd, no_room_for_both}
-use Rattle.allocative_tally.specs.Tallies.{HoldsOfEveryRun, CannotTally, Exceeds}
+use Rattle.allocative_tally.specs.Tallies.{HoldsOfEveryRun, CannotTally}
 use Rattle.allocative_tally.specs.declared.places.Places.{Places}
 use Rattle.allocative_tally.proofs.Counting.{counted_field, counted_inline, counted_unique, counted_leaf, tallies_both}
 use Rattle.allocative_tally.proofs.Counting.{tallies_as, tallies_then, tallies_none, entry_direct, shape_direct}

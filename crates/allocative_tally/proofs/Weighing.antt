@@ -1,7 +1,7 @@
 -- What forests have to count, and what cannot be counted.
 use Rattle.std.proofs.Common.{◌≡◌, ◌≤◌, ◌+◌, ◌^◌, ℕ, Bool, false, List, ◌∷◌, ◌++◌, Option, Some, None, [], Result, Ok}
 use Rattle.std.proofs.Common.{Err, IsErr, MatchResult, refl, sym, ap, ◌∙◌, arith, ◌<◌, ◌-◌, ◌*◌, true, subst, length}
-use Rattle.std.proofs.Common.{length-append, map, min, max, mul-add, codes, append-nil, inl, inr, ◌⊎◌, ◌≢◌, nat_lt}
+use Rattle.std.proofs.Common.{length-append, map, min, max, mul-add, codes, append-nil, inl, inr, ◌≢◌, nat_lt}
 use Rattle.std.proofs.Common.{if◌then◌else◌, get_or, set, sum_by}
 use Rattle.allocative.proofs.Common.{Key, Forest, Empty, followed_by, Showing, Both, InsideAs, Inside, Field, sized}
 use Rattle.allocative.proofs.Common.{each_shows, entry_of, Nothing, slice_shows, buffer_shows, table_shows, with_room}
@@ -161,23 +161,18 @@ pub cannot_second : {p q : Showing} {s u : ℕ → Shape} → CannotTally q u �
 cannot_second a = record { next = λ n. exceeds_second (a.next n) }
 
 -- A field without a declared size cannot be counted.
+pub exceeds_missing : {size : Option ℕ} {k : Key} {p : Showing} {s : Shape} → size ≡ None → Exceeds (Field k size p) s
+exceeds_missing e = record { most = λ f x. omega (arith, field_least f x, ap least_weight e) }
+
+-- The same, whatever the number of values.
 pub cannot_missing : {size : Option ℕ} {k : Key} {p : Showing} {s : ℕ → Shape} → size ≡ None →
     CannotTally (Field k size p) s
-cannot_missing e = record { next = λ n. record { most = λ f x. no_size e f x } }
-  where
-    no_size : {size : Option ℕ} {k : Key} {p : Showing} {m : ℕ} → size ≡ None → (f : Forest) → Field k size p f → 2 ^
-        64 ≤ m
-    no_size e f (sized x) = absurd (cc)
+cannot_missing e = record { next = λ n. exceeds_missing e }
 
 -- A value that shows a field without a declared size cannot be counted.
-pub leaf_cannot : {size : Option ℕ} {k : Key} {p q : Showing} {s : ℕ → Shape} → ShownAs (Field k size q) p → size ≡
-    None →
-    CannotTally p s
-leaf_cannot a e = let missing = cannot_missing e in record { next = λ n. exceeds_as a (missing.next n) }
-
--- A field without a declared size cannot be counted.
-pub exceeds_missing : {size : Option ℕ} {k : Key} {p : Showing} {s : Shape} → size ≡ None → Exceeds (Field k size p) s
-exceeds_missing {s = s} e = let missing = cannot_missing {s = λ n. s} e in missing.next 0
+pub leaf_cannot : {size : Option ℕ} {k : Key} {p q : Showing} {s : ℕ → Shape} → ShownAs (Field k size q) p →
+    size ≡ None → CannotTally p s
+leaf_cannot a e = record { next = λ n. exceeds_as a (exceeds_missing e) }
 
 -- More fields than a word counts cannot be counted.
 pub exceeds_full : {size : Option ℕ} {x : Width} {k : Key} {sum : Sum} {p : Showing} {s : Shape} →
@@ -613,24 +608,13 @@ pub table_cannot : {n l : ℕ} {s : Shape} → n ≡ l → Exceeds (table_shows 
 table_cannot {s = s} e a = subst (λ (i : ℕ). Exceeds (table_shows i) s) e a
 
 -- The hash table of some items has no size that fits a word.
-pub table_missing : {n : ℕ} {bytes : Option ℕ} {s : Shape} → 0 < n → IsRawTableSize (Some 8) n bytes → bytes ≡ None →
-    Exceeds (table_shows n) s
-table_missing some is e = exceeds_as (table_as some is) (record { most = λ f x. no_field e x.0 x.1 })
-  where
-    no_field : {bytes : Option ℕ} {k : Key} {p : Showing} {m : ℕ} → bytes ≡ None → (f : Forest) → Field k bytes p f →
-        2 ^ 64 ≤ m
-    no_field e f (sized x) = absurd (cc)
+pub table_missing : {n a c : ℕ} {bytes : Option ℕ} → 0 < n → IsRawTableSize (Some 8) n bytes →
+    bytes ≡ None → Exceeds (table_shows n) (table_shape a c)
+table_missing some is e = exceeds_as (table_as some is) (exceeds_inside true 8 (exceeds_missing e))
 
 -- The buckets of all hash tables exceed a word.
 pub buckets_full : {n a c b : ℕ} {bytes : Option ℕ} → 0 < n → IsRawTableSize (Some 8) n bytes → bytes ≡ Some b →
     2 ^ 64 ≤ c + b → Exceeds (table_shows n) (table_shape a c)
-buckets_full {a = a} {c} {b} some is e over = exceeds_as (table_as some is) (exceeds_inside true 8
-    (record { most = λ f x. heavy (a + c + 0) e f x (omega arith) }))
-  where
-    heavy : {bytes : Option ℕ} {k : Key} (m : ℕ) → bytes ≡ Some b → (f : Forest) → Field k bytes Nothing f → c ≤ m → 2
-        ^ 64 ≤ m + weight f
-    heavy {bytes = Some y} m e f x i = let same : y ≡ b = cc in omega (arith, over, field_least f x, same)
-    heavy {bytes = None} m e f x i = absurd (cc)
-
--- The lemmas for what cannot be counted.
-pub ruleset failing = (cannot_field, cannot_first, cannot_second, cannot_missing)
+buckets_full some is e over = exceeds_as (table_as some is) (exceeds_inside true 8 (record {
+  most = λ f x. omega (arith, over, field_least f x, ap least_weight e);
+}))

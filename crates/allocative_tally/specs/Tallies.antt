@@ -1,5 +1,5 @@
 -- What counting a value does to what was counted before.
-use Rattle.std.specs.Prelude.{◌≡◌, ◌≤◌, ◌<◌, ◌+◌, ◌-◌, ◌*◌, ◌^◌, ℕ, Bool, true, false, List, length, Option, None}
+use Rattle.std.specs.Prelude.{◌≡◌, ◌≤◌, ◌<◌, ◌+◌, ◌*◌, ◌^◌, ℕ, Bool, true, false, List, length, Option, None}
 use Rattle.std.specs.Prelude.{Some, Result, ⊤, codes}
 use Rattle.std.specs.Option.{ForSome}
 use Rattle.std.specs.Iterator.{AlwaysYields}

@@ -1,5 +1,5 @@
 -- of the tally of `BTreeSet`: its entry, and inside it that of its keys
-use Rattle.std.proofs.Common.{arith, codes, refl, rules}
+use Rattle.std.proofs.Common.{arith, codes, rules}
 use Rattle.std.proofs.lemmas.Iterator.Consumers.{YieldsList-from_rest}
 use Rattle.std.proofs.lemmas.Result.{MatchResult-weaker}
 use Rattle.allocative_tally.proofs.Weighing.{cannot_case}

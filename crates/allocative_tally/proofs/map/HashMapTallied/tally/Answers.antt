@@ -1,5 +1,5 @@
 -- of the tally of `HashMap`: its entry, and inside it that of its pairs
-use Rattle.std.proofs.Common.{arith, codes, false, refl, rules}
+use Rattle.std.proofs.Common.{arith, codes, false, rules}
 use Rattle.std.proofs.lemmas.Iterator.Consumers.{YieldsList-from_rest}
 use Rattle.std.proofs.lemmas.Result.{MatchResult-weaker}
 use Rattle.allocative_tally.proofs.Counting.{tallies_as}

@@ -1,5 +1,5 @@
 -- of the tally of `Slab`: its entry, and inside it its buffer
-use Rattle.std.proofs.Common.{◌≡◌, ℕ, ◌∙◌, arith, false, refl, rules, sym}
+use Rattle.std.proofs.Common.{◌≡◌, ℕ, ◌∙◌, arith, false, rules, sym}
 use denote.Ref.{Bor}
 use Rattle.std.specs.Map.Iter.{deref}
 use Rattle.std.proofs.lemmas.Iterator.{YieldsList-from_map_by}
