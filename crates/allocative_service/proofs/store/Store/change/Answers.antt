@@ -28,8 +28,10 @@ total g c =
     }
 
 -- The tenant's shelf is replaced by the one after the change.
-replaced : (g : Over) (c : After-max-self-inside g) (P : Shelved g.row.K.Denot g.row.V.Denot → Shelved g.row.K.Denot g.row.V.Denot → Type 0)
-    → P c.in-Some.shelf.now c.change-changed.new.self → Replaces c.args.tenant.now P (stored c.self.inside.shelves.entries c.self.inside.limit c.self.inside.overgrown c.self.inside.measure)
+replaced : (g : Over) (c : After-max-self-inside g)
+    (P : Shelved g.row.K.Denot g.row.V.Denot → Shelved g.row.K.Denot g.row.V.Denot → Type 0) →
+    P c.in-Some.shelf.now c.change-changed.new.self → Replaces c.args.tenant.now P
+    (stored c.self.inside.shelves.entries c.self.inside.limit c.self.inside.overgrown c.self.inside.measure)
     (stored (c.get_mut.follows.lender c.change-changed.new.self).entries c.self.inside.limit c.max-self-inside.result
     c.self.inside.measure)
 replaced g c P changes =
