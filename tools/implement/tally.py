@@ -24,6 +24,12 @@ MANY = set("Vec VecDeque BTreeMap BTreeSet HashMap HashSet IndexMap IndexSet".sp
 HOMES = {"field": {"CountedField", "FieldMany", "OwnTally", "count_own"}}
 HOMES["tally"] = {"CountError", "Entries", "InlineSum", "Sum", "Tallied", "added", "declared"}
 SHAPES = {"Beside", "NoEntry", "entries"}
+# What a field adds to the weight of a tally, by the name of its type and those of its parts: a number 1, a map 6, a set or
+# what other crates have for many items 10, any other 3. The checker's borrow checker covers what shows a tally with 102, and
+# stops with 104.
+WEIGHTS = dict.fromkeys(NUMBERS, 1) | dict.fromkeys(("BTreeMap", "HashMap"), 6)
+WEIGHTS |= dict.fromkeys(("BTreeSet", "HashSet", "IndexMap", "IndexSet", "Slab", "SmallVec"), 10)
+LARGEST_TALLY = 96
 NAMED_LENGTH = re.compile(r"; *[A-Za-z_]")
 HUMP = re.compile(r"(?<=[a-z0-9])(?=[A-Z])")
 # Gives the goal and the proof at a step that fails, from a proof of why, in which `{}` is what the step ensures.
@@ -70,6 +76,12 @@ def reason(scope: Scope, kind: Type, parameters: tuple[str, ...]) -> str:
     return next(filter(None, whys), "") if has_tally else f"`{kind.text}` has none"
 
 
+def weight(scope: Scope, kind: Type) -> int:
+    """What a field of a type adds to the weight of a tally."""
+    kind = scope.real(kind)
+    return WEIGHTS.get(kind.name, 3) + sum(weight(scope, part) for part in kind.parts if part.form != "constant")
+
+
 def reason_of(source: Source, definition: Definition) -> str:
     """Why a type that is written gets no tally, or nothing."""
     types = definition.names("type")
@@ -77,8 +89,10 @@ def reason_of(source: Source, definition: Definition) -> str:
     whys += ["it has a lifetime"] if definition.names("lifetime") else []
     whys += [f"the field {each.name} is not shown whole" for each in definition.shown if each.foreign]
     whys += filter(None, (reason(source.scope, each.type, types) for each in definition.shown if each.is_whole))
-    if definition.is_enum and types and any(each.is_entry for each in definition.variants):
-        whys.append("it has parameters, and a variant of several fields")
+    entries = sum(each.is_entry for each in definition.variants) if definition.is_enum else 0
+    whys += ["it has parameters, and a variant of several fields"] if entries and types else []
+    weights = (weight(source.scope, each.type) if each.is_whole else 2 for each in definition.shown)
+    whys += ["it has too many fields for the checker"] if 2 * entries + sum(weights) > LARGEST_TALLY else []
     return whys[0] if whys else ""
 
 

@@ -530,6 +530,7 @@ class CommandTest(unittest.TestCase):
             ("struct A {\n    a: PathBuf,\n}", "the field a is not shown whole"),
             ("struct A(Vec<IdRc<u64>>);", "`IdRc<u64>` has none"),
             ("enum A<T> {\n    B(u64, T),\n    C,\n}", "it has parameters, and a variant of several fields"),
+            ("struct A {" + "".join(f"\n    a{at}: String," for at in range(33)) + "\n}", "it has too many fields for the checker"),
         ):
             uses = "use allocative::IdRc;\nuse std::marker::PhantomData;\nuse std::path::PathBuf;\n"
             text = f"{uses}#[derive(Drop)]\n{text}\n"
