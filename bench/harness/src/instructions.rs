@@ -1,4 +1,4 @@
-//! How many instructions the steps of workloads take, by callgrind, which counts anew at each mark.
+//! How many instructions the steps of workloads take, by callgrind, which counts anew where a step begins.
 use std::path::Path;
 use std::process::{Command, Stdio, id};
 use std::{env, fs};
@@ -20,8 +20,7 @@ pub fn print_table(all: impl Iterator<Item = Counted>, only: Option<&str>) {
         }
         fs::create_dir(&folder).unwrap();
         run(&counted.name, &folder);
-        // The first count is of what comes before the first step.
-        for (step, at) in counted.steps.iter().zip(2..) {
+        for (step, at) in counted.steps.iter().zip(1..) {
             let each = total(&folder.join(format!("out.{at}"))) / counted.calls;
             println!("| {} | {step} | {each} |", counted.name);
         }
@@ -29,10 +28,14 @@ pub fn print_table(all: impl Iterator<Item = Counted>, only: Option<&str>) {
     }
 }
 
-/// Runs this program on a workload in callgrind, which writes a file for each mark.
+/// Runs this program on a workload in callgrind, which writes a file at each step's end.
 fn run(name: &str, folder: &Path) {
     let ended = Command::new("valgrind")
-        .args(["--tool=callgrind", "--dump-before=bench_mark"])
+        .args([
+            "--tool=callgrind",
+            "--zero-before=bench_step_begins",
+            "--dump-before=bench_step_ends",
+        ])
         .arg(format!("--callgrind-out-file={}/out", folder.display()))
         .arg(env::current_exe().unwrap())
         .arg(name)

@@ -1,5 +1,6 @@
 //! How much processor time the steps of a workload took.
 use crate::{resident, stack};
+use std::hint::black_box;
 use std::sync::Mutex;
 use std::time::Duration;
 
@@ -36,6 +37,11 @@ fn time_run() -> Duration {
 #[unsafe(no_mangle)]
 pub extern "C" fn bench_mark(step: u32) {
     let now = time_run();
+    if step == 0 {
+        bench_step_begins();
+    } else {
+        bench_step_ends();
+    }
     stack::mark(step);
     resident::mark(step);
     let (begun, least) = &mut *CLOCK.lock().unwrap();
@@ -47,6 +53,20 @@ pub extern "C" fn bench_mark(step: u32) {
         least[at] = least[at].min(now - begun);
     }
     *begun = Some(time_run());
+}
+
+/// Where callgrind counts anew.
+#[unsafe(no_mangle)]
+#[inline(never)]
+extern "C" fn bench_step_begins() {
+    black_box(0);
+}
+
+/// Where callgrind writes what it counted, and counts anew.
+#[unsafe(no_mangle)]
+#[inline(never)]
+extern "C" fn bench_step_ends() {
+    black_box(1);
 }
 
 /// The least time of each step since the last call.
