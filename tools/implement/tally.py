@@ -24,9 +24,9 @@ MANY = set("Vec VecDeque BTreeMap BTreeSet HashMap HashSet IndexMap IndexSet".sp
 HOMES = {"field": {"CountedField", "FieldMany", "OwnTally", "count_own"}}
 HOMES["tally"] = {"CountError", "Entries", "InlineSum", "Sum", "Tallied", "added", "declared"}
 SHAPES = {"Beside", "NoEntry", "entries"}
-# What a field adds to the weight of a tally, by the name of its type and those of its parts: a number 1, a map 6, a set or
-# what other crates have for many items 10, any other 3. The checker's borrow checker covers what shows 32 texts, of the weight
-# 96, and stops with 36. It covers all others of that weight that were tried.
+# What a field adds to the weight of a tally, by the name of its type and those of its parts: a number 1, a map 6, a set
+# or what other crates have for many items 10, any other 3. The checker's borrow checker covers what shows 32 texts, of
+# the weight 96, and stops with 36. It covers all others of that weight that were tried.
 WEIGHTS = dict.fromkeys(NUMBERS, 1) | dict.fromkeys(("BTreeMap", "HashMap"), 6)
 WEIGHTS |= dict.fromkeys(("BTreeSet", "HashSet", "IndexMap", "IndexSet", "Slab", "SmallVec"), 10)
 LARGEST_TALLY = 96
