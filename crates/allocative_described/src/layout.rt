@@ -1,4 +1,4 @@
-//! The declared size of a struct or an enum, which follows from the types of its fields.
+//! Layouts: that of a struct or an enum, which follows from the types of its fields, and those given by numbers.
 
 ghost use Rattle.std.specs.Prelude.{◌≡◌, ℕ, ◌≤◌, Option, Some, Bool, false, ◌||◌, max, codes};
 ghost use Rattle.allocative_described.specs.Sizes.{size_sum, size_max, size_up};
@@ -154,5 +154,36 @@ impl<F: Fields> Described for Record<F> {
 
     fn size() -> Option<usize> {
         size_up(F::sum(), F::align())
+    }
+}
+
+/// A size and an alignment in bytes, and whether there is something to drop. No value has this type; what shows entries
+/// of a size that is written names it. An alignment of 0 is that of 1 byte.
+pub struct Fixed<const SIZE: usize, const ALIGN: usize, const DROP: bool>();
+
+impl<const SIZE: usize, const ALIGN: usize, const DROP: bool> Described
+    for Fixed<SIZE, ALIGN, DROP> {
+    ghost name = { codes "Fixed" };
+
+    ghost align = { max 1 ALIGN };
+
+    ghost needs_drop = { DROP };
+
+    ghost size = { Some SIZE };
+
+    fn name() -> &'static str {
+        "Fixed"
+    }
+
+    fn align() -> usize {
+        ALIGN.max(1)
+    }
+
+    fn needs_drop() -> bool {
+        DROP
+    }
+
+    fn size() -> Option<usize> {
+        Some(SIZE)
     }
 }

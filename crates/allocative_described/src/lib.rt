@@ -13,5 +13,5 @@ mod raw_table;
 mod std_types;
 
 pub use described::{Described, shared_inner_size, up_law};
-pub use layout::{And, Fields, Or, Record};
+pub use layout::{And, Fields, Fixed, Or, Record};
 pub use raw_table::{raw_table_alloc_size_for_len, raw_table_law};

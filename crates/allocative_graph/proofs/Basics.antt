@@ -1,12 +1,12 @@
 -- Small facts about tests, lists, orders and identities, and the entries of a map.
-use Rattle.std.proofs.Common.{◌≡◌, Bool, true, false, IsTrue, List, [], ◌∷◌, ◌++◌, map, refl, ◌∙◌}
-use Rattle.std.proofs.Common.{Ordering, Equal, ◌↔◌, ap, sym, subst, true≢false, append-nil, Less, Greater, T}
+use Rattle.std.proofs.Common.{◌≡◌, Bool, true, false, IsTrue, List, [], ◌∷◌, ◌++◌, map, refl, ◌∙◌, Ordering, Equal, ◌↔◌}
+use Rattle.std.proofs.Common.{ap, sym, subst, true≢false, append-nil, Less, Greater, T}
 use Rattle.allocative_graph.proofs.Common.{AllByRecursion, is_eq, nat_list_cmp_total, IsAntisymmetric}
 use Rattle.allocative_graph.proofs.Common.{nat_cmp-IsAntisymmetric, slice_cmp-IsAntisymmetric, Path, path_cmp}
-use Rattle.allocative_graph.proofs.Common.{is_same_path, Identity, identity_cmp, is_same_identity}
-use Rattle.allocative_graph.proofs.Common.{is_lt, ordering_then, slice_cmp, Key, key_cmp, entries, from_entries}
-use Rattle.allocative_graph.proofs.Common.{get-from_sorted, get-from_entries, entries-from_sorted, same_map}
-use Rattle.allocative_graph.proofs.Common.{is_sorted, IsTotalOrder, Equal-is, tied_itself, nat_cmp, eq_by_cmp_equiv}
+use Rattle.allocative_graph.proofs.Common.{is_same_path, Identity, identity_cmp, is_same_identity, is_lt, ordering_then}
+use Rattle.allocative_graph.proofs.Common.{slice_cmp, Key, key_cmp, entries, from_entries, get-from_sorted}
+use Rattle.allocative_graph.proofs.Common.{get-from_entries, entries-from_sorted, same_map, is_sorted, IsTotalOrder}
+use Rattle.allocative_graph.proofs.Common.{Equal-is, tied_itself, nat_cmp, eq_by_cmp_equiv}
 use Rattle.std.proofs.lemmas.List.Elements.{All-append, All-from_recursion, All-weaker, recursion_from_All}
 use Rattle.std.proofs.lemmas.Map.Lookups.{exact_pairs}
 use Rattle.std.specs.Cmp.Lexicographic.{lists_total}

@@ -10,10 +10,9 @@ use Rattle.allocative_graph.proofs.Common.{key_cmp, Less, default, size_under, A
 use Rattle.allocative_graph.proofs.Common.{All-from_recursion, Equal, Greater, ordering_reverse, nat_list_cmp_total}
 use Rattle.allocative_graph.proofs.Common.{IsTree, AreChildren, InOrder, length-map, keys_of, is_lt, IsFound}
 use Rattle.allocative_graph.proofs.Common.{IsChildGap, from_entries, same_entries_map, get-from_sorted, get-entries}
-use Rattle.allocative_graph.proofs.Common.{find, under, under_rows, node, path_cmp, node_sorted, entries-node}
-use Rattle.allocative_graph.proofs.Common.{entries-insert, entries-from_sorted, put, insert, len, len-child, Graph}
-use Rattle.allocative_graph.proofs.Common.{Added, Merged, sum_by-append, All, Equal-is, tied_then, exact_bytes}
-use Rattle.allocative_graph.proofs.Common.{MergesFirst}
+use Rattle.allocative_graph.proofs.Common.{find, under, under_rows, node, path_cmp, entries-node, entries-insert}
+use Rattle.allocative_graph.proofs.Common.{entries-from_sorted, put, insert, len, len-child, Graph, Added, Merged}
+use Rattle.allocative_graph.proofs.Common.{sum_by-append, All, Equal-is, tied_then, exact_bytes, MergesFirst}
 use Rattle.std.specs.List.Sorted.{IsStrictlySortedBy, IsSearchInRange, IsBinarySearchResult, IsNonDecreasingBy}
 use Rattle.std.specs.List.Sorted.{IsSortedBy}
 use Rattle.std.proofs.lemmas.List.Sums.{sum_by-set, sum_by-insert, get_or-le-sum_by}
@@ -29,6 +28,7 @@ use Rattle.std.specs.Ordering.{ordering_index}
 use Rattle.std.specs.Option.{option_or, option_to_list}
 use Rattle.std.specs.Result.{result_and}
 use Rattle.allocative_graph.specs.Representation.Children.{front_order}
+use Rattle.allocative_graph.specs.Representation.NodeRows.{node_sorted}
 
 -- ---- totals and rows
 -- One more child in front adds the total of its graph.
@@ -404,6 +404,14 @@ is_ok-and (Err e) s = refl
 pub front_is : {X : Type 0} {o : Option X} {x : X} {xs rest : List X} → xs ≡ option_to_list o ++ rest → o ≡ Some x →
     xs ≡ x ∷ rest
 front_is {rest = rest} e h = e ∙ ap (λ p. option_to_list p ++ rest) h
+
+-- Which lists have a child, by which of them has the next one.
+pub front_there : (cs ds : List Child) (o : Ordering) → front_order cs ds ≡ Some o →
+    ((o ≡ Greater → ⊥) → 0 < length cs) × ((o ≡ Less → ⊥) → 0 < length ds)
+front_there [] [] o e = absurd (cc)
+front_there [] (d ∷ ds) o e = (λ other. absurd (other (cc)), λ _. omega arith)
+front_there (c ∷ cs) [] o e = (λ _. omega arith, λ other. absurd (other (cc)))
+front_there (c ∷ cs) (d ∷ ds) o e = (λ _. omega arith, λ _. omega arith)
 
 -- A child that was taken off the front has at most the bytes and the rows of all.
 module _ {cs : List Child} {o : Option Child} {c : Child} (rest : List Child) (e : cs ≡ option_to_list o ++ rest)

@@ -5,8 +5,7 @@ pub use Rattle.std.proofs.lemmas.Iterator.Splits.{YieldsList-from_str_split}
 pub use Rattle.std.proofs.lemmas.List.{length-map, map-append, map_push, nil_from_length, take_more}
 pub use Rattle.std.proofs.lemmas.List.Elements.{All-from_recursion}
 pub use Rattle.std.proofs.lemmas.List.Folds.{fold-map, list_any-append}
-pub use Rattle.std.proofs.lemmas.List.Sorted.{IsPermutation-refl, IsPermutation-sym, list_any-IsPermutation}
-pub use Rattle.std.proofs.lemmas.List.Sorted.{sum_by-IsPermutation}
+pub use Rattle.std.proofs.lemmas.List.Sorted.{list_any-IsPermutation, sum_by-IsPermutation}
 pub use Rattle.std.proofs.lemmas.List.Sums.{sum_by-cons, fold-append, sum_by-append, sum_by_push}
 pub use lib.Chars.{codes}
 pub use Rattle.std.specs.Cmp.{tied_itself, Equal-is, IsTotalOrder, tied_then}
@@ -35,17 +34,14 @@ pub use Rattle.allocative_graph.specs.Graph.{text_of_entries, total, total_at, u
 pub use Rattle.allocative_graph.specs.Identity.{Identities, Identity, identity_cmp, is_same_identity}
 pub use Rattle.allocative_graph.specs.Rows.{sum_of_all, total_of, AreChildren, Figures, figures_behind, keys_of, node}
 pub use Rattle.allocative_graph.specs.Rows.{rows_of, rows_of_child, under_rows, row_figures}
-pub use Rattle.allocative_graph.specs.Meaning.{IsMeaning, IsWhole, Reached, content_of, has_mark, inside, is_among}
-pub use Rattle.allocative_graph.specs.Meaning.{is_mark_of, marked}
 pub use Rattle.allocative_graph.specs.Path.{Key, Path, is_one_below, is_same_path, key_cmp, path_cmp}
 pub use Rattle.allocative_graph.specs.Read.{AreStacks, IsCut, IsRead, SaysStacks, Stack, all_bytes, bytes_at}
 pub use Rattle.allocative_graph.specs.Read.{is_path_of, line_stack}
 pub use Rattle.allocative_graph.specs.Representation.Children.{AddsUp, AddsUpInPart, AllAbove, InOrder, IsChildGap}
 pub use Rattle.allocative_graph.specs.Representation.Children.{IsFound, size_under, Added, Merged, child_of_path}
-pub use Rattle.allocative_graph.specs.Representation.Children.{IsNode, IsSumByPath, joined_on, line_from, lines_from}
-pub use Rattle.allocative_graph.specs.Representation.Children.{graph_of_path, one_stack, sum_of_stacks, MergesFirst}
-pub use Rattle.allocative_graph.specs.Representation.NodeRows.{both, entries-node, first, len-child, node_sorted}
-pub use Rattle.allocative_graph.specs.Representation.NodeRows.{second}
+pub use Rattle.allocative_graph.specs.Representation.Children.{IsNode, IsSumByPath, line_after, graph_of_path}
+pub use Rattle.allocative_graph.specs.Representation.Children.{one_stack, sum_of_stacks, MergesFirst}
+pub use Rattle.allocative_graph.specs.Representation.NodeRows.{both, entries-node, first, len-child, second}
 pub use Rattle.allocative_graph.specs.Sums.{Node, Sums, add, add_all, below, bytes_in, is_entered_in, is_unique_in}
 pub use Rattle.allocative_graph.specs.Sums.{node_of, sums_of, together}
 pub use Rattle.allocative_graph.specs.declared.flamegraph.Child.{Child}

@@ -5,20 +5,19 @@ use Rattle.std.proofs.Common.{sym, ◌∙◌, sum_by, arith, IsPermutation, ◌�
 use Rattle.std.proofs.Common.{is_some, subst, true≢false, inl, inr}
 use Rattle.allocative_graph.proofs.Common.{option_map, entries, from_entries, get, get-from_entries, same_map, Identity}
 use Rattle.allocative_graph.proofs.Common.{identity_cmp, is_same_identity, Forest, Bag, Entry, own, content_entries}
-use Rattle.allocative_graph.proofs.Common.{all, content_identities, is_mark_of, is_among, Reached, marked, inside}
-use Rattle.allocative_graph.proofs.Common.{content_of, IsWhole, sums_of, sum_by-cons, sum_by-IsPermutation}
-use Rattle.allocative_graph.proofs.Common.{IsPermutation-sym, list_any-IsPermutation, All-from_recursion, IsMeaning}
-use Rattle.allocative_graph.proofs.Common.{IsPermutation-refl, AllByRecursion, Sums, add, add_all, contains, Path}
-use Rattle.allocative_graph.proofs.Common.{Identities, Empty, Inline, Unique, First, Again, own_behind, contents}
-use Rattle.allocative_graph.proofs.Common.{followed_by, insert_all, met_after, Fits, entries_at, flat_map-append, keys}
-use Rattle.allocative_graph.proofs.Common.{get-entries, find, Key, path_cmp, is_same_path, below, Graph, graph, sizes}
-use Rattle.allocative_graph.proofs.Common.{remaining, size_at, sum_of, CanBeAdded, list_any-append, sum_by-append}
-use Rattle.allocative_graph.proofs.Common.{fold-append, ⊤, contains-insert, contains-empty, has_mark, list_any}
+use Rattle.allocative_graph.proofs.Common.{all, content_identities, sums_of, sum_by-cons, sum_by-IsPermutation}
+use Rattle.allocative_graph.proofs.Common.{list_any-IsPermutation, All-from_recursion, AllByRecursion, Sums, add}
+use Rattle.allocative_graph.proofs.Common.{add_all, contains, Path, Identities, Empty, Inline, Unique, First, Again}
+use Rattle.allocative_graph.proofs.Common.{own_behind, contents, followed_by, insert_all, met_after, Fits, entries_at}
+use Rattle.allocative_graph.proofs.Common.{flat_map-append, keys, get-entries, find, Key, path_cmp, is_same_path, below}
+use Rattle.allocative_graph.proofs.Common.{Graph, graph, sizes, remaining, size_at, sum_of, CanBeAdded, list_any-append}
+use Rattle.allocative_graph.proofs.Common.{sum_by-append, fold-append, ⊤, contains-insert, contains-empty, list_any}
 use Rattle.allocative_graph.proofs.Common.{map-append, eq_by_cmp_equiv}
 use Rattle.std.specs.List.{IsDistinct, Contains}
 use Rattle.std.specs.FinMap.{FinMap, empty, contains_key-keys}
 use Rattle.std.proofs.lemmas.List.Folds.{list_any_none}
-use Rattle.allocative_graph.specs.Meaning.{Agree, ReachApart, ReachesExactly}
+use Rattle.allocative_graph.specs.Meaning.{Agree, ReachApart, ReachesExactly, IsMeaning, IsWhole, Reached, content_of}
+use Rattle.allocative_graph.specs.Meaning.{has_mark, inside, is_among, is_mark_of, marked}
 use Rattle.allocative_graph.proofs.Basics.{both_ways, identity_total, identity_antisymmetric, or_left, each-parts}
 use Rattle.allocative_graph.proofs.Basics.{path_total, path_antisymmetric, same_path, false_from_ne_true, or_cases}
 use Rattle.allocative_graph.proofs.Basics.{or_right, or_parts, or-false, each-implies, same_identity}
@@ -27,10 +26,11 @@ use Rattle.allocative_graph.proofs.Sums.{find-keys, weights-insert, SameSums, ad
 use Rattle.allocative_graph.proofs.Sums.{below-add_all, below-sums_of, absent_below}
 use Rattle.allocative_graph.proofs.Computed.{no_entries}
 use Rattle.std.specs.FinSet.{insert}
-use Rattle.std.specs.FinSet as set
 use Rattle.std.specs.Map.{lookup}
 use Rattle.std.proofs.lemmas.List.Elements.{All-contains_itself, All-weaker, recursion_from_All}
 use Rattle.std.proofs.lemmas.Map.Views.{lookup-from_Contains}
+use Rattle.std.proofs.lemmas.List.Sorted.{IsPermutation-refl, IsPermutation-sym}
+use Rattle.std.specs.FinSet as set
 
 abbrev pub Contents : Type 0
 Contents = List (Identity × Bag)

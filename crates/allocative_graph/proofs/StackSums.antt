@@ -5,7 +5,7 @@ use Rattle.allocative_graph.proofs.Common.{list_any, IsPermutation, is_eq, get, 
 use Rattle.allocative_graph.proofs.Common.{Path, key_cmp, path_cmp, is_same_path, Graph, size_at, total, begins}
 use Rattle.allocative_graph.proofs.Common.{is_root, default, sum_of, SaysStacks, IsRead, Stack, bytes_at, is_path_of}
 use Rattle.allocative_graph.proofs.Common.{all_bytes, graph_of_path, one_stack, sum_of_stacks, map_push, fold-map}
-use Rattle.allocative_graph.proofs.Common.{sum_by-IsPermutation, fold-append, sum_by_push, tied_then}
+use Rattle.allocative_graph.proofs.Common.{sum_by-IsPermutation, fold-append, tied_then}
 use Rattle.std.proofs.lemmas.List.Sums.{sum_by_more_le}
 use Rattle.std.proofs.lemmas.List.Sorted.{IsPermutation-map}
 use Rattle.allocative_graph.specs.Read.{line_stack, IsGraphOfStacks, Exceeds}

@@ -8,10 +8,10 @@ use Rattle.allocative_graph.proofs.Common.{Sums, bytes_in, is_unique_in, is_ente
 use Rattle.allocative_graph.proofs.Common.{sums_of, sum_by-cons, list_any, option_map, eq_by_cmp, is_eq, is_lt}
 use Rattle.allocative_graph.proofs.Common.{IsAntisymmetric, get-entries, insert, entries-insert, entries}
 use Rattle.allocative_graph.proofs.Common.{entries_sorted, put, find, is_sorted, below_all, is_one_below, below, both}
-use Rattle.allocative_graph.proofs.Common.{first, second, AllByRecursion, list_any-append, tied_then}
-use Rattle.allocative_graph.proofs.Common.{Key, key_cmp, Identity, Forest, Empty, Inline}
-use Rattle.allocative_graph.proofs.Common.{Unique, First, Again, AsInline, AsUnique, AsShared, own, own_behind}
-use Rattle.allocative_graph.proofs.Common.{contents, content_entries, all, IsTotalOrder, Mark}
+use Rattle.allocative_graph.proofs.Common.{first, second, AllByRecursion, list_any-append, tied_then, Key, key_cmp}
+use Rattle.allocative_graph.proofs.Common.{Identity, Forest, Empty, Inline, Unique, First, Again, AsInline, AsUnique}
+use Rattle.allocative_graph.proofs.Common.{AsShared, own, own_behind, contents, content_entries, all, IsTotalOrder}
+use Rattle.allocative_graph.proofs.Common.{Mark}
 use Rattle.std.proofs.lemmas.Bool.Decides.{nat_tests}
 use Rattle.std.specs.FinMap.{empty, get-empty, FinMap}
 use Rattle.allocative_graph.specs.Sums.{is_unique_mark, bytes_entered}

@@ -3,11 +3,11 @@
 use Rattle.std.proofs.Common.{◌≡◌, ◌≢◌, ℕ, zero, suc, ◌^◌, ◌<◌, ◌≤◌, ◌/◌, ◌%◌, ◌==◌, Bool, false, cond, not, ◌||◌, T}
 use Rattle.std.proofs.Common.{IsTrue, List, [], ◌∷◌, ◌++◌, map, flat_map, filter, refl, ap, sym, ◌∙◌, arith}
 use Rattle.std.proofs.Common.{unwrap_or, append_assoc, decimal, sum_by, eqb-true, if◌then◌else◌, ◌+◌, take, length}
-use Rattle.std.proofs.Common.{get_or, Bor, ◌-◌, length-append, append-nil}
+use Rattle.std.proofs.Common.{get_or, Bor, ◌-◌, length-append, append-nil, None}
 use Rattle.allocative_graph.proofs.Common.{AllByRecursion, entries, get-entries, entries_sorted, find, is_sorted}
 use Rattle.allocative_graph.proofs.Common.{below_all, first, second, Key, Path, path_cmp, is_same_path, Graph}
 use Rattle.allocative_graph.proofs.Common.{text_of_entries, joined, is_root, size_at, Lacks, sum_by-cons, Child}
-use Rattle.allocative_graph.proofs.Common.{under_rows, rows_of, rows_of_child, joined_on, lines_from}
+use Rattle.allocative_graph.proofs.Common.{under_rows, rows_of, rows_of_child, line_after}
 use Rattle.allocative_graph.proofs.Common.{flat_map-append, sum_by-filter_both}
 use Rattle.std.specs.Fmt.{digits, digits_onto, digit_glyph}
 use Rattle.std.proofs.lemmas.Bool.{not-false, not-true}
@@ -17,6 +17,7 @@ use Rattle.std.proofs.lemmas.List.Elements.{All-weaker, filter_passes}
 use Rattle.std.proofs.lemmas.List.Sums.{sum_by-le}
 use Rattle.allocative_graph.proofs.Basics.{each-append, each-implies, on_test, same_path}
 use Rattle.allocative_graph.proofs.Sums.{find-below_all}
+use Rattle.allocative_graph.specs.Graph.{line}
 use Rattle.std.specs.List.{join_by}
 use Rattle.std.proofs.Math.Seq.{take-append_seam}
 pub use Rattle.allocative_graph.specs.Path.{texts}
@@ -139,27 +140,32 @@ size_shown g k p =
     ∙ sym (sum-filter is_shown (λ e. cond (is_same_path (k ∷ p) e.0) e.1 0) (λ e h. unseen e k p h) (entries g))
 
 -- ---- what the walk of `write` has written so far
--- A path with a first key is that key and, after a `;` each, the others.
-pub joined-keys : (k : Key) (ks : Path) → joined (k ∷ ks) ≡ k ++ joined_on ks
-joined-keys k [] = sym (append-nil k)
-joined-keys k (l ∷ ks) = ap (λ t. k ++ 59 ∷ t) (joined-keys l ks)
-
 -- The texts of the keys, joined by `;`, are the path's text.
 pub joined_by_semicolons : (ks : List (Bor (List ℕ))) → join_by (λ k. k.now) (59 ∷ []) ks ≡ joined (texts ks)
 joined_by_semicolons [] = refl
 joined_by_semicolons (k ∷ []) = append-nil k.now
 joined_by_semicolons (k ∷ l ∷ ks) = ap (λ t. k.now ++ 59 ∷ t) (joined_by_semicolons (l ∷ ks))
 
--- The lines of one child, after the text of the keys before it.
-pub child_lines : (t : List ℕ) (k : Key) (rs : List (Path × ℕ)) →
-    lines_from (t ++ 59 ∷ k) rs ≡ lines_from t (under_rows k rs)
-child_lines t k [] = refl
-child_lines t k (r ∷ rs) = rw (child_lines t k rs) (simp append_assoc)
+-- Rows behind another one have no root, so the key before them can be written before their lines.
+deeper_lines : (t : List ℕ) (k : Key) (p : Path) (es : List (Path × ℕ)) → T (below_all path_cmp p es) →
+    (find path_cmp [] es ≡ None)
+    × (flat_map (line_after ((t ++ k) ++ 59 ∷ [])) es ≡ flat_map (line_after t) (under_rows k es))
+deeper_lines t k p [] h = (refl, refl)
+deeper_lines t k [] (([], n) ∷ es) h = absurd h
+deeper_lines t k (l ∷ p) (([], n) ∷ es) h = absurd h
+deeper_lines t k p ((l ∷ q, n) ∷ es) h =
+    let rest = deeper_lines t k p es (second _ _ h) in
+    (rest.0, rw rest.1 (simp append_assoc))
 
--- The lines of one child of the root.
-pub first_lines : (k : Key) (rs : List (Path × ℕ)) → lines_from k rs ≡ text_of_entries (under_rows k rs)
-first_lines k [] = refl
-first_lines k (r ∷ rs) = rw (joined-keys k r.0, first_lines k rs) (simp append_assoc)
+-- The line of a child's own path, and then the lines of the paths below it.
+pub child_lines : (t : List ℕ) (k : Key) (es : List (Path × ℕ)) → T (is_sorted path_cmp es) →
+    line ((t ++ k) ∷ [], unwrap_or (find path_cmp [] es) 0) ++ flat_map (line_after ((t ++ k) ++ 59 ∷ [])) es
+    ≡ flat_map (line_after t) (under_rows k es)
+child_lines t k [] h = refl
+child_lines t k (([], n) ∷ es) h = rw (deeper_lines t k [] es (first _ _ h)).1 (simp append_assoc)
+child_lines t k ((l ∷ q, n) ∷ es) h =
+    let rest = deeper_lines t k (l ∷ q) es (first _ _ h) in
+    rw (rest.0, rest.1) (simp append_assoc)
 
 -- The text after one more child, if F gives the line of a row.
 pub child_written : (F : Path × ℕ → List ℕ) (cs : List Child) (i : ℕ) (d : Child) (before : List ℕ) → i < length cs →

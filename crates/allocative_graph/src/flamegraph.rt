@@ -1,12 +1,12 @@
 //! Flame graphs: maps from paths of keys to sizes.
-ghost use Rattle.std.specs.Prelude.{◌≡◌, ◌+◌, ◌^◌, ◌<◌, ◌≤◌, ◌↔◌, ◌++◌, [], ◌∷◌, IfOk, IfErr, IfSome, IfNone, OnOk, OnErr, IsErrOf, MatchResult, string_bytes, length, is_ok, map};
+ghost use Rattle.std.specs.Prelude.{◌≡◌, ◌+◌, ◌^◌, ◌<◌, ◌≤◌, ◌↔◌, ◌++◌, [], ◌∷◌, IfOk, IfErr, IfSome, IfNone, OnOk, OnErr, IsErrOf, MatchResult, string_bytes, length, is_ok, map, flat_map};
 ghost use Rattle.std.specs.List.{insert};
 ghost use Rattle.std.specs.Option.{SomeIff};
 ghost use Rattle.std.specs.FinMap.{entries};
 ghost use Rattle.allocative_graph.specs.Path.{key_cmp, texts};
 ghost use Rattle.allocative_graph.specs.Format.{AppendsText, ReturnsText};
-ghost use Rattle.allocative_graph.specs.Graph.{add_self, total, text, default, sum_of, under, joined, ExceedWord, IsTree, IsPartOfSum, size_at, total_at, IsBehind, HasNothing};
-ghost use Rattle.allocative_graph.specs.Representation.Children.{line_from, lines_from, front_order, InOrder, IsFound, IsChildGap, Added, Merged, MergesFirst};
+ghost use Rattle.allocative_graph.specs.Graph.{add_self, total, text, line, default, sum_of, under, joined, ExceedWord, IsTree, IsPartOfSum, size_at, total_at, IsBehind, HasNothing};
+ghost use Rattle.allocative_graph.specs.Representation.Children.{line_after, front_order, InOrder, IsFound, IsChildGap, Added, Merged, MergesFirst};
 ghost use Rattle.allocative_graph.specs.Rows.{AreChildren, total_of, AllSmaller, row_figures, figures, figures_behind, node, sum_of_all, ComesLast};
 ghost use Rattle.allocative_graph.specs.declared.flamegraph.Child.{Child};
 
@@ -356,25 +356,21 @@ impl FlameGraph {
         let alloc = *self.children.allocator();
         let mut text = String::new(alloc);
         let mut start = String::new(alloc);
-        for child in &self.children {
-            start.clear();
-            start.push_str(child.key.as_str())?;
-            child.graph.write_lines(&mut start, &mut text)?;
-        }
+        self.write_lines(&mut start, &mut text)?;
         Ok(text)
     }
 
-    // Appends the lines of all paths, each after the given start of a line.
+    // Appends the lines of all paths but the root, each after the given start of a line.
     fn write_lines(&self, start: &mut String, text: &mut String) -> Result<(), AllocError>
         ensures start { OnOk result (string_bytes start.new ≡ string_bytes start.old) }
         ensures text { OnOk result (AppendsText text.old text.new
-            (lines_from (string_bytes start.old) (entries self.now))) }
+            (flat_map (line_after (string_bytes start.old)) (entries self.now))) }
     {
-        push_line(start.as_str(), self.node_size, text)?;
         let length = start.len();
         for child in &self.children {
-            start.push(';')?;
             start.push_str(child.key.as_str())?;
+            push_line(start.as_str(), child.graph.self_size(), text)?;
+            start.push(';')?;
             child.graph.write_lines(start, text)?;
             start.truncate(length);
         }
@@ -426,7 +422,7 @@ pub fn push_child(graph: &mut FlameGraph, key: Key, child: FlameGraph) -> Result
 // Appends the line of a path with a size other than 0.
 #[tactic(auto, using(crate::proofs::Text::of_lines))]
 fn push_line(path: &str, size: usize, text: &mut String) -> Result<(), AllocError>
-    ensures { OnOk result (AppendsText text.old text.new (line_from path.now ([], size))) }
+    ensures { OnOk result (AppendsText text.old text.new (line (path.now ∷ [], size))) }
 {
     if size == 0 {
         return Ok(());

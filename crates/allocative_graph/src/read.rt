@@ -101,8 +101,8 @@ struct Line {
     size: usize,
 }
 
-// Whether a text is one decimal digit or more, and nothing else.
-fn is_numeral(text: &str) -> bool
+/// Whether a text is one decimal digit or more, and nothing else.
+pub fn is_numeral(text: &str) -> bool
     ensures { IsTrue result ↔ IsNumeral 10 text.now }
 {
     !text.is_empty() && text.as_bytes().iter().all(|b| b.is_ascii_digit())

@@ -1,12 +1,13 @@
 -- Lists of children as maps from a key and the path below it to a size, and what adding graphs and merging children
--- leave, also if memory runs out on the way; the lines of rows, and the graphs of paths and stacks.
-use Rattle.std.specs.Prelude.{◌≡◌, ℕ, ◌+◌, ◌||◌, ◌==◌, if◌then◌else◌, List, [], ◌∷◌, ◌++◌, flat_map, decimal, fold, ◌^◌}
+-- leave, also if memory runs out on the way; the line of a row, and the graphs of paths and stacks.
+use Rattle.std.specs.Prelude.{◌≡◌, ℕ, ◌+◌, ◌||◌, ◌==◌, List, [], ◌∷◌, ◌++◌, decimal, fold, ◌^◌}
 use Rattle.std.specs.Prelude.{◌<◌, ◌≤◌, ◌⊎◌, true, cond, Option, Some, None, is_some, length, slice_index_or, ◌&&◌}
 use Rattle.std.specs.Prelude.{Bool}
 use Rattle.std.specs.FinMap.{contains_key, get}
 use Rattle.allocative_graph.specs.Path.{Path, Key, key_cmp}
-use Rattle.allocative_graph.specs.Format.{semicolon, space, newline}
+use Rattle.allocative_graph.specs.Format.{space, newline}
 use Rattle.allocative_graph.specs.Graph.{Graph, size_at, default, sum_of, under, add_self, IsTree, total, IsPartOfSum}
+use Rattle.allocative_graph.specs.Graph.{is_root, joined}
 use Rattle.allocative_graph.specs.Read.{Stack}
 use Rattle.allocative_graph.specs.declared.flamegraph.Child.{Child}
 use Rattle.allocative_graph.specs.Rows.{total_of, AreChildren, keys_of, rows_of}
@@ -17,22 +18,9 @@ use Rattle.std.specs.declared.cmp.Ordering.{Ordering}
 use Rattle.std.specs.declared.cmp.Ordering.TheVariants.{Less, Greater}
 use Rattle.std.specs.Ordering.{eq_by_cmp}
 
--- The keys, with a `;` before each.
-abbrev pub joined_on : Path → List ℕ
-joined_on ks = flat_map (λ k. semicolon ∷ k) ks
-
--- The end of a line, after the keys: a space, the size, a line feed.
-abbrev pub size_text : ℕ → List ℕ
-size_text n = space ∷ (decimal n ++ newline ∷ [])
-
--- The line of a path with a size other than 0, if t is the text of its first keys: t, the other keys with a `;`
--- before each, the size.
-abbrev pub line_from : List ℕ → Path × ℕ → List ℕ
-line_from t r = if r.1 == 0 then [] else (t ++ (joined_on r.0 ++ size_text r.1))
-
--- The lines of some paths, each with t as the text of its first keys.
-abbrev pub lines_from : List ℕ → List (Path × ℕ) → List ℕ
-lines_from t rs = flat_map (line_from t) rs
+-- The line of a path, with t before its keys. The root has none.
+abbrev pub line_after : List ℕ → Path × ℕ → List ℕ
+line_after t e = cond (is_root e.0 || (e.1 == 0)) [] (t ++ (joined e.0 ++ space ∷ decimal e.1 ++ newline ∷ []))
 
 -- Path by path r is the sum of g and h, and it has the paths of both.
 abbrev pub IsSumByPath : Graph → Graph → Graph → Type 0
