@@ -1,10 +1,10 @@
 -- Numbers in chunks as one list: reads, a number that is put in, a chunk that is cut in two, and what a search finds.
 use Rattle.std.proofs.Common.{◌≡◌, ℕ, zero, suc, true, refl, ◌+◌, ◌-◌, ◌<◌, ◌≤◌, List, [], ◌∷◌, length, get_or, map}
-use Rattle.std.proofs.Common.{Result, Ok, Err, Some, IfOk, IfErr, sym, ap, subst₂, ◌∙◌, arith, inl, inr, ◌++◌}
-use Rattle.std.proofs.Common.{length-append, set, take, append_assoc, append-nil}
-use Rattle.allocative_collectors.proofs.Common.{Ordering, Less, Equal, Greater, is_lt, ordering_reverse, Key, key_cmp}
-use Rattle.allocative_collectors.proofs.Common.{key_in, KeysRise, IsKeyGap, cases_eq, cases_lt, get_or-map, length-map}
-use Rattle.allocative_collectors.proofs.Common.{flat_map-append, Chunk, numbers_in, flat, before, chunk_at}
+use Rattle.std.proofs.Common.{Result, Ok, Err, Some, IfOk, IfErr, sym, ap, subst₂, ◌∙◌, arith, ◌++◌, length-append, set}
+use Rattle.std.proofs.Common.{take, append_assoc, append-nil}
+use Rattle.allocative_collectors.proofs.Common.{Less, Greater, is_lt, ordering_reverse, Key, key_cmp, key_in, KeysRise}
+use Rattle.allocative_collectors.proofs.Common.{IsKeyGap, get_or-map, length-map, flat_map-append, Chunk, numbers_in}
+use Rattle.allocative_collectors.proofs.Common.{flat, before, chunk_at}
 use Rattle.std.proofs.Math.Seq.{take-length, drop-length}
 use Rattle.std.specs.List.{slice_get, insert, Contains}
 use Rattle.std.specs.List.Sorted.{IsSearchInRange, IsBinarySearchResult, IsSortedBy}
@@ -18,19 +18,10 @@ use Rattle.std.proofs.lemmas.List.Sums.{sum_by_more}
 use Rattle.std.proofs.lemmas.List.Edits.{insert-append_left, insert-append_right}
 
 -- ---- what a comparison with one key says of the others, if keys rise
--- If the test for less holds, the comparison says `Less`.
-less_from : (o : Ordering) → is_lt o ≡ true → o ≡ Less
-less_from Less e = refl
-less_from Equal e = cc
-less_from Greater e = cc
-
 module _ (ks : List Key) (rise : KeysRise ks) (k : Key) where
   smaller_up_to : (m : ℕ) → m < length ks → key_cmp (key_in ks m) k ≡ Less → (j : ℕ) → j < m + 1 →
       key_cmp (key_in ks j) k ≡ Less
-  smaller_up_to m h less j lt = elim (cases_eq j m) [
-    | inl e ↦ rw e less
-    | inr ne ↦ key_total.trans (key_in ks j) (key_in ks m) k (rise j m (omega arith) h) less
-  ]
+  smaller_up_to m h less j lt = grind (arith, less, key_total.trans (key_in ks j) (key_in ks m) k, rise j m)
 
   -- a key belongs at a place if the key there is greater, and those before are smaller
   gap_here : (n : ℕ) → n < length ks → key_cmp (key_in ks n) k ≡ Greater →
@@ -38,14 +29,10 @@ module _ (ks : List Key) (rise : KeysRise ks) (k : Key) where
   gap_here n h greater less = record {
     in_range = omega arith;
     smaller_before = less;
-    greater_after = λ j le hj. elim (cases_eq j n) [
-      | inl e ↦ rw e greater
-      | inr ne ↦
-          let before : key_cmp k (key_in ks n) ≡ Less =
-          key_total.antisymm k (key_in ks n) ∙ ap ordering_reverse greater in
-          key_total.antisymm (key_in ks j) k ∙ ap ordering_reverse
-          (key_total.trans k (key_in ks n) (key_in ks j) before (rise n j (omega arith) hj))
-    ];
+    greater_after = λ j le hj.
+        let before = key_total.antisymm k (key_in ks n) in
+        let after = key_total.antisymm (key_in ks j) k in
+        grind (arith, before, after, key_total.trans k (key_in ks n) (key_in ks j), rise n j);
   }
 
 module _ (K : ℕ → Key) (xs : List ℕ) where
@@ -62,10 +49,11 @@ module _ (K : ℕ → Key) (xs : List ℕ) where
     behind_last n last lt =
         let count = length-map xs K in
         let there = key_read (length xs - 1) n last in
+        let less : key_cmp (K n) k ≡ Less = grind arith in
         record {
           in_range = omega arith;
           smaller_before = λ j h. smaller_up_to (map K xs) rise k (length xs - 1) there.0
-              (ap (λ (l : Key). key_cmp l k) there.1 ∙ less_from _ lt) j (omega arith);
+              (ap (λ (l : Key). key_cmp l k) there.1 ∙ less) j (omega arith);
           greater_after = λ j le h. absurd (omega arith);
         }
 
@@ -150,14 +138,8 @@ module _ (cs : List Chunk) (i : ℕ) (e : Chunk) (h : i < length cs) {xs : List 
           (gap : IsKeyGap (map K xs) k m) where
         -- the keys before a gap in the chunk are smaller
         pub less_part : (j : ℕ) → j < before cs i + m → key_cmp (key_in (map K (flat cs)) j) k ≡ Less
-        less_part j lt = elim (cases_lt j (before cs i)) [
-          | inl lower ↦ less j lower
-          | inr upper ↦
-              let index : before cs i + (j - before cs i) ≡ j = omega arith in
-              ap (λ (q : ℕ). key_cmp (key_in (map K (flat cs)) q) k) (sym index)
-              ∙ ap (λ (l : Key). key_cmp l k) (sym (part_key (j - before cs i) (omega (arith, gap.in_range))).1)
-              ∙ gap.smaller_before (j - before cs i) (omega arith)
-        ]
+        less_part j lt = let index : before cs i ≤ j → before cs i + (j - before cs i) ≡ j = λ h. omega arith in
+            grind (arith, index, less j, part_key (j - before cs i), gap.smaller_before (j - before cs i), gap.in_range)
 
         -- a gap before the end of the chunk is one among all
         pub gap_part : m < length (map K xs) → IsKeyGap (map K (flat cs)) k (before cs i + m)

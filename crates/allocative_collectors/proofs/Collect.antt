@@ -1,7 +1,7 @@
 -- The parts of a flame graph's collector after each step: an entry, a visitor that is entered or left, an identity
 -- that is met.
 use Rattle.std.proofs.Common.{◌≡◌, ℕ, pred, ◌+◌, ◌^◌, ◌<◌, Bool, true, false, cond, not, ◌||◌, ◌&&◌, ◌==◌, List, []}
-use Rattle.std.proofs.Common.{◌∷◌, ◌++◌, map, reverse, length, refl, sym, ap, ◌∙◌, arith, length-append}
+use Rattle.std.proofs.Common.{◌∷◌, ◌++◌, map, reverse, length, refl, sym, ap, ◌∙◌, arith, length-append, ◌↔◌}
 use Rattle.allocative_collectors.proofs.Common.{contains, Key, Path, Live, go, leave_live, enter_live, Listed, path_at}
 use Rattle.allocative_collectors.proofs.Common.{map_of, live, IsPlaced, map-append, length-map, nil_from_length}
 use Rattle.allocative_collectors.proofs.Common.{nat_tests}
@@ -15,8 +15,7 @@ use Rattle.allocative_graph.specs.Collector.{last_of, without_last}
 use Rattle.allocative_graph.proofs.Basics.{identity_total, identity_antisymmetric, same_identity_turned}
 use Rattle.allocative_collectors.specs.Listed.{IsAbove}
 use Rattle.allocative_collectors.specs.Places.{to_root, outside, back_from, back_at, AddedAt}
-use Rattle.allocative_collectors.proofs.Entries.{total_entered, length_entered, path_entered, map_of-entered, mark_of}
-use Rattle.allocative_graph.proofs.Sums.{bytes_entered-add}
+use Rattle.allocative_collectors.proofs.Entries.{bytes_more, length_entered, path_entered, map_of-entered, mark_of}
 use Rattle.allocative_collectors.proofs.Keys.{map_same}
 
 -- ---- the identities
@@ -117,22 +116,21 @@ pub record IsOut (t : Listed) (current : ℕ) (places : List ℕ) (rooted : Bool
   pub no_place : places ≡ []
   pub no_visitor : rooted ≡ false
 
-module _ (t : Listed) (current : ℕ) (places : List ℕ) (rooted : Bool) where
-  pub closed : length (back_at t current places rooted) ≡ 0 → IsOut t current places rooted
-  closed none =
-      let out = none_back (path_at t current) (reverse (map (path_at t) places)) rooted none in
-      record {
-        root = out.0;
-        no_place = nil_from_length places (omega
-            (arith, out.1, length-reverse (map (path_at t) places), length-map places (path_at t)));
-        no_visitor = out.2;
-      }
-
-  pub nothing_back : IsOut t current places rooted → back_at t current places rooted ≡ []
-  nothing_back o =
-      ap (λ (q : Path). outside q ++ back_from (reverse (map (path_at t) places)) (to_root rooted)) o.root
-      ∙ (ap (λ (l : List ℕ). back_from (reverse (map (path_at t) l)) (to_root rooted)) o.no_place
-      ∙ ap to_root o.no_visitor)
+-- No visitor is open exactly then.
+pub closed_is : (t : Listed) (met : List Identity) (current : ℕ) (places : List ℕ) (rooted : Bool) {v : Live} →
+    live t met current places rooted ≡ v → (v.open_visitors ≡ 0) ↔ IsOut t current places rooted
+closed_is t met current places rooted view =
+    let visitors = ap (λ (v : Live). v.open_visitors) view in (
+      (λ none.
+          let out = none_back (path_at t current) (reverse (map (path_at t) places)) rooted (visitors ∙ none) in
+          record {
+            root = out.0;
+            no_place = nil_from_length places (omega (arith, out.1, length-reverse (map (path_at t) places), length-map places (path_at t)));
+            no_visitor = out.2;
+          }),
+      (λ o. sym visitors
+          ∙ (λ j. length (outside (o.root j) ++ back_from (reverse (map (path_at t) (o.no_place j))) (to_root (o.no_visitor j))))),
+    )
 
 -- ---- a whole step
 -- Adding an entry to the sums and going down to its path is the same as entering it.
@@ -155,15 +153,10 @@ module _ {t new : Listed} {current : ℕ} {places : List ℕ} {n : ℕ} (ok : Is
   placed_added now within = record {
     here = within;
     back = λ j h. let old = ok.back j h in omega (arith, length_entered entered.is);
-    entered_is =
-        omega (arith, ok.entered_is, entered.count, ap bag.bytes_entered (map_of-entered entered.is ok.rooted), bytes_entered-add (map_of t) one);
-    total_is = omega (arith, ok.total_is, entered.count, total_entered entered.is);
+    entered_is = omega (arith, ok.entered_is, entered.count, bytes_more entered.is ok.rooted);
     rooted = omega (arith, length_entered entered.is, ok.rooted);
     root_path = path_entered entered.is 0 ok.rooted ∙ ok.root_path;
   }
-
-  pub fits_map : bag.bytes_entered (map_of t) + size < 2 ^ 63
-  fits_map = omega (arith, ok.entered_is, entered.fits)
 
   module _ (met : List Identity) (rooted : Bool) where
     pub live_added : live new met current places rooted
@@ -181,10 +174,15 @@ module _ {t new : Listed} {current : ℕ} {places : List ℕ} {n : ℕ} (ok : Is
             ++ back_from (reverse (map_same (path_at new) (path_at t) places
             (λ j h. path_entered entered.is _ (ok.back j h)) i)) (to_root rooted)
 
-    pub gone_down : live new met node places rooted ≡ enter_live u k size (live t met current places rooted)
-    gone_down =
-        went new met current node places places rooted
-        (one_up new met current node places rooted k
-        (entered.is.path ∙ ap (λ (q : Path). q ++ k ∷ []) (sym (path_entered entered.is current ok.here))))
-        ∙ (λ i. go (entered.is.path i) (live_added i))
-        ∙ enter_is u k size (live t met current places rooted)
+    module _ {v : Live} (view : live t met current places rooted ≡ v) where
+      pub fits_map : bag.bytes_entered v.sums + size < 2 ^ 63
+      fits_map = omega (arith, ok.entered_is, entered.fits, ap (λ (c : Live). bag.bytes_entered c.sums) view)
+
+      pub gone_down : live new met node places rooted ≡ enter_live u k size v
+      gone_down =
+          went new met current node places places rooted
+          (one_up new met current node places rooted k
+          (entered.is.path ∙ ap (λ (q : Path). q ++ k ∷ []) (sym (path_entered entered.is current ok.here))))
+          ∙ (λ i. go (entered.is.path i) (live_added i))
+          ∙ enter_is u k size (live t met current places rooted)
+          ∙ ap (enter_live u k size) view

@@ -1,22 +1,22 @@
 -- The names that most proofs of this crate cite, passed on from one place. Declares nothing.
 pub use Rattle.std.specs.FinMap.{entries, get}
 pub use Rattle.std.specs.FinSet.{contains}
-pub use Rattle.std.specs.Ordering.{is_eq, is_lt, ordering_reverse, ordering_then}
+pub use Rattle.std.specs.Ordering.{is_eq, is_lt, ordering_reverse}
 pub use Rattle.std.specs.declared.cmp.Ordering.{Ordering}
-pub use Rattle.std.specs.declared.cmp.Ordering.TheVariants.{Equal, Greater, Less}
+pub use Rattle.std.specs.declared.cmp.Ordering.TheVariants.{Greater, Less}
 pub use Rattle.allocative_graph.specs.Collector.{Live, enter_live, go, leave_live}
 pub use Rattle.allocative_graph.specs.Format.{newline}
 pub use Rattle.allocative_graph.specs.Graph.{Graph, add_self, default, graph, is_root, sum_of, under, warning_text}
 pub use Rattle.allocative_graph.specs.Path.{Key, Path, is_one_below, is_same_path, key_cmp, path_cmp}
 pub use Rattle.allocative_graph.specs.Sums.{Sums, below, bytes_entered}
 pub use Rattle.allocative_graph.specs.declared.refusal.Refusal.{Refusal}
-pub use Rattle.allocative_graph.specs.declared.refusal.Refusal.TheVariants.{Memory, Open, TooLarge}
+pub use Rattle.allocative_graph.specs.declared.refusal.Refusal.TheVariants.{Memory}
 pub use Rattle.allocative_collectors.specs.Warned.{size_at_place, is_std_data, is_std_entry, warning_of, warning_lines}
 pub use Rattle.allocative_collectors.specs.Warned.{MakesGraph, MakesPart, is_short, rows_behind}
 pub use Rattle.allocative_collectors.specs.Listed.{IsEntered, Listed, Sum, put, map_of, path_at, root_sum, row, sum_at}
 pub use Rattle.allocative_collectors.specs.Nodes.{IsTree, sums, HasKey, IsArena, IsChild, IsKeyGap, KeysRise}
 pub use Rattle.allocative_collectors.specs.Nodes.{at, bytes_at, children_at, key_at, key_in, keys_at}
-pub use Rattle.allocative_collectors.specs.Nodes.{keys_of, leaf, no_node, parent_at, sums, before, chunk_at, flat}
+pub use Rattle.allocative_collectors.specs.Nodes.{keys_of, leaf, no_node, parent_at, before, chunk_at, flat}
 pub use Rattle.allocative_collectors.specs.Nodes.{numbers, numbers_in}
 pub use Rattle.allocative_collectors.specs.Places.{IsPlaced, live}
 pub use Rattle.allocative_collectors.specs.declared.output.WarnedPath.{WarnedPath}
@@ -24,7 +24,7 @@ pub use Rattle.allocative_collectors.specs.declared.children.Children.{Children}
 pub use Rattle.allocative_collectors.specs.declared.children.Chunk.{Chunk}
 pub use Rattle.allocative_collectors.specs.declared.tree.Node.{Node}
 pub use Rattle.allocative_graph.specs.Rows.{ComesLast}
-pub use Rattle.std.proofs.lemmas.Bool.{cases_eq, cases_lt, cases_order, cond-false, cond-true, false_from_ne_true}
+pub use Rattle.std.proofs.lemmas.Bool.{cases_eq, cond-false, cond-true, false_from_ne_true}
 pub use Rattle.std.proofs.lemmas.Bool.Decides.{nat_tests}
 pub use Rattle.std.proofs.lemmas.Cmp.{tied_itself}
 pub use Rattle.std.proofs.lemmas.Fn.{always_returns_same}

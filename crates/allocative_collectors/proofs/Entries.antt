@@ -1,11 +1,11 @@
 -- One more entry in the listed sums: what it leaves as it was, and what the map has at each place and after it.
 use Rattle.std.proofs.Common.{◌≡◌, ℕ, zero, suc, ◌+◌, ◌<◌, ◌≤◌, Bool, false, add-zero, zero-add, [], ◌∷◌, ◌++◌, length}
-use Rattle.std.proofs.Common.{refl, ap, ◌∙◌, arith, ◌≢◌, ◌-◌, true, cond, map, Option, Some, None, sym, sum_by}
+use Rattle.std.proofs.Common.{refl, ap, ◌∙◌, arith, ◌≢◌, ◌-◌, true, cond, map, Some, None, sym, sum_by, List}
 use Rattle.allocative_collectors.proofs.Common.{Key, Path, Sum, Listed, put, path_at, IsEntered, Sums, get, path_cmp}
 use Rattle.allocative_collectors.proofs.Common.{is_same_path, is_one_below, graph, sum_at, row, map_of, size_at_place}
-use Rattle.allocative_collectors.proofs.Common.{sum_by-cons, nat_tests, cond-true, cond-false}
+use Rattle.allocative_collectors.proofs.Common.{sum_by-cons, nat_tests, cond-true, bytes_entered}
 use Rattle.std.proofs.Math.Bool.{or-false}
-use Rattle.allocative_collectors.specs.Listed.{total, rows, raise}
+use Rattle.allocative_collectors.specs.Listed.{rows, raise}
 use Rattle.std.specs.FinMap.{from_entries, get-from_entries, insert, find}
 use Rattle.std.specs.Option.{option_map}
 use Rattle.allocative_graph.specs.Forest.{Mark, Entry, AsInline, AsUnique}
@@ -13,18 +13,10 @@ use Rattle.allocative_graph.specs.Sums.{Node, together, is_unique_mark}
 use Rattle.allocative_graph.specs.Sums as bag
 use Rattle.allocative_graph.specs.Graph.{remaining}
 use Rattle.allocative_graph.proofs.Basics.{path_total, same_path}
-use Rattle.allocative_graph.proofs.Sums.{get-add, same_sums, below-add}
+use Rattle.allocative_graph.proofs.Sums.{get-add, same_sums, below-add, bytes_entered-add}
 use Rattle.allocative_graph.proofs.Computed.{entries-empty}
 use Rattle.allocative_graph.proofs.Showings.{get-graph, get-graph-root}
 use Rattle.allocative_collectors.proofs.Keys.{same_path-same, same_path-apart}
-
--- One more entry adds its bytes to the total.
-total_put : (i : ℕ) (p : Path) (n : ℕ) (u : Bool) (s : Listed) → total (put i p n u s) ≡ total s + n
-total_put i p n u [] = omega
-    (arith, sum_by-cons (λ (e : Sum). e.bytes) (record { path = p; bytes = n; is_unique = u }) [])
-total_put zero p n u (e ∷ s) = omega
-    (arith, sum_by-cons (λ (s : Sum). s.bytes) e s, sum_by-cons (λ (s : Sum). s.bytes) (raise n u e) s)
-total_put (suc i) p n u (e ∷ s) = omega (arith, total_put i p n u s, sum_by-cons (λ (s : Sum). s.bytes) e s, sum_by-cons (λ (s : Sum). s.bytes) e (put i p n u s))
 
 -- each path that was listed before keeps its place
 path_put : (i : ℕ) (p : Path) (n : ℕ) (u : Bool) (s : Listed) (j : ℕ) → j < length s →
@@ -80,9 +72,6 @@ entered_twice old mid new at k n u i first second =
 
 -- ---- at an entry
 module _ {old new : Listed} {at : ℕ} {k : Key} {n : ℕ} {u : Bool} {i : ℕ} (entered : IsEntered old new at k n u i) where
-  pub total_entered : total new ≡ total old + n
-  total_entered = ap total entered.sums ∙ total_put i (path_at old at ++ k ∷ []) n u old
-
   pub length_entered : length old ≤ length new
   length_entered = let longer = length_put i (path_at old at ++ k ∷ []) n u old in let same = ap length entered.sums in
       omega (arith, longer.0)
@@ -111,22 +100,12 @@ find-put : (i : ℕ) (p q : Path) (n : ℕ) (u : Bool) (s : Listed) → path_at 
     (find path_cmp q (map row s))
 find-put i p q n u [] is sole = refl
 find-put zero p q n u (e ∷ s) is sole =
-    let warning_of : is_same_path q e.path ≡ is_same_path q p = ap (is_same_path q) is in
-    let itself : is_same_path p e.path ≡ true = same_path-same p e.path (sym is) in
-    rw (warning_of, itself) (both (is_same_path q p) _ _ _)
-  where
-    both : (b : Bool) (x y z : Option Node) → cond b x z ≡ cond b x (cond b y z)
-    both b x y z = grind (arith, nat_tests)
+    grind (arith, nat_tests, ap (is_same_path q) is, same_path-same p e.path (sym is))
 find-put (suc i) p q n u (e ∷ s) is sole =
     let apart : p ≢ e.path = λ w. (let same : 0 ≡ suc i = sole 0 (omega arith) (sym w) in omega arith) in
     let other : is_same_path p e.path ≡ false = same_path-apart p e.path apart in
-    rw (other, find-put i p q n u s is (λ j h w. tail_apart j i (sole (suc j) (omega arith) w)))
-    (swapped (is_same_path q e.path) (is_same_path q p)
-    _ _ _ (λ a b. apart (sym (same_path q p b) ∙ same_path q e.path a)))
-  where
-    swapped : (a b : Bool) (x y z : Option Node) → (a ≡ true → b ≡ true → ⊥) →
-        cond a x (cond b y z) ≡ cond b y (cond a x z)
-    swapped a b x y z apart = grind (arith, nat_tests)
+    let rest = find-put i p q n u s is (λ j h w. tail_apart j i (sole (suc j) (omega arith) w)) in
+    grind (arith, nat_tests, other, rest, apart, same_path q p, same_path q e.path)
 
 abbrev pub mark_of : Bool → Mark
 mark_of u = cond u AsUnique AsInline
@@ -140,23 +119,30 @@ mark_is false = refl
 pub map_of-entered : {old new : Listed} {at : ℕ} {k : Key} {n : ℕ} {u : Bool} {i : ℕ} → IsEntered old new at k n u i →
     0 < length old
     → map_of new ≡ bag.add (map_of old) (record { path = path_at old at ++ k ∷ []; size = n; mark = mark_of u })
-map_of-entered {old} {at = at} {k = k} {n = n} {u = u} {i = i} entered some =
-    ap map_of entered.sums ∙ by old i entered.not_root some
-    (ap (λ (s : Listed). path_at s i) (sym entered.sums) ∙ entered.path) entered.sole
-  where
-    by : (s : Listed) (i : ℕ) → 0 < i → 0 < length s →
-        path_at (put i (path_at old at ++ k ∷ []) n u s) i ≡ path_at old at ++ k ∷ []
-        → ((j : ℕ) → j < length s → path_at s j ≡ path_at old at ++ k ∷ [] → j ≡ i)
-        → map_of (put i (path_at old at ++ k ∷ []) n u s)
-        ≡ bag.add (map_of s) (record { path = path_at old at ++ k ∷ []; size = n; mark = mark_of u })
-    by s zero pos some is sole = absurd (omega arith)
-    by [] (suc i) pos some is sole = absurd (omega arith)
-    by (r ∷ s) (suc i) pos some is sole =
-        let p : Path = path_at old at ++ k ∷ [] in
-        same_sums _ _ (λ q. get-from_entries path_total (map row (put i p n u s)) q ∙ (find-put i p q n u s is (λ j h w. tail_apart j i (sole (suc j) (omega arith) w))
-        ∙ (λ x. cond (is_same_path q p) (Some (together (sym (get-from_entries path_total (map row s) p) x)
-        (new_node n (sym (mark_is u) x)))) (sym (get-from_entries path_total (map row s) q) x))
-        ∙ sym (get-add (map_of (r ∷ s)) (record { path = p; size = n; mark = mark_of u }) q)))
+map_of-entered {old = []} entered some = absurd (omega arith)
+map_of-entered {old = r ∷ s} {i = zero} entered some = absurd (omega (arith, entered.not_root))
+map_of-entered {old = r ∷ s} {at = at} {k = k} {n = n} {u = u} {i = suc i} entered some =
+    let p : Path = path_at (r ∷ s) at ++ k ∷ [] in
+    let is = ap (λ (t : Listed). path_at t (suc i)) (sym entered.sums) ∙ entered.path in
+    let sole = λ (j : ℕ) (h : j < length s) (w : path_at s j ≡ p). tail_apart j i (entered.sole (suc j) (omega arith) w) in
+    ap map_of entered.sums ∙ same_sums _ _ (λ q.
+    let new = get-from_entries path_total (map row (put i p n u s)) q in
+    let old = get-from_entries path_total (map row s) in
+    let added = get-add (map_of (r ∷ s)) (record { path = p; size = n; mark = mark_of u }) q in
+    grind (arith, new, old p, old q, find-put i p q n u s is sole, mark_is u, added))
+
+-- an entry adds its bytes
+pub bytes_more : {old new : Listed} {at : ℕ} {k : Key} {n : ℕ} {u : Bool} {i : ℕ} → IsEntered old new at k n u i →
+    0 < length old → bytes_entered (map_of new) ≡ bytes_entered (map_of old) + n
+bytes_more {old} {at = at} {k = k} {n = n} {u = u} entered some = ap bytes_entered (map_of-entered entered some)
+    ∙ bytes_entered-add (map_of old) (record { path = path_at old at ++ k ∷ []; size = n; mark = mark_of u })
+
+-- What is found at a path has at most the bytes of all rows.
+pub found_fits : (q : Path) {x : Node} (es : List (Path × Node)) → find path_cmp q es ≡ Some x →
+    x.bytes ≤ sum_by (λ (e : Path × Node). e.1.bytes) es
+found_fits q {x} [] is = absurd cc
+found_fits q {x} (e ∷ es) is =
+    grind (arith, is, found_fits q {x = x} es, sum_by-cons (λ (e : Path × Node). e.1.bytes) e es)
 
 -- ---- the places of different paths
 abbrev pub Distinct : Listed → Type 0
@@ -175,9 +161,8 @@ pub record IsListing (s : Listed) : Type 0 where
 -- If no place of a list has the path q, a search of its rows for q finds nothing.
 find_none : (q : Path) (s : Listed) → ((i : ℕ) → i < length s → path_at s i ≢ q) → find path_cmp q (map row s) ≡ None
 find_none q [] other = refl
-find_none q (e ∷ s) other = cond-false (is_same_path q e.path)
-    _ _ (same_path-apart q e.path (λ w. other 0 (omega arith) (sym w)))
-    ∙ find_none q s (λ i h. other (suc i) (omega arith))
+find_none q (e ∷ s) other =
+    grind (arith, same_path q e.path, other 0 (omega arith), find_none q s (λ i h. other (suc i) (omega arith)))
 
 -- If all paths of a list differ, a search for the path of place i finds what was entered at place i.
 find_at : (s : Listed) → Distinct s → (i : ℕ) → i < length s →
@@ -185,10 +170,7 @@ find_at : (s : Listed) → Distinct s → (i : ℕ) → i < length s →
 find_at [] apart i h = absurd (omega arith)
 find_at (e ∷ s) apart zero h = cond-true (is_same_path e.path e.path) _ _ (same_path-same e.path e.path refl)
 find_at (e ∷ s) apart (suc i) h =
-    cond-false (is_same_path (path_at s i) e.path)
-    _ _ (same_path-apart (path_at s i) e.path
-    (λ w. (let same : suc i ≡ 0 = apart (suc i) 0 h (omega arith) w in omega arith)))
-    ∙ find_at s (tail_distinct e s apart) i (omega arith)
+    grind (arith, same_path (path_at s i) e.path, apart (suc i) 0 h (omega arith), find_at s (tail_distinct e s apart) i (omega arith))
 
 -- ---- what the map has
 -- At the path of each place but the root's, the map has what was entered there.
@@ -205,10 +187,6 @@ get_none [] q other = get-map_of [] q
 get_none (r ∷ s) q other = get-map_of (r ∷ s) q ∙ find_none q s (λ i h. other (suc i) (omega arith) (omega arith))
 
 -- ---- the graph
--- If a path has 0 bytes, it keeps 0, whether it is unique or not.
-pub nothing_left : (u : Bool) (n b : ℕ) → n ≡ 0 → cond u n (n - b) ≡ 0
-nothing_left u n b e = grind (arith, nat_tests)
-
 -- At each path but the root, the graph has what remains of the bytes that the map has there.
 graph_get : (m : Sums) (q : Path) → q ≢ [] → get (graph m) q ≡ option_map (remaining m q) (get m q)
 graph_get m [] other = absurd (other refl)
@@ -217,10 +195,7 @@ graph_get m (k ∷ q) other = get-graph m k q
 -- At the path of each place, the graph has the size of the place.
 pub graph_hit : (s : Listed) → IsListing s → (i : ℕ) → i < length s →
     get (graph (map_of s)) (path_at s i) ≡ Some (size_at_place s i)
-graph_hit s ok zero h =
-    ap (get (graph (map_of s))) ok.root_path ∙ get-graph-root (map_of s)
-    ∙ ap (λ (n : ℕ). Some n) (sym (let e = sum_at s 0 in
-    nothing_left e.is_unique e.bytes (bag.below (map_of s) e.path) ok.root_bytes))
+graph_hit s ok zero h = grind (arith, nat_tests, ok.root_path, ok.root_bytes, get-graph-root (map_of s))
 graph_hit s ok (suc i) h =
     let p = path_at s (suc i) in
     graph_get (map_of s) p (λ w. (let same = ok.apart (suc i) 0 h ok.rooted (w ∙ sym ok.root_path) in omega arith))

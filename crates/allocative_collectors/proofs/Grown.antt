@@ -1,18 +1,16 @@
 -- An arena with one more node, which has no entry yet, and with a node that is written.
-use Rattle.std.proofs.Common.{◌≡◌, ◌≢◌, ℕ, ◌+◌, ◌-◌, ◌<◌, ◌≤◌, List, [], ◌∷◌, ◌++◌, length, get_or, set, take, drop}
-use Rattle.std.proofs.Common.{refl, sym, ap, subst, ◌∙◌, arith, inl, inr, get_or-set_same, get_or-set_other, length-set}
+use Rattle.std.proofs.Common.{◌≡◌, ◌≢◌, ℕ, ◌+◌, ◌-◌, ◌<◌, ◌≤◌, List, [], ◌∷◌, ◌++◌, length, get_or, set, refl, sym, ap}
+use Rattle.std.proofs.Common.{subst, ◌∙◌, arith, inl, inr, get_or-set_same, get_or-set_other, length-set}
+use Rattle.std.proofs.lemmas.List.{set_past}
 use Rattle.allocative_collectors.proofs.Common.{key_at, Less, ordering_reverse, Key, key_cmp, Node, leaf, no_node, at}
-use Rattle.allocative_collectors.proofs.Common.{children_at, keys_of, keys_at, key_in, parent_at, KeysRise}
-use Rattle.allocative_collectors.proofs.Common.{IsChild, IsArena, IsKeyGap, sums, bytes_at}
-use Rattle.allocative_collectors.proofs.Common.{get_or_append_left, get_or_push, length_push, cases_order, cases_eq}
+use Rattle.allocative_collectors.proofs.Common.{children_at, keys_of, keys_at, key_in, parent_at, KeysRise, IsChild}
+use Rattle.allocative_collectors.proofs.Common.{IsArena, IsKeyGap, bytes_at, get_or_append_left, get_or_push}
+use Rattle.allocative_collectors.proofs.Common.{length_push, cases_eq}
 use Rattle.std.specs.List.{All, Contains, insert}
-use Rattle.std.proofs.lemmas.List.Elements.{All-append, All-cons, All-drop, All-take, All-weaker, Contains-append_right}
+use Rattle.std.proofs.lemmas.List.Elements.{All-cons, All-weaker, Contains-append_right}
+use Rattle.std.proofs.lemmas.List.Sorted.{All-permutation, Contains-permutation, IsPermutation-insert}
 use Rattle.std.proofs.lemmas.List.Edits.{length-insert, get_or-insert_below, get_or-insert_at}
-use Rattle.allocative_collectors.proofs.Keys.{map_same, keys_of-insert, insert_above, stands_insert, pushed, key_total}
-use Rattle.allocative_collectors.proofs.Keys.{touched}
-use Rattle.std.proofs.lemmas.List.Sums.{get_or-le-sum_by}
-use Rattle.allocative_collectors.specs.Listed.{total}
-use Rattle.allocative_collectors.proofs.Labels.{total-grow}
+use Rattle.allocative_collectors.proofs.Keys.{map_same, keys_of-insert, insert_above, pushed, key_total, touched}
 
 -- the nodes with a new one under p, whose key is k
 abbrev pub grown : List Node → ℕ → Key → List Node
@@ -29,18 +27,10 @@ rise_insert ks k g gap rise i j lt h =
     let within = gap.in_range in
     let after : (j : ℕ) → g ≤ j → j < length ks → key_cmp k (key_in ks j) ≡ Less =
     λ j le h. key_total.antisymm k (key_in ks j) ∙ ap ordering_reverse (gap.greater_after j le h) in
-    elim (cases_order i g) [
-      | inl ei ↦ rw (ei, get_or-insert_at ks g k [] within, insert_above ks g k [] within j (omega arith))
-          (after (j - 1) (omega arith) (omega arith))
-      | inr (inr gt) ↦ rw (insert_above ks g k [] within i gt, insert_above ks g k [] within j (omega arith))
-          (rise (i - 1) (j - 1) (omega arith) (omega arith))
-      | inr (inl li) ↦ rw (get_or-insert_below ks g k [] i li within)
-          (elim (cases_order j g) as (λ _. key_cmp (key_in ks i) (key_in (insert ks g k) j) ≡ Less) [
-            | inl ej ↦ rw (ej, get_or-insert_at ks g k [] within) (gap.smaller_before i li)
-            | inr (inl lj) ↦ rw (get_or-insert_below ks g k [] j lj within) (rise i j lt (omega arith))
-            | inr (inr gj) ↦ rw (insert_above ks g k [] within j gj) (rise i (j - 1) (omega arith) (omega arith))
-          ])
-    ]
+    let here = get_or-insert_at ks g k [] within in
+    let low = λ (i : ℕ) (h : i < g). get_or-insert_below ks g k [] i h within in
+    let high = insert_above ks g k [] within in
+    grind (arith, here, low i, low j, high i, high j, rise i j, rise i (j - 1), rise (i - 1) (j - 1), gap.smaller_before i, after (j - 1))
 
 module _ (ns : List Node) {cs : List (List ℕ)} (ok : IsArena ns cs) (p : ℕ) (hp : p < length ns) (k : Key) (g : ℕ)
     (gap : IsKeyGap (keys_at ns cs p) k g) where
@@ -97,12 +87,11 @@ module _ (ns : List Node) {cs : List (List ℕ)} (ok : IsArena ns cs) (p : ℕ) 
 
   listed : (q i : ℕ) → IsChild new q i → Contains (children_at lists q) i
   listed q i = by_parent (λ x xs. IsChild new x i → Contains xs i)
-      (λ c. elim (cases_eq i (length ns)) [
-        | inl e ↦ subst (Contains (insert (children_at cs p) g (length ns))) (sym e)
-            (Contains-append_right (take g (children_at cs p)) (length ns ∷ drop g (children_at cs p)) (length ns)
-            (0, omega arith, refl))
-        | inr ne ↦ stands_insert (children_at cs p) g (length ns) i (stood p i ne c)
-      ])
+      (λ c. Contains-permutation (length ns ∷ children_at cs p) _ i (IsPermutation-insert (children_at cs p) g (length ns))
+      (elim (cases_eq i (length ns)) [
+        | inl e ↦ (0, omega arith, sym e)
+        | inr ne ↦ Contains-append_right (length ns ∷ []) (children_at cs p) i (stood p i ne c)
+      ]))
       (λ q other c. stood q i (λ e. other (sym c.parent
       ∙ (ap (parent_at new) e ∙ ap (λ (n : Node). n.parent) at_leaf))) c) q
 
@@ -111,19 +100,15 @@ module _ (ns : List Node) {cs : List (List ℕ)} (ok : IsArena ns cs) (p : ℕ) 
     rooted = omega (arith, length_grown);
     root_empty = ap (λ (n : Node). n.bytes) (before 0 ok.rooted) ∙ ok.root_empty;
     root_parent = parent_before 0 ok.rooted ∙ ok.root_parent;
-    parents = λ i pos h. elim (cases_eq i (length ns)) [
-      | inl e ↦ rw e (rw (ap (λ (n : Node). n.parent) at_leaf) hp)
-      | inr ne ↦ let old : i < length ns = omega (arith, length_grown) in
-          rw (parent_before i old) (ok.parents i pos old)
-    ];
+    parents = λ i pos h. grind (arith, length_grown, parent_before i, ok.parents i pos, ap (λ (n : Node). n.parent) at_leaf);
     lists = omega (arith, length_grown, ok.lists, length-set cs p (insert (children_at cs p) g (length ns)), length_push (set cs p (insert (children_at cs p) g (length ns))) []);
     listed = listed;
     children = by_parent (λ q. All (IsChild new q))
         (let xs = children_at cs p in
         let old = All-weaker (IsChild ns p) (IsChild new p) (child_before p) xs (ok.children p) in
         let one : IsChild new p (length ns) = record { not_root = ok.rooted; in_range = omega (arith, length_grown); parent = ap (λ (n : Node). n.parent) at_leaf } in
-        All-append (IsChild new p) (take g xs) (length ns ∷ drop g xs) (All-take (IsChild new p) g xs old)
-        (All-cons (IsChild new p) (length ns) (drop g xs) one (All-drop (IsChild new p) g xs old)))
+        All-permutation (IsChild new p) (length ns ∷ xs) _ (IsPermutation-insert xs g (length ns))
+        (All-cons (IsChild new p) (length ns) xs one old))
         (λ q ne. All-weaker (IsChild ns q) (IsChild new q) (child_before q) (children_at cs q) (ok.children q));
     rise = by_parent (λ q xs. KeysRise (keys_of new xs))
         (subst KeysRise (sym keys_parent) (rise_insert (keys_at ns cs p) k g gap (ok.rise p)))
@@ -131,10 +116,6 @@ module _ (ns : List Node) {cs : List (List ℕ)} (ok : IsArena ns cs) (p : ℕ) 
   }
 
 -- ---- a node that is written
--- The bytes of a node are at most the total of the sums.
-pub bytes_le_total : (ns : List Node) (i : ℕ) → i < length ns → bytes_at ns i ≤ total (sums ns)
-bytes_le_total ns i h = rw (total-grow [] ns) (get_or-le-sum_by (λ (n : Node). n.bytes) ns i no_node h)
-
 -- node i becomes m, with the same key and parent, and with the same bytes if it is the root
 module _ (ns : List Node) {cs : List (List ℕ)} (ok : IsArena ns cs) (i : ℕ) (m : Node) (key : m.key ≡ key_at ns i)
     (parent : m.parent ≡ parent_at ns i) (bytes : 0 ≡ i → m.bytes ≡ bytes_at ns i) where
@@ -147,10 +128,7 @@ module _ (ns : List Node) {cs : List (List ℕ)} (ok : IsArena ns cs) (i : ℕ) 
   pub arena_set : IsArena (set ns i m) cs
   arena_set = record {
     rooted = omega (arith, length_set, ok.rooted);
-    root_empty = elim (cases_eq 0 i) [
-      | inl e ↦ touched (λ n. n.bytes) ns i m (bytes e) 0 ∙ ok.root_empty
-      | inr ne ↦ ap (λ (n : Node). n.bytes) (get_or-set_other ns i 0 m no_node ne) ∙ ok.root_empty
-    ];
+    root_empty = grind (arith, bytes, ok.root_empty, get_or-set_same ns i m no_node, get_or-set_other ns i 0 m no_node, set_past ns i m);
     root_parent = parent_kept 0 ∙ ok.root_parent;
     parents = λ j pj hj. rw (parent_kept j) (ok.parents j pj (omega (arith, length_set)));
     lists = omega (arith, length_set, ok.lists);

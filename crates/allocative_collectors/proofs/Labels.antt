@@ -1,12 +1,12 @@
 -- The sums that an arena stands for, and what one more entry does to a list of sums.
 use Rattle.std.proofs.Common.{◌≡◌, ℕ, zero, suc, ◌+◌, ◌<◌, Bool, List, [], ◌∷◌, ◌++◌, length, get_or, set, map}
-use Rattle.std.proofs.Common.{append_assoc, append-nil, sum_by, refl, sym, ap, ◌∙◌, arith, inl, inr}
+use Rattle.std.proofs.Common.{append_assoc, append-nil, refl, sym, ap, ◌∙◌, arith}
 use Rattle.allocative_collectors.proofs.Common.{Key, Path, Sum, Listed, root_sum, put, path_at, Node, at, sums}
-use Rattle.allocative_collectors.proofs.Common.{children_at, key_at, key_in, keys_at, parent_at, IsArena}
-use Rattle.allocative_collectors.proofs.Common.{IsChild, KeysRise, length-map, get_or_append_left, get_or-map}
-use Rattle.allocative_collectors.proofs.Common.{get_or_default, length_push, same_from_push, sum_by-cons, cases_order}
-use Rattle.allocative_collectors.specs.Listed.{total, raise}
-use Rattle.allocative_collectors.proofs.Keys.{key_not_before}
+use Rattle.allocative_collectors.proofs.Common.{children_at, key_at, key_in, keys_at, parent_at, IsArena, IsChild}
+use Rattle.allocative_collectors.proofs.Common.{length-map, get_or_append_left, get_or-map, tied_itself, get_or_default}
+use Rattle.allocative_collectors.proofs.Common.{length_push, same_from_push}
+use Rattle.allocative_collectors.specs.Listed.{raise}
+use Rattle.allocative_collectors.proofs.Keys.{key_total}
 use Rattle.allocative_collectors.specs.Nodes.{grow, path_from, sum_from}
 
 -- an entry at the place after the last is added at the end
@@ -69,13 +69,6 @@ grow_set ps (k ∷ ns) zero m q n u h is = λ j. is ps j ∷ grow (ps ++ path_of
 grow_set ps (k ∷ ns) (suc i) m q n u h is = ap (λ (t : Listed). sum_from ps k ∷ t)
     (grow_set (ps ++ path_of (sum_from ps k) ∷ []) ns i m q n u (omega arith) is)
 
--- The bytes of the sums of some nodes add up to the bytes of the nodes.
-pub total-grow : (ps : List Path) (ns : List Node) → total (grow ps ns) ≡ sum_by (λ (n : Node). n.bytes) ns
-total-grow ps [] = refl
-total-grow ps (n ∷ ns) =
-    let more = ps ++ path_of (sum_from ps n) ∷ [] in
-    omega (arith, total-grow more ns, sum_by-cons (λ (s : Sum). s.bytes) (sum_from ps n) (grow more ns), sum_by-cons (λ (m : Node). m.bytes) n ns)
-
 -- ---- all nodes
 -- There are as many sums as nodes.
 pub length_sums : (ns : List Node) → length (sums ns) ≡ length ns
@@ -85,15 +78,6 @@ length_sums = length-grow []
 pub root_at : (ns : List Node) → path_at (sums ns) 0 ≡ []
 root_at [] = refl
 root_at (n ∷ ns) = refl
-
--- a key is at one place
-one_place : (ks : List Key) → KeysRise ks → (a b : ℕ) → a < length ks → b < length ks → key_in ks a ≡ key_in ks b →
-    a ≡ b
-one_place ks rise a b ha hb same = elim (cases_order a b) [
-  | inl e ↦ e
-  | inr (inl lt) ↦ absurd (key_not_before _ _ same (rise a b lt hb))
-  | inr (inr gt) ↦ absurd (key_not_before _ _ (sym same) (rise b a gt ha))
-]
 
 -- a path with a key is not the root's
 pub not_nil : (p : Path) (k : Key) (q : Path) → p ++ k ∷ q ≡ [] → ⊥
@@ -117,34 +101,30 @@ module _ (ns : List Node) {cs : List (List ℕ)} (ok : IsArena ns cs) where
       (omega (arith, length-map (children_at cs p) (key_at ns), a.1), get_or-map (key_at ns) (children_at cs p) a.0 i [] a.1 ∙ ap (key_at ns) a.2)
 
   -- two children of one parent with one key are one
-  one_child : (p i j : ℕ) → IsChild ns p i → IsChild ns p j → key_at ns i ≡ key_at ns j → i ≡ j
-  one_child p i j ci cj keys =
-      let xs = children_at cs p in
-      let x = ok.listed p i ci in
-      let y = ok.listed p j cj in
+  one_child : (i j : ℕ) → 0 < i → i < length ns → 0 < j → j < length ns → parent_at ns i ≡ parent_at ns j →
+      key_at ns i ≡ key_at ns j → i ≡ j
+  one_child i j pi hi pj hj parents keys =
+      let p = parent_at ns j in
+      let ci : IsChild ns p i = record { not_root = pi; in_range = hi; parent = parents } in
+      let cj : IsChild ns p j = record { not_root = pj; in_range = hj; parent = refl } in
       let a = key_place p i ci in
       let b = key_place p j cj in
-      let place = one_place (keys_at ns cs p) (ok.rise p) _ _ a.0 b.0 (a.1 ∙ (keys ∙ sym b.1)) in
-      sym x.2 ∙ (get_or_default xs x.0 i j x.1 ∙ (ap (λ (q : ℕ). get_or xs q j) place ∙ y.2))
+      let x = ok.listed p i ci in
+      let y = ok.listed p j cj in
+      let place : x.0 ≡ y.0 =
+      grind (arith, ok.rise p x.0 y.0, ok.rise p y.0 x.0, tied_itself key_total (key_at ns i), a, b, keys) in
+      let same = get_or_default (children_at cs p) x.0 i j x.1 in
+      cc
 
   distinct_below : (n i j : ℕ) → i < n → i < length ns → j < length ns → path_at (sums ns) i ≡ path_at (sums ns) j →
       i ≡ j
   distinct_below zero i j lt hi hj e = absurd (omega arith)
-  distinct_below (suc n) zero zero lt hi hj e = refl
-  distinct_below (suc n) zero (suc j) lt hi hj e =
-      absurd (not_nil _ _ _ (sym (step (suc j) (omega arith) hj) ∙ (sym e ∙ root_at ns)))
-  distinct_below (suc n) (suc i) zero lt hi hj e =
-      absurd (not_nil _ _ _ (sym (step (suc i) (omega arith) hi) ∙ (e ∙ root_at ns)))
-  distinct_below (suc n) (suc i) (suc j) lt hi hj e =
-      let pi = ok.parents (suc i) (omega arith) hi in
-      let pj = ok.parents (suc j) (omega arith) hj in
-      let parts = same_from_push _ _ _ _ (sym (step (suc i) (omega arith) hi) ∙ (e ∙ step (suc j) (omega arith) hj)) in
-      let parents : parent_at ns (suc i) ≡ parent_at ns (suc j) =
-      distinct_below n (parent_at ns (suc i)) (parent_at ns (suc j)) (omega arith) (omega arith) (omega arith)
-      parts.0 in
-      one_child (parent_at ns (suc j)) (suc i) (suc j)
-      (record { not_root = omega arith; in_range = hi; parent = parents })
-      (record { not_root = omega arith; in_range = hj; parent = refl }) parts.1
+  distinct_below (suc n) i j lt hi hj e =
+      let up = λ (j : ℕ) (pos : 0 < j) (h : j < length ns). not_nil (path_at (sums ns) (parent_at ns j)) (key_at ns j) [] in
+      let last = same_from_push (path_at (sums ns) (parent_at ns i)) (path_at (sums ns) (parent_at ns j)) (key_at ns i)
+      (key_at ns j) in
+      let before = distinct_below n (parent_at ns i) (parent_at ns j) in
+      grind (arith, root_at ns, step i, step j, up i, up j, ok.parents i, ok.parents j, last, before, one_child i j)
 
   -- no two nodes have one path
   pub distinct : (i j : ℕ) → i < length ns → j < length ns → path_at (sums ns) i ≡ path_at (sums ns) j → i ≡ j

@@ -1,26 +1,26 @@
 -- What the walk of `build_graph` has passed behind a node's path, child by child: the rows of the map, and the graph that it
 -- has made.
 use Rattle.std.proofs.Common.{◌≡◌, ◌≢◌, ℕ, zero, suc, ◌<◌, ◌≤◌, Bool, true, false, cond, T, ◌&&◌, ◌||◌, List, [], ◌∷◌}
-use Rattle.std.proofs.Common.{◌++◌, length, Option, Some, None, refl, sym, ap, subst, ◌∙◌, arith, inl, inr, true≢false}
-use Rattle.std.proofs.Common.{append_assoc, ◌+◌, map, flat_map, get_or, unwrap_or, sum_by, append-nil, add-zero}
-use Rattle.std.proofs.Common.{zero-add, subst₂}
-use Rattle.allocative_collectors.proofs.Common.{Ordering, Less, is_eq, is_lt, ordering_then, Key, Path, key_cmp}
-use Rattle.allocative_collectors.proofs.Common.{path_cmp, key_in, KeysRise, is_same_path, is_one_below, Sums, Graph}
-use Rattle.allocative_collectors.proofs.Common.{graph, sum_of, under, default, add_self, get, entries, sums}
-use Rattle.allocative_collectors.proofs.Common.{IsTree, Listed, row, sum_at, path_at, map_of, below, bytes_entered}
-use Rattle.allocative_collectors.proofs.Common.{children_at, keys_at, IsArena, key_at, no_node, size_at_place, get_or-map, get_or_default}
-use Rattle.allocative_collectors.proofs.Common.{ordering_reverse, tied_itself, cases_eq, cond-true, cond-false}
-use Rattle.allocative_collectors.proofs.Common.{false_from_ne_true, MakesPart, MakesGraph, rows_behind, is_short}
-use Rattle.allocative_collectors.proofs.Common.{tied_then, flat_map-append, sum_by-cons, ComesLast, numbers, Children}
+use Rattle.std.proofs.Common.{◌++◌, length, Option, Some, None, refl, sym, ap, subst, ◌∙◌, arith, true≢false}
+use Rattle.std.proofs.Common.{append_assoc, ◌+◌, map, flat_map, get_or, sum_by, append-nil, subst₂}
+use Rattle.allocative_collectors.proofs.Common.{Ordering, Less, is_eq, is_lt, Key, Path, key_cmp, path_cmp, key_in}
+use Rattle.allocative_collectors.proofs.Common.{KeysRise, is_same_path, is_one_below, Sums, Graph, graph, sum_of, under}
+use Rattle.allocative_collectors.proofs.Common.{default, add_self, get, entries, sums, IsTree, Listed, row, sum_at}
+use Rattle.allocative_collectors.proofs.Common.{path_at, map_of, below, bytes_entered, children_at, keys_at, IsArena}
+use Rattle.allocative_collectors.proofs.Common.{key_at, no_node, size_at_place, get_or-map, get_or_default}
+use Rattle.allocative_collectors.proofs.Common.{ordering_reverse, tied_itself, MakesPart, MakesGraph, rows_behind}
+use Rattle.allocative_collectors.proofs.Common.{is_short, tied_then, flat_map-append, sum_by-cons, ComesLast, numbers}
+use Rattle.allocative_collectors.proofs.Common.{Children}
 use Rattle.std.specs.FinMap.{FinMap, entries_sorted, find, get-entries, get-insert}
 use Rattle.std.specs.FinMap.Entries.{is_sorted, below_all, is_sorted-where_key, find-where_key, same_entries}
 use Rattle.std.specs.List.{filter}
-use Rattle.std.proofs.lemmas.Bool.{and_parts, or_cases, or_left, or_right, cases_Bool, cond_both}
+use Rattle.std.proofs.lemmas.Bool.{cond_both}
 use Rattle.std.proofs.Math.Facts.{and_yes}
 use Rattle.std.proofs.Math.Bool.{and-true, and-or_distrib_left}
 use Rattle.allocative_graph.proofs.Basics.{path_total, path_antisymmetric, same_path, is_eq-Equal}
 use Rattle.allocative_collectors.specs.Warned.{behind}
-use Rattle.allocative_collectors.proofs.Keys.{key_total, key_same, key_not_before}
+use Rattle.allocative_collectors.proofs.Keys.{key_total, key_same}
+use Rattle.allocative_collectors.proofs.Common.{nat_tests}
 use Rattle.std.proofs.lemmas.List.Filters.{sum_by-filter_both}
 use Rattle.std.proofs.lemmas.List.Sums.{sum_by-append, sum_by-le-sum_by}
 use Rattle.allocative_graph.specs.Graph.{total, remaining, warned, size_at, Warned}
@@ -28,9 +28,8 @@ use Rattle.allocative_graph.specs.Sums.{Node}
 use Rattle.allocative_graph.proofs.Showings.{get-sum_of}
 use Rattle.allocative_graph.proofs.Graphs.{sizes_together, get-under, get-under-root, get-default, total-sum_of}
 use Rattle.allocative_graph.proofs.Graphs.{total-under, total-add_at, total-default}
-use Rattle.std.specs.Option.{is_some}
 use Rattle.allocative_collectors.specs.declared.tree.Node as nodes
-use Rattle.allocative_collectors.proofs.Entries.{IsListing, graph_hit, graph_none, get_at, get_none, nothing_left}
+use Rattle.allocative_collectors.proofs.Entries.{IsListing, graph_hit, graph_none, get_at, get_none}
 use Rattle.allocative_collectors.proofs.Labels.{length_sums, step}
 use Rattle.allocative_collectors.proofs.NodeReads.{on_way, in_nodes, listing}
 
@@ -50,20 +49,14 @@ among ks (suc j) l = among ks j l || same_key l (key_in ks j)
 -- The key at a place before j is among the first j keys.
 among_at : (ks : List Key) (a j : ℕ) (l : Key) → a < j → key_in ks a ≡ l → among ks j l ≡ true
 among_at ks a zero l h e = absurd (omega arith)
-among_at ks a (suc j) l h e = elim (cases_eq a j) [
-  | inl same ↦ or_right (among ks j l) _ (ap (same_key l) (ap (key_in ks) (sym same) ∙ e)
-      ∙ ap is_eq (tied_itself key_total l))
-  | inr other ↦ or_left _ _ (among_at ks a j l (omega arith) e)
-]
+among_at ks a (suc j) l h e = grind (arith, among_at ks a j l, tied_itself key_total l)
 
 -- If keys rise, one of the first j keys comes before the key at any place from j on.
 among_before : (ks : List Key) → KeysRise ks → (i j : ℕ) (l : Key) → i < length ks → j ≤ i → among ks j l ≡ true →
     key_cmp l (key_in ks i) ≡ Less
 among_before ks rise i zero l hi le h = absurd (true≢false (sym h))
-among_before ks rise i (suc j) l hi le h = elim (or_cases (among ks j l) _ h) [
-  | inl before ↦ among_before ks rise i j l hi (omega arith) before
-  | inr same ↦ rw (same_key_is l (key_in ks j) same) (rise j i (omega arith) hi)
-]
+among_before ks rise i (suc j) l hi le h =
+    grind (arith, among_before ks rise i j l hi, same_key_is l (key_in ks j), rise j i)
 
 -- ---- paths
 -- the empty path, and those that begin with one of the first j keys
@@ -77,19 +70,14 @@ behind_same : {X : Type 0} (p : Path) (t u : Path → Bool) (f : Path → Option
     → cond (behind p t q) (f q) None ≡ cond (behind p u q) (f q) None
 behind_same [] t u f same q = same q
 behind_same (k ∷ p) t u f same [] = refl
-behind_same (k ∷ p) t u f same (l ∷ q) = elim (cases_Bool (same_key l k)) [
-  | inl e ↦ rw e (subst (λ (x : Key). cond (behind p t q) (f (x ∷ q)) None ≡ cond (behind p u q) (f (x ∷ q)) None)
-      (sym (same_key_is l k e)) (behind_same p t u (λ r. f (k ∷ r)) same q))
-  | inr e ↦ rw e refl
-]
+behind_same (k ∷ p) t u f same (l ∷ q) = grind (arith, same_key_is l k, behind_same p t u (λ r. f (k ∷ r)) same q)
 
 -- Before the first child, the walk has passed only the path p itself.
 behind_own : (p : Path) (ks : List Key) (q : Path) → behind p (begun ks 0) q ≡ is_same_path q p
 behind_own [] ks [] = refl
 behind_own [] ks (l ∷ q) = refl
 behind_own (k ∷ p) ks [] = refl
-behind_own (k ∷ p) ks (l ∷ q) = ap (λ (b : Bool). same_key l k && b) (behind_own p ks q)
-    ∙ tied_then (key_cmp l k) (path_cmp q p)
+behind_own (k ∷ p) ks (l ∷ q) = grind (arith, behind_own p ks q, tied_then (key_cmp l k) (path_cmp q p))
 
 -- one child more
 behind_more : (p : Path) (ks : List Key) (j : ℕ) (q : Path) →
@@ -104,18 +92,14 @@ behind_more (k ∷ p) ks j (l ∷ q) = ap (λ (b : Bool). same_key l k && b) (be
 module _ (ks : List Key) (rise : KeysRise ks) (j : ℕ) (hj : j < length ks) where
   passed_before : (p a b : Path) → behind p (begun ks j) a ≡ true →
       behind (p ++ key_in ks j ∷ []) (λ r. true) b ≡ true → path_cmp a b ≡ Less
-  passed_before [] [] [] ha hb = absurd (true≢false (sym hb))
+  passed_before [] a [] ha hb = absurd (true≢false (sym hb))
   passed_before [] [] (m ∷ b) ha hb = refl
-  passed_before [] (l ∷ a) [] ha hb = absurd (true≢false (sym hb))
   passed_before [] (l ∷ a) (m ∷ b) ha hb =
-      rw (same_key_is m (key_in ks j) (and_parts _ _ hb).0)
-      (ap (λ (o : Ordering). ordering_then o (path_cmp a b)) (among_before ks rise j j l hj (omega arith) ha))
+      grind (arith, ha, hb, same_key_is m (key_in ks j), among_before ks rise j j l hj)
   passed_before (k ∷ p) [] b ha hb = absurd (true≢false (sym ha))
   passed_before (k ∷ p) (l ∷ a) [] ha hb = absurd (true≢false (sym hb))
   passed_before (k ∷ p) (l ∷ a) (m ∷ b) ha hb =
-      let x = and_parts (same_key l k) _ ha in
-      let y = and_parts (same_key m k) _ hb in
-      rw (same_key_is l k x.0, same_key_is m k y.0, tied_itself key_total k) (passed_before p a b x.1 y.1)
+      grind (arith, ha, hb, same_key_is l k, same_key_is m k, tied_itself key_total k, passed_before p a b)
 
 -- ---- rows in the order of paths
 -- If p comes before q, q does not come before p.
@@ -143,8 +127,8 @@ module _ {X : Type 0} where
   none_kept t u p [] before h below = refl
   none_kept t u p (e ∷ es) before h below =
       let parts = and_yes (is_lt (path_cmp p e.0)) _ below in
-      rw (false_from_ne_true (t e.0) (λ hit. not_before e.0 p (before e.0 p hit h) parts.0))
-      (none_kept t u p es before h parts.1)
+      let other = λ (hit : t e.0 ≡ true). not_before e.0 p (before e.0 p hit h) parts.0 in
+      grind (arith, other, none_kept t u p es before h parts.1)
 
   -- rows that pass one of two tests, if those that pass the first are before those that pass the second
   kept_both : (t u v : Path → Bool) → ((q : Path) → v q ≡ (t q || u q)) →
@@ -155,16 +139,9 @@ module _ {X : Type 0} where
   kept_both t u v both before (e ∷ es) s =
       let parts = and_yes (below_all path_cmp e.0 es) _ s in
       let rest = kept_both t u v both before es parts.1 in
-      elim (cases_Bool (t e.0)) [
-        | inl hit ↦
-            let other = false_from_ne_true (u e.0) (λ h. let less = before e.0 e.0 hit h in
-            not_before e.0 e.0 less (subst (λ (o : Ordering). T (is_lt o)) (sym less) tt)) in
-            rw (both e.0, hit, other) (ap (λ (rs : List (Path × X)). e ∷ rs) rest)
-        | inr miss ↦ elim (cases_Bool (u e.0)) [
-          | inl found ↦ rw (both e.0, miss, found, rest, none_kept t u e.0 es before found parts.0) refl
-          | inr missed ↦ rw (both e.0, miss, missed) rest
-        ]
-      ]
+      let none = λ (found : u e.0 ≡ true). none_kept t u e.0 es before found parts.0 in
+      let once = λ (hit : t e.0 ≡ true) (h : u e.0 ≡ true). before e.0 e.0 hit h in
+      grind (arith, both e.0, rest, none, once, tied_itself path_total e.0)
 
 -- ---- the rows of a map
 -- the rows behind p stay the same if the test passes other paths but no other of the map
@@ -179,32 +156,15 @@ rows_same m p t u same = kept_are (behind p t) m (kept (behind p u) (entries m))
 -- before the first child there is the row of p itself
 module _ {X : Type 0} (m : FinMap path_cmp X) (p : Path) (ks : List Key) where
   rows_none : get m p ≡ None → kept (behind p (begun ks 0)) (entries m) ≡ []
-  rows_none w = kept_are (behind p (begun ks 0)) m [] tt
-      (λ q. rw (behind_own p ks q) (elim (cases_Bool (is_same_path q p)) [
-        | inl e ↦ cond-true _ _ _ e ∙ (ap (get m) (same_path q p e) ∙ w)
-        | inr e ↦ cond-false _ _ _ e
-      ]))
+  rows_none w = kept_are (behind p (begun ks 0)) m [] tt (λ q. grind (arith, behind_own p ks q, same_path q p, w))
 
   rows_one : (x : X) → get m p ≡ Some x → kept (behind p (begun ks 0)) (entries m) ≡ (p, x) ∷ []
   rows_one x w = kept_are (behind p (begun ks 0)) m ((p, x) ∷ []) tt
-      (λ q. rw (behind_own p ks q) (elim (cases_Bool (is_same_path q p)) [
-        | inl e ↦ rw e (ap (get m) (same_path q p e) ∙ w)
-        | inr e ↦ rw e refl
-      ]))
+      (λ q. grind (arith, behind_own p ks q, same_path q p, w))
 
 -- ---- sizes
 abbrev size_in : Listed → Path × Node → ℕ
 size_in s e = remaining (map_of s) e.0 e.1
-
--- sizes that pass one of two tests, but not both
-one_of : (a b : Bool) (x y : Option ℕ) → (b ≡ true → (a ≡ false) × (y ≡ x)) →
-    sizes_together (cond a x None) (cond b y None) ≡ cond (a || b) x None
-one_of true true x y h = absurd (true≢false (h refl).0)
-one_of true false None y h = refl
-one_of true false (Some n) y h = ap Some (add-zero n)
-one_of false true x None h = (h refl).1
-one_of false true x (Some n) h = ap Some (zero-add n) ∙ (h refl).1
-one_of false false x y h = refl
 
 -- the sizes that were found are within the bytes of all entries
 rows_fit : (s : Listed) (p : Path) (t : Path → Bool) → sum_by (size_in s) (rows_behind s p t) ≤ bytes_entered (map_of s)
@@ -236,7 +196,7 @@ module _ (s : Listed) (ok : IsListing s) where
   own_row zero h ks =
       let e = sum_at s 0 in
       let none = get_none s (path_at s 0) (λ i pos hi w. (let same = ok.apart i 0 hi h w in omega arith)) in
-      rw (rows_none (map_of s) (path_at s 0) ks none) (sym (nothing_left e.is_unique e.bytes _ ok.root_bytes), sym (ap (λ (p : Path). warned (map_of s) (p, (row e).1)) ok.root_path))
+      rw (rows_none (map_of s) (path_at s 0) ks none) (grind (arith, nat_tests, ok.root_bytes), sym (ap (λ (p : Path). warned (map_of s) (p, (row e).1)) ok.root_path))
   own_row (suc i) h ks =
       let e = row (sum_at s (suc i)) in
       rw (rows_one (map_of s) e.0 ks e.1 (get_at s ok (suc i) (omega arith) h))
@@ -261,10 +221,7 @@ module _ (s : Listed) (ok : IsListing s) where
             (size_at default [] + size_at_place s i) q
 
         graph_is : (q : Path) → get g q ≡ cond (begun ks 0 q) (get (graph (map_of s)) (path_at s i ++ q)) None
-        graph_is [] =
-            let nothing : size_at default [] ≡ 0 = ap (λ (o : Option ℕ). unwrap_or o 0) (get-default []) in
-            sizes [] ∙ (ap Some (omega arith) ∙ sym (ap (get (graph (map_of s))) (append-nil (path_at s i))
-            ∙ graph_hit s ok i hi))
+        graph_is [] = grind (arith, sizes [], get-default [], append-nil (path_at s i), graph_hit s ok i hi)
         graph_is (k ∷ r) = sizes (k ∷ r) ∙ get-default (k ∷ r)
 
     -- one child more
@@ -304,28 +261,15 @@ module _ (s : Listed) (ok : IsListing s) where
 
           by : (q : Path) → sizes_together (get g q) (get (under k d) q)
               ≡ cond (begun ks (suc j) q) (get (graph (map_of s)) (p ++ q)) None
-          by [] =
-              let own = part.graph_is [] ∙ (ap (get (graph (map_of s))) (append-nil p) ∙ graph_hit s ok i hi) in
-              (λ x. sizes_together (own x) (get-under-root k d x))
-              ∙ (ap Some (omega arith) ∙ (sym own ∙ part.graph_is []))
+          by [] = grind (arith, part.graph_is [], get-under-root k d, append-nil p, graph_hit s ok i hi)
           by (l ∷ r) =
-              (λ x. sizes_together (part.graph_is (l ∷ r) x) (get-under k d l r x))
-              ∙ one_of (among ks j l) (same_key l k) _ _ (λ e.
-              let same = same_key_is l k e in (
-                false_from_ne_true (among ks j l) (λ earlier. key_not_before l k same
-                    (among_before ks rise j j l hj (omega arith) earlier)),
-                child.graph_is r ∙ ap (get (graph (map_of s)))
-                    (append_assoc p (k ∷ []) r ∙ ap (λ (x : Key). p ++ x ∷ r) (sym same)),
-              ))
+              grind (arith, part.graph_is (l ∷ r), get-under k d l r, child.graph_is r, same_key_is l k, among_before ks rise j j l hj, append_assoc p (k ∷ []) r)
 
 -- the next key comes after those of the graph so far
 pub comes_last : {s : Listed} {p : Path} {w w' : List Warned} {g : Graph} (ks : List Key) → KeysRise ks → (j : ℕ) →
     j < length ks → MakesPart s p (begun ks j) w w' g → ComesLast g (key_in ks j)
-comes_last {s} {p} ks rise j hj part l q there = elim (cases_Bool (among ks j l)) [
-  | inl e ↦ among_before ks rise j j l hj (omega arith) e
-  | inr e ↦ absurd (true≢false (sym there ∙ ap is_some
-      (part.graph_is (l ∷ q) ∙ ap (λ (b : Bool). cond b (get (graph (map_of s)) (p ++ l ∷ q)) None) e)))
-]
+comes_last {s} {p} ks rise j hj part l q there =
+    grind (arith, part.graph_is (l ∷ q), there, among_before ks rise j j l hj)
 
 -- ---- at the nodes
 module _ (ns : List nodes.Node) {cs : List (List ℕ)} (ok : IsArena ns cs) (i : ℕ) (hi : i < length ns) where
@@ -335,11 +279,12 @@ module _ (ns : List nodes.Node) {cs : List (List ℕ)} (ok : IsArena ns cs) (i :
       → cond (begun (keys_at ns cs i) (length (keys_at ns cs i)) r) (f (path_at (sums ns) i ++ r)) None
       ≡ f (path_at (sums ns) i ++ r)
   passed_all f none [] = refl
-  passed_all f none (k ∷ r) = elim (cases_Bool (among (keys_at ns cs i) (length (keys_at ns cs i)) k)) [
-    | inl e ↦ rw e refl
-    | inr e ↦ rw e (sym (none _ (λ a h path. let way = on_way ns ok i hi k (suc a) a (omega arith) (omega (arith, length_sums ns)) r path in
-        true≢false (sym (among_at (keys_at ns cs i) way.0 _ k way.1 way.2) ∙ e))))
-  ]
+  passed_all f none (k ∷ r) =
+      let ks = keys_at ns cs i in
+      let missing = λ (e : among ks (length ks) k ≡ false). none _ (λ a h path.
+      let way = on_way ns ok i hi k (suc a) a (omega arith) (omega (arith, length_sums ns)) r path in
+      true≢false (sym (among_at ks way.0 _ k way.1 way.2) ∙ e)) in
+      grind (arith, missing)
 
   part_all : (w w' : List Warned) (g : Graph) →
       MakesPart (sums ns) (path_at (sums ns) i) (begun (keys_at ns cs i) (length (keys_at ns cs i))) w w' g →
@@ -354,7 +299,7 @@ module _ (ns : List nodes.Node) {cs : List (List ℕ)} (ok : IsArena ns cs) (i :
         total_is = part.total_is ∙ ap (sum_by (size_in (sums ns))) same;
       }
 
-module _ (items : List nodes.Node) {lists : List Children} (ok : IsTree items lists) {v : Listed}
+module _ {items : List nodes.Node} {lists : List Children} (ok : IsTree items lists) {v : Listed}
     (view : sums items ≡ v) (p : ℕ) where
   abbrev keys : List Key
   keys = keys_at items (map numbers lists) p

@@ -1,39 +1,33 @@
 -- What a read of a node says of the arena and the sums, and what a search among its children says.
 use Rattle.std.proofs.Common.{◌≡◌, ◌≢◌, ℕ, zero, suc, ◌<◌, false, List, [], ◌∷◌, ◌++◌, length, sym, ap, subst, ◌∙◌}
-use Rattle.std.proofs.Common.{arith, inl, inr, refl, append_assoc, map, Bool, not, ◌&&◌, get_or, sum_by, cond, ltb}
-use Rattle.std.proofs.Common.{lt-ltb, ◌+◌, ◌≤◌, ◌||◌, set, length-set, get_or-set_same, get_or-set_other}
-use Rattle.allocative_collectors.proofs.Common.{Equal, Key, Path, key_cmp, path_at, IsEntered, Listed, root_sum, Node, put}
-use Rattle.allocative_collectors.proofs.Common.{leaf, sums, keys_at, key_in, key_at, parent_at, IsChild, IsArena}
-use Rattle.allocative_collectors.proofs.Common.{IsKeyGap, path_cmp, is_same_path, Sum, sum_at, map_of, no_node, at}
-use Rattle.allocative_collectors.proofs.Common.{bytes_at, is_one_below, is_root, below, children_at, get_or_default}
+use Rattle.std.proofs.Common.{arith, refl, append_assoc, map, Bool, not, get_or, sum_by, cond, ltb, sum, lt-ltb, ◌+◌}
+use Rattle.std.proofs.Common.{◌≤◌, ◌||◌, set, length-set, get_or-set_same, get_or-set_other}
+use Rattle.allocative_collectors.proofs.Common.{nat_tests, common_steps, Key, Path, path_at, IsEntered, Listed}
+use Rattle.allocative_collectors.proofs.Common.{root_sum, Node, put, leaf, sums, keys_at, key_in, key_at, parent_at}
+use Rattle.allocative_collectors.proofs.Common.{IsChild, IsArena, IsKeyGap, is_same_path, Sum, sum_at, map_of, no_node}
+use Rattle.allocative_collectors.proofs.Common.{at, bytes_at, is_one_below, is_root, below, children_at, get_or_default}
 use Rattle.allocative_collectors.proofs.Common.{IsTree, length-map, get_or-map, get_or_push, length_push}
-use Rattle.allocative_collectors.proofs.Common.{same_from_push, tied_itself, cases_lt, cases_eq, cond-true, cond-false}
-use Rattle.allocative_collectors.proofs.Common.{sum_by-cons, Children, numbers, tied_then}
+use Rattle.allocative_collectors.proofs.Common.{same_from_push, tied_itself, cond-false, entries, bytes_entered}
+use Rattle.allocative_collectors.proofs.Common.{sum_by-cons, Children, numbers}
 use Rattle.std.proofs.lemmas.List.{map-set, map_push}
 use Rattle.std.proofs.Math.Seq.{map-set_same}
-use Rattle.std.proofs.lemmas.Cmp.{eq_by_cmp_equiv}
-use Rattle.allocative_collectors.proofs.Keys.{key_total, key_not_before, same_path-same, same_path-apart}
+use Rattle.allocative_graph.proofs.Sums.{one_below_is}
+use Rattle.allocative_collectors.proofs.Keys.{key_total, same_path-same, same_path-apart, map_same}
 use Rattle.allocative_collectors.proofs.Entries.{put_nothing, raise_nothing, IsListing, below_listed, not_below_root}
-use Rattle.allocative_collectors.proofs.Labels.{path_of, path_from-some, grow_push, grow_set, put_push, length_sums, not_nil}
-use Rattle.allocative_collectors.proofs.Labels.{root_at, step, key_place, distinct, figures-grow}
-use Rattle.allocative_collectors.proofs.Grown.{grown, arena_set, bytes_le_total, with_child}
-use Rattle.std.specs.Ordering.{eq_by_cmp}
-use Rattle.std.proofs.Math.Bool.{and-false}
-use Rattle.std.proofs.lemmas.List.Sums.{sum_by-set, sum_by-le}
+use Rattle.allocative_collectors.proofs.Entries.{get_at, found_fits}
+use Rattle.allocative_collectors.proofs.Labels.{path_of, path_from-some, grow_push, grow_set, put_push, length_sums}
+use Rattle.allocative_collectors.proofs.Labels.{not_nil, root_at, step, key_place, distinct, figures-grow}
+use Rattle.allocative_collectors.proofs.Grown.{grown, arena_set, with_child}
+use Rattle.std.specs.FinMap.{get-entries}
+use Rattle.std.proofs.lemmas.List.Sums.{sum_by-set, sum_by-le, sum-map}
 use Rattle.std.specs.List.{insert}
 use Rattle.allocative_collectors.specs.Nodes.{sum_from}
-use Rattle.allocative_collectors.specs.Listed.{total}
 
 -- ---- what a search among a node's children says
 -- at a gap no child has the key
 gap_none : (ks : List Key) (k : Key) (g : ℕ) → IsKeyGap ks k g → (j : ℕ) → j < length ks → key_in ks j ≡ k → ⊥
 gap_none ks k g gap j h e =
-    let tied : key_cmp (key_in ks j) k ≡ Equal =
-    subst (λ (x : Key). key_cmp (key_in ks j) x ≡ Equal) e (tied_itself key_total (key_in ks j)) in
-    elim (cases_lt j g) [
-      | inl lt ↦ let less = gap.smaller_before j lt in cc
-      | inr ge ↦ let more = gap.greater_after j ge h in cc
-    ]
+    grind (arith, tied_itself key_total (key_in ks j), gap.smaller_before j, gap.greater_after j)
 
 -- a nonempty path is a beginning and a last key
 last_of : (k : Key) (q : Path) → (q' : Path) × (l : Key) × (k ∷ q ≡ q' ++ l ∷ [])
@@ -82,13 +76,6 @@ module _ (ns : List Node) {cs : List (List ℕ)} (ok : IsArena ns cs) (p : ℕ) 
       (same_from_push _ _ _ _ (sym (step ns ok (suc i) (omega arith) hi) ∙ (e ∙ split))).0
 
   module _ (g : ℕ) (gap : IsKeyGap (keys_at ns cs p) k g) where
-    -- the path of a key in a gap was not entered before
-    path_new : (i : ℕ) → i < length (sums ns) → path_at (sums ns) i ≢ path_at (sums ns) p ++ k ∷ []
-    path_new i h e =
-        let child = child_of i (omega (arith, length_sums ns)) e in
-        let place = key_place ns ok p i child.0 in
-        gap_none (keys_at ns cs p) k g gap _ place.0 (place.1 ∙ child.1)
-
     -- an entry of 0 bytes at a new child
     pub now_entered : IsEntered (sums ns) (sums (grown ns p k)) p k 0 false (length ns)
     now_entered =
@@ -103,28 +90,16 @@ module _ (ns : List Node) {cs : List (List ℕ)} (ok : IsArena ns cs) (p : ℕ) 
           within = omega (arith, length_sums (grown ns p k), length_push ns (leaf p k));
           path = ap (λ (s : Listed). path_at s (length ns)) all
               ∙ ap path_of (get_or_push (sums ns) _ root_sum (length ns) (length_sums ns));
-          sole = λ j h e. absurd (path_new j h e);
+          sole = λ j h e. let child = child_of j (omega (arith, length_sums ns)) e in
+              let place = key_place ns ok p j child.0 in
+              absurd (gap_none (keys_at ns cs p) k g gap _ place.0 (place.1 ∙ child.1));
         }
 
 -- ---- the bytes of a node's children are those one key below its path
 -- two sums are equal if their terms are
 same_sum : (f g : ℕ → ℕ) (xs : List ℕ) → ((i : ℕ) → i < length xs → f (get_or xs i 0) ≡ g (get_or xs i 0)) →
     sum_by f xs ≡ sum_by g xs
-same_sum f g [] same = refl
-same_sum f g (x ∷ xs) same =
-    let rest = same_sum f g xs (λ i h. same (suc i) (omega arith)) in
-    let first : f x ≡ g x = same 0 (omega arith) in
-    omega (arith, sum_by-cons f x xs, sum_by-cons g x xs)
-
--- The path q with one more key is one key below p exactly if q is p.
-step_push : (p q : Path) (k : Key) → is_one_below p (q ++ k ∷ []) ≡ is_same_path q p
-step_push [] [] k = refl
-step_push [] (l ∷ []) k = refl
-step_push [] (l ∷ m ∷ q) k = refl
-step_push (j ∷ p) [] k = ap (λ (b : Bool). eq_by_cmp key_cmp j k && b) (not_below_root p)
-    ∙ and-false (eq_by_cmp key_cmp j k)
-step_push (j ∷ p) (l ∷ q) k = (λ i. (eq_by_cmp_equiv key_total).symm j l i && step_push p q k i)
-    ∙ tied_then (key_cmp l j) (path_cmp q p)
+same_sum f g xs same = sym (sum-map f xs) ∙ (ap sum (map_same f g xs same) ∙ sum-map g xs)
 
 -- The sums of an arena are a listing: the root comes first and has no bytes, and all paths differ.
 pub listing : (ns : List Node) {cs : List (List ℕ)} → IsArena ns cs → IsListing (sums ns)
@@ -156,10 +131,8 @@ sum_at_numbers f d none ys (x ∷ xs) within apart others =
     let more = sum_at_numbers f d none rest xs
     (λ a h. let lt : get_or xs a 0 < length ys = within (suc a) (omega arith) in omega arith)
     (λ a b lt h. apart (suc a) (suc b) (omega arith) (omega arith))
-    (λ i h absent. elim (cases_eq i x) [
-      | inl e ↦ ap f (ap (λ (q : ℕ). get_or rest q d) e ∙ get_or-set_same ys x d d hx) ∙ none
-      | inr ne ↦ ap f (get_or-set_other ys x i d d ne) ∙ others i (omega arith) (missing x xs i ne absent)
-    ]) in
+    (λ i h absent. let old = λ (ne : i ≢ x). others i (omega arith) (missing x xs i ne absent) in
+    grind (arith, none, get_or-set_same ys x d d hx, get_or-set_other ys x i d d, old)) in
     omega (arith, sum_by-cons (λ i. f (get_or ys i d)) x xs, sum_by-set f ys x d d hx, none, same, more)
   where
     missing : (x : ℕ) (xs : List ℕ) (i : ℕ) → i ≢ x → ((a : ℕ) → a < length xs → get_or xs a 0 ≢ i) → (a : ℕ) →
@@ -174,30 +147,30 @@ module _ (ns : List Node) {cs : List (List ℕ)} (ok : IsArena ns cs) (i : ℕ) 
 
   -- a node other than the root has a part if its parent is i
   part_is : (j : ℕ) → 0 < j → j < length ns →
-      part (sum_at (sums ns) j) ≡ cond (is_same_path (path_at (sums ns) (parent_at ns j)) (path_at (sums ns) i))
+      part (sum_at (sums ns) j) ≡ cond (is_same_path (path_at (sums ns) i) (path_at (sums ns) (parent_at ns j)))
       (bytes_at ns j) 0
   part_is j pos h =
       (λ k. cond (is_one_below (path_at (sums ns) i) (step ns ok j pos h k)) ((figures-grow [] ns j).0 k) 0)
       ∙ ap (λ (b : Bool). cond b (bytes_at ns j) 0)
-      (step_push (path_at (sums ns) i) (path_at (sums ns) (parent_at ns j)) (key_at ns j))
+      (one_below_is (path_at (sums ns) i) (path_at (sums ns) (parent_at ns j)) (key_at ns j))
 
   part_child : (j : ℕ) → IsChild ns i j → part (sum_at (sums ns) j) ≡ bytes_at ns j
-  part_child j c = part_is j c.not_root c.in_range
-      ∙ cond-true _ _ _ (same_path-same _ _ (ap (path_at (sums ns)) c.parent))
+  part_child j c =
+      grind (arith, part_is j c.not_root c.in_range, c.parent, same_path-same (path_at (sums ns) i) (path_at (sums ns) i))
 
   part_other : (j : ℕ) → j < length ns → (IsChild ns i j → ⊥) → part (sum_at (sums ns) j) ≡ 0
   part_other zero h not = ap (λ (b : Bool). cond b (sum_at (sums ns) 0).bytes 0)
       (ap (is_one_below (path_at (sums ns) i)) (root_at ns) ∙ not_below_root (path_at (sums ns) i))
   part_other (suc j) h not =
       part_is (suc j) (omega arith) h
-      ∙ cond-false _ _ _ (same_path-apart _ _ (λ s. not (record { not_root = omega arith; in_range = h; parent = distinct ns ok _ i (omega (arith, ok.parents (suc j) (omega arith) h)) hi s })))
+      ∙ cond-false _ _ _ (same_path-apart _ _ (λ s. not (record { not_root = omega arith; in_range = h; parent = distinct ns ok _ i (omega (arith, ok.parents (suc j) (omega arith) h)) hi (sym s) })))
 
   apart : Apart (children_at cs i)
   apart a b lt h e =
       let len = length-map (children_at cs i) (key_at ns) in
-      key_not_before _ _ (get_or-map (key_at ns) (children_at cs i) a 0 [] (omega arith)
-      ∙ (ap (key_at ns) e ∙ sym (get_or-map (key_at ns) (children_at cs i) b 0 [] h)))
-      (ok.rise i a b lt (omega arith))
+      let first = get_or-map (key_at ns) (children_at cs i) a 0 [] (omega arith) in
+      let second = get_or-map (key_at ns) (children_at cs i) b 0 [] h in
+      grind (arith, len, first, second, e, ok.rise i a b lt, tied_itself key_total (key_in (keys_at ns cs i) a))
 
   pub below_is : sum_by (bytes_at ns) (children_at cs i) ≡ below (map_of (sums ns)) (path_at (sums ns) i)
   below_is =
@@ -230,11 +203,6 @@ at_read items i n h read = get_or_default items i no_node n h ∙ sym read
 pub in_nodes : (items : List Node) {v : Listed} (i : ℕ) → sums items ≡ v → i < length v → i < length items
 in_nodes items i view h = let same = ap length view in omega (arith, length_sums items)
 
--- the numbers of a list that was read
-pub children_read : (lists : List Children) (p : ℕ) (c : Children) → p < length lists → c ≡ get_or lists p c →
-    children_at (map numbers lists) p ≡ numbers c
-children_read lists p c h read = get_or-map numbers lists p c [] h ∙ ap numbers (sym read)
-
 -- Nodes and lists that are an arena are a tree.
 pub tree_of : (items : List Node) (lists : List Children) → IsArena items (map numbers lists) → IsTree items lists
 tree_of items lists ok = record {
@@ -243,19 +211,10 @@ tree_of items lists ok = record {
   lists = omega (arith, ok.lists, length-map lists numbers);
 }
 
-module _ (items : List Node) {lists : List Children} (ok : IsTree items lists) {v : Listed} (view : sums items ≡ v) where
-  -- The sums of a tree are a listing.
-  pub listing_of : IsListing v
-  listing_of = subst IsListing view (listing items ok.arena)
-
-  -- a place of the sums is that of a list
-  pub in_lists : (i : ℕ) → i < length v → i < length lists
-  in_lists i h = omega (arith, ok.lists, in_nodes items i view h)
-
 -- If a list is replaced by one with the same numbers, the nodes are still a tree.
-pub same_lists : (items : List Node) {lists : List Children} → IsTree items lists → (i : ℕ) (c d : Children) →
+pub same_lists : {items : List Node} {lists : List Children} → IsTree items lists → (i : ℕ) (c d : Children) →
     c ≡ get_or lists i c → numbers d ≡ numbers c → IsTree items (set lists i d)
-same_lists items {lists} ok i c d read same = tree_of items (set lists i d)
+same_lists {items} {lists} ok i c d read same = tree_of items (set lists i d)
     (subst (IsArena items) (sym (map-set_same numbers lists i d c (same ∙ ap numbers read))) ok.arena)
 
 -- A node without its guesses.
@@ -282,53 +241,64 @@ module _ (items : List Node) (i : ℕ) (n m : Node) (h : i < length items) (read
 abbrev pub raise_node : ℕ → Bool → Node → Node
 raise_node size b n = record n { bytes = n.bytes + size; is_unique = b }
 
--- an entry at the node i, which was read as n
-module _ (items : List Node) {lists : List Children} (ok : IsTree items lists) {v : Listed} (view : sums items ≡ v)
-    (i : ℕ) (h : i < length v) (n : Node) (read : n ≡ get_or items i n) where
-  is : at items i ≡ n
-  is = at_read items i n (in_nodes items i view h) read
+-- a tree whose sums are v
+module _ {items : List Node} {lists : List Children} (ok : IsTree items lists) {v : Listed} (view : sums items ≡ v) where
+  -- The sums of a tree are a listing.
+  pub listing_of : IsListing v
+  listing_of = subst IsListing view (listing items ok.arena)
 
-  pub bytes_fit : n.bytes ≤ total v
-  bytes_fit = let same = ap (λ (s : Node). s.bytes) is in
-      omega (arith, bytes_le_total items i (in_nodes items i view h), ap total view)
+  module _ (i : ℕ) (h : i < length v) where
+    -- a place of the sums is that of a list
+    pub in_lists : i < length lists
+    in_lists = omega (arith, ok.lists, in_nodes items i view h)
 
-  pub raised_tree : 0 < i → (size : ℕ) (b : Bool) → IsTree (set items i (raise_node size b n)) lists
-  raised_tree pos size b = tree_of _ _ (arena_set items ok.arena i _ (sym (ap (λ (s : Node). s.key) is))
-      (sym (ap (λ (s : Node). s.parent) is)) (λ e. absurd (omega arith)))
+    -- the numbers of a list that was read
+    pub children_read : {c : Children} → c ≡ get_or lists i c → children_at (map numbers lists) i ≡ numbers c
+    children_read {c} read = get_or-map numbers lists i c [] in_lists ∙ ap numbers (sym read)
 
-  -- the bytes are added at the node's place
-  pub raised_view : (size : ℕ) (u b : Bool) → b ≡ (n.is_unique || u) →
-      sums (set items i (raise_node size b n)) ≡ put i (path_at v i) size u v
-  raised_view size u b mark =
-      grow_set [] items i _ (path_at v i) size u (in_nodes items i view h) (λ qs. rw (mark, is) refl)
-      ∙ ap (put i (path_at v i) size u) view
+    -- the bytes of the children of a node, read one by one
+    pub below_read : sum_by (bytes_at items) (children_at (map numbers lists) i) ≡ below (map_of v) (path_at v i)
+    below_read = below_is items ok.arena i (in_nodes items i view h)
+        ∙ ap (λ (s : Listed). below (map_of s) (path_at s i)) view
 
--- the two writes of a new node's number, seen as numbers
-pub grown_lists : (lists : List Children) (p : ℕ) (c d fresh : Children) → p < length lists → c ≡ get_or lists p c →
-    numbers fresh ≡ [] → (g n : ℕ) → numbers d ≡ insert (numbers c) g n →
-    map numbers (set lists p d ++ fresh ∷ []) ≡ with_child (map numbers lists) p g n
-grown_lists lists p c d fresh h read none g n is =
-    map_push numbers (set lists p d) fresh ∙ (λ j. (map-set numbers lists p d
-    ∙ ap (set (map numbers lists) p) (is ∙ ap (λ (xs : List ℕ). insert xs g n) (sym (children_read lists p c h read)))) j
-    ++ none j ∷ [])
+    -- the two writes of a new node's number, seen as numbers
+    pub grown_lists : {c : Children} (d fresh : Children) → c ≡ get_or lists i c → numbers fresh ≡ [] → (g n : ℕ) →
+        numbers d ≡ insert (numbers c) g n →
+        map numbers (set lists i d ++ fresh ∷ []) ≡ with_child (map numbers lists) i g n
+    grown_lists d fresh read none g n is =
+        map_push numbers (set lists i d) fresh ∙ (λ j. (map-set numbers lists i d
+        ∙ ap (set (map numbers lists) i) (is ∙ ap (λ (xs : List ℕ). insert xs g n) (sym (children_read read)))) j
+        ++ none j ∷ [])
 
--- what the sums say of a node that was read
-pub figures_read : (items : List Node) {lists : List Children} (ok : IsTree items lists) (v : Listed) (view : sums items ≡ v) (i : ℕ)
-    (h : i < length v) (n : Node) (read : n ≡ get_or items i n) →
-    (let e = sum_at v i in (e.bytes ≡ n.bytes) × (e.is_unique ≡ n.is_unique) × (not (is_root e.path) ≡ ltb 0 i))
-figures_read items ok v view i h n read =
-    let is = at_read items i n (in_nodes items i view h) read in
-    subst (λ (s : Listed). (let e = sum_at s i in
-    (e.bytes ≡ n.bytes) × (e.is_unique ≡ n.is_unique) × (not (is_root e.path) ≡ ltb 0 i))) view (
-      (figures-grow [] items i).0 ∙ ap (λ (s : Node). s.bytes) is,
-      (figures-grow [] items i).1 ∙ ap (λ (s : Node). s.is_unique) is,
-      has_key items ok.arena i (in_nodes items i view h),
-    )
+    -- the node i, which was read as n
+    module _ {n : Node} (read : n ≡ get_or items i n) where
+      node_is : at items i ≡ n
+      node_is = at_read items i n (in_nodes items i view h) read
 
--- the bytes of the children of a node, read one by one
-pub below_read : (items : List Node) {lists : List Children} (ok : IsTree items lists) {v : Listed}
-    (view : sums items ≡ v) (i : ℕ) →
-    i < length v → sum_by (bytes_at items) (children_at (map numbers lists) i)
-    ≡ below (map_of v) (path_at v i)
-below_read items ok view i h = below_is items ok.arena i (in_nodes items i view h)
-    ∙ ap (λ (s : Listed). below (map_of s) (path_at s i)) view
+      -- what the sums say of it
+      pub figures_read : let e = sum_at v i in
+          (e.bytes ≡ n.bytes) × (e.is_unique ≡ n.is_unique) × (not (is_root e.path) ≡ ltb 0 i)
+      figures_read = subst (λ (s : Listed). (let e = sum_at s i in
+          (e.bytes ≡ n.bytes) × (e.is_unique ≡ n.is_unique) × (not (is_root e.path) ≡ ltb 0 i))) view (
+            (figures-grow [] items i).0 ∙ ap (λ (s : Node). s.bytes) node_is,
+            (figures-grow [] items i).1 ∙ ap (λ (s : Node). s.is_unique) node_is,
+            has_key items ok.arena i (in_nodes items i view h),
+          )
+
+      module _ (pos : 0 < i) where
+        pub bytes_fit : n.bytes ≤ bytes_entered (map_of v)
+        bytes_fit = omega (arith, found_fits (path_at v i) (entries (map_of v)) (sym (get-entries (map_of v) (path_at v i)) ∙ get_at v listing_of i pos h), figures_read.0)
+
+        pub raised_tree : (size : ℕ) (b : Bool) → IsTree (set items i (raise_node size b n)) lists
+        raised_tree size b = tree_of _ _ (arena_set items ok.arena i _ (sym (ap (λ (s : Node). s.key) node_is))
+            (sym (ap (λ (s : Node). s.parent) node_is)) (λ e. absurd (omega arith)))
+
+      -- the bytes are added at the node's place
+      pub raised_view : (size : ℕ) (u b : Bool) → b ≡ (n.is_unique || u) →
+          sums (set items i (raise_node size b n)) ≡ put i (path_at v i) size u v
+      raised_view size u b mark =
+          grow_set [] items i _ (path_at v i) size u (in_nodes items i view h) (λ qs. rw (mark, node_is) refl)
+          ∙ ap (put i (path_at v i) size u) view
+
+-- What a node that was read says of its sum, beside tests of numbers.
+pub ruleset figures = (figures_read, nat_tests, common_steps)

@@ -1,6 +1,6 @@
 -- The paths that were entered, in the order of their first entries, with what was entered at each.
-use Rattle.std.specs.Prelude.{◌≡◌, ℕ, ◌+◌, List, [], ◌∷◌, ◌++◌, Bool, false, ◌||◌, slice_index_or, sum_by, length, ◌<◌}
-use Rattle.std.specs.Prelude.{map, zero, suc}
+use Rattle.std.specs.Prelude.{◌≡◌, ℕ, ◌+◌, List, [], ◌∷◌, ◌++◌, Bool, false, ◌||◌, slice_index_or, length, ◌<◌, map}
+use Rattle.std.specs.Prelude.{zero, suc}
 use Rattle.std.specs.FinMap.{from_entries}
 use Rattle.allocative_graph.specs.Path.{Key, Path}
 use Rattle.allocative_graph.specs.Sums.{Sums, Node}
@@ -28,10 +28,6 @@ abbrev pub put : ℕ → Path → ℕ → Bool → Listed → Listed
 put i q n u [] = record { path = q; bytes = n; is_unique = u } ∷ []
 put zero q n u (s ∷ rest) = raise n u s ∷ rest
 put (suc i) q n u (s ∷ rest) = s ∷ put i q n u rest
-
--- The bytes of all entries.
-abbrev pub total : Listed → ℕ
-total s = sum_by (λ e. e.bytes) s
 
 -- What was entered at place i.
 abbrev pub sum_at : Listed → ℕ → Sum

@@ -1,6 +1,6 @@
 -- The nodes of a tree, and the numbers of their children, as one list or in chunks.
-use Rattle.std.specs.Prelude.{◌≡◌, ℕ, ◌-◌, ◌^◌, ◌<◌, ◌≤◌, List, [], ◌∷◌, ◌++◌, false, slice_index_or}
-use Rattle.std.specs.Prelude.{length, map, ◌+◌, take}
+use Rattle.std.specs.Prelude.{◌≡◌, ℕ, ◌-◌, ◌^◌, ◌<◌, ◌≤◌, List, [], ◌∷◌, ◌++◌, false, slice_index_or, length, map, ◌+◌}
+use Rattle.std.specs.Prelude.{take}
 use Rattle.std.specs.List.{All, Contains, flat_map}
 use Rattle.std.specs.declared.cmp.Ordering.TheVariants.{Less, Greater}
 use Rattle.allocative_graph.specs.Path.{Key, Path, key_cmp}

@@ -8,7 +8,7 @@ use Rattle.allocative_graph.specs.Identity.{Identity}
 use Rattle.allocative_graph.specs.Path.{Key, Path}
 use Rattle.allocative_graph.specs.Sums.{bytes_entered}
 use Rattle.allocative_graph.specs.Collector.{Live, enter_first, enter_again}
-use Rattle.allocative_collectors.specs.Listed.{Listed, path_at, total, map_of, IsEntered}
+use Rattle.allocative_collectors.specs.Listed.{Listed, path_at, map_of, IsEntered}
 
 -- The path that a root visitor goes back to, if one is open.
 abbrev pub to_root : Bool → List Path
@@ -45,7 +45,6 @@ pub record IsPlaced (t : Listed) (current : ℕ) (places : List ℕ) (room : ℕ
   pub here : current < length t
   pub back : (j : ℕ) → j < length places → slice_index places j < length t
   pub entered_is : bytes_entered (map_of t) + room + 1 ≡ 2 ^ 63
-  pub total_is : total t + room + 1 ≡ 2 ^ 63
   pub rooted : 0 < length t
   pub root_path : path_at t 0 ≡ []
 

@@ -1,7 +1,7 @@
 -- Paths that have a warning, as contracts see them, and what a walk of the nodes makes: the graph of the sums and these
 -- paths.
 use Rattle.std.specs.Prelude.{ℕ, Bool, false, ◌&&◌, ◌||◌, List, [], ◌∷◌, ◌++◌, map, flat_map, codes, bytes_eq, ◌≡◌}
-use Rattle.std.specs.Prelude.{true, cond, not, nat_lt, None, sum_by}
+use Rattle.std.specs.Prelude.{true, cond, not, nat_lt, None, sum_by, length, slice_index_or, ◌-◌}
 use Rattle.allocative_graph.specs.Format.{newline}
 use Rattle.allocative_graph.specs.Graph.{Warned, warning_text, Graph, graph, total, remaining, is_root, warned}
 use Rattle.allocative_graph.specs.Path.{Key, Path, key_cmp}
@@ -27,12 +27,10 @@ is_std_entry k l =
     && (bytes_eq k (codes "BTreeMap") || bytes_eq k (codes "BTreeSet")
     || bytes_eq k (codes "HashMap") || bytes_eq k (codes "HashSet"))
 
--- Whether a path ends in two such keys.
+-- Whether a path has two keys or more, and the last two are such keys.
 abbrev pub is_std_data : Path → Bool
-is_std_data [] = false
-is_std_data (k ∷ []) = false
-is_std_data (k ∷ l ∷ []) = is_std_entry k l
-is_std_data (k ∷ l ∷ m ∷ p) = is_std_data (l ∷ m ∷ p)
+is_std_data p =
+    nat_lt 1 (length p) && is_std_entry (slice_index_or p (length p - 2) []) (slice_index_or p (length p - 1) [])
 
 -- ---- the graph and the warnings, place by place and path by path
 -- The size that the graph has at place i.

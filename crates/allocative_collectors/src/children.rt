@@ -26,7 +26,7 @@ pub(crate) enum Children {
     Many(Box<Vec<Chunk>>),
 }
 
-/// Numbers that follow one another. There is at least one, though no proof rests on it.
+/// Numbers that follow one another, at least one.
 #[derive(Drop)]
 pub(crate) struct Chunk {
     pub(crate) numbers: Vec<u32>,

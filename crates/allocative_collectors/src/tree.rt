@@ -5,7 +5,7 @@ ghost use Rattle.allocative_graph.specs.Graph.{total as graph_total};
 ghost use Rattle.allocative_graph.specs.Sums.{bytes_entered, below as bytes_below};
 ghost use Rattle.allocative_graph.specs.Path.{key_cmp, texts};
 ghost use Rattle.allocative_graph.specs.Visits.{IsProfile};
-ghost use Rattle.allocative_collectors.specs.Listed.{root_sum, put, total, path_at, map_of, IsEntered, IsAbove};
+ghost use Rattle.allocative_collectors.specs.Listed.{root_sum, put, path_at, map_of, IsEntered, IsAbove};
 ghost use Rattle.allocative_collectors.specs.Places.{AddedAt, TellsWhy};
 ghost use Rattle.allocative_collectors.specs.Warned.{size_at_place, is_short, MakesGraph, MakesGraphAlone, warning_of};
 ghost use Rattle.allocative_collectors.specs.Nodes.{leaf, bytes_at, keys_of, key_at, KeysRise, HasKey, IsKeyGap, numbers, numbers_in, flat, IsPlace, IsPlaceIn, place_in, flat_place, IsTree};
@@ -110,7 +110,7 @@ impl Tree {
         is_unique: bool,
     ) -> Result<usize, Refusal>
         requires within { at < length self.old }
-        requires count { total self.old + room.old + 1 ≡ 2 ^ 63 }
+        requires count { bytes_entered (map_of self.old) + room.old + 1 ≡ 2 ^ 63 }
         ensures entered { IfOk result
             (AddedAt self.old self.new at key.now size is_unique room.old room.new) }
         ensures err { IfErr result (TellsWhy room.old size) }
@@ -133,7 +133,7 @@ impl Tree {
     fn add_bytes(&mut self, room: &mut usize, node: usize, size: usize, is_unique: bool)
         requires node { (0 < node) × (node < length self.old) }
         requires room { size ≤ room.old }
-        requires count { total self.old + room.old + 1 ≡ 2 ^ 63 }
+        requires count { bytes_entered (map_of self.old) + room.old + 1 ≡ 2 ^ 63 }
         ensures raised { self.new ≡ put node (path_at self.old node) size is_unique self.old }
         ensures room { room.old ≡ room.new + size }
     {
@@ -234,6 +234,7 @@ impl Tree {
 
     /// The size that the graph has at the path of a node whose children have `size_below` bytes, and whether the path
     /// has a warning.
+    #[tactic(auto, using(crate::proofs::NodeReads::figures))]
     fn figures(&self, at: usize, size_below: usize) -> (usize, bool)
         requires within { at < length self.now }
         requires below { size_below ≡ bytes_below (map_of self.now) (path_at self.now at) }
@@ -291,7 +292,7 @@ impl Tree {
     /// Enters under a key that was not expected. The room has the bytes.
     #[cold]
     #[inline(never)]
-    #[tactic(auto, using(crate::proofs::Entries::length_entered, crate::proofs::Entries::total_entered))]
+    #[tactic(auto, using(crate::proofs::Entries::length_entered, crate::proofs::Entries::bytes_more))]
     fn enter_unexpected(
         &mut self,
         room: &mut usize,
@@ -302,7 +303,7 @@ impl Tree {
     ) -> Result<usize, AllocError>
         requires within { at < length self.old }
         requires room { size ≤ room.old }
-        requires count { total self.old + room.old + 1 ≡ 2 ^ 63 }
+        requires count { bytes_entered (map_of self.old) + room.old + 1 ≡ 2 ^ 63 }
         ensures entered { IfOk result
             (AddedAt self.old self.new at key.now size is_unique room.old room.new) }
         ensures kept { OnErr result ((self.new ≡ self.old) × (room.new ≡ room.old)) }

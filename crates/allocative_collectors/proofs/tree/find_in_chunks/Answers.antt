@@ -1,5 +1,5 @@
 -- A key above that of the last number is above all. At another place the keys of its number and the one before tell.
-use Rattle.std.proofs.Common.{map, refl, sym, ap, subst, ◌∙◌}
+use Rattle.std.proofs.Common.{rules, map, refl, sym, ap, subst, ◌∙◌}
 use Rattle.allocative_collectors.proofs.Common.{is_lt, key_at, IsKeyGap, flat}
 use Rattle.allocative_collectors.specs.Nodes.{place_in}
 use Rattle.allocative_collectors.proofs.Keys.{key_same}
@@ -15,8 +15,7 @@ returns-clause-absent c =
     (ap is_lt (sym c.compare.ensures) ∙ (sym c.is_lt.ensures ∙ c.if-is_lt.true)))
 
 pub returns-in-Equal-clause-found : goal.returns-in-Equal-clause-found
-returns-in-Equal-clause-found c =
-    (stands (flat c.args.chunks.now) _ _ c.in-Some-number_at.ensures.number, key_same _ _ (sym c.in-Equal.ensures))
+returns-in-Equal-clause-found c = search (rules, stands, key_same)
 
 pub returns-in-Greater-clause-absent : goal.returns-in-Greater-clause-absent
 returns-in-Greater-clause-absent c =

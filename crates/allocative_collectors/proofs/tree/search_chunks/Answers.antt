@@ -1,5 +1,5 @@
 -- What is found in a chunk, whose keys come after those of the chunks before.
-use Rattle.std.proofs.Common.{Some, ap, ◌∙◌, arith}
+use Rattle.std.proofs.Common.{rules, Some, ap, ◌∙◌, arith}
 use Rattle.allocative_collectors.proofs.Common.{key_at, length-map, flat}
 use Rattle.std.proofs.lemmas.Option.{slice_get-get_or}
 use Rattle.allocative_collectors.proofs.Chunks.{stands, number_read, before_more, part_rises, less_part, gap_part}
@@ -7,8 +7,7 @@ use Rattle.allocative_collectors.proofs.tree.search_chunks.Goals as goal
 
 pub find_in_list-requires : goal.find_in_list-requires
 find_in_list-requires c = record {
-  rise = part_rises c.args.chunks.now c.loop-chunk.chunk c.index-chunks-chunk.result c.loop-chunk-test.true
-      c.as_slice-numbers.ensures.value (key_at c.args.nodes.now) c.requires.rise;
+  rise = search (rules, part_rises);
 }
 
 pub returns-in-Ok-clause-found : goal.returns-in-Ok-clause-found

@@ -9,11 +9,9 @@ use Rattle.std.specs.List.{All}
 use Rattle.std.proofs.lemmas.List.Elements.{All-weaker}
 use Rattle.allocative_graph.specs.Graph.{Graph, Warned, total}
 use Rattle.allocative_collectors.specs.declared.tree.Node.{Node}
-use Rattle.allocative_collectors.proofs.NodeReads.{in_nodes, in_lists, children_read, below_read, figures_read}
-use Rattle.allocative_collectors.proofs.NodeReads.{listing_of}
+use Rattle.allocative_collectors.proofs.NodeReads.{in_nodes, children_read, below_read, figures_read, listing_of}
 use Rattle.allocative_collectors.proofs.Made.{part_start, part_more, part_fits, made_all, child_read, none_warned}
-use Rattle.allocative_collectors.proofs.Made.{own_warning, own_fits, warned_at, comes_last, begun}
-use Rattle.allocative_collectors.proofs.Made.{below_fits}
+use Rattle.allocative_collectors.proofs.Made.{own_warning, own_fits, warned_at, comes_last, begun, below_fits}
 use Rattle.allocative_graph.proofs.Graphs.{total-default}
 use Rattle.allocative_graph.proofs.Text.{popped, texts}
 use Rattle.allocative_collectors.proofs.tree.Tree.+build_graph.Goals as goal
@@ -29,9 +27,7 @@ keys t c = keys_at c.self.inside.nodes.items (lists t c) c.args.at
 
 -- the children that are walked
 children : (t : ℕ) (c : In_ok-children t) → children_at (lists t c) c.args.at ≡ c.in_ok-children.children.now
-children t c = children_read c.self.inside.children.items c.args.at c.index.result.now
-    (in_lists c.self.inside.nodes.items c.self.invariant c.self.view_is c.args.at c.requires.within)
-    c.index.ensures
+children t c = children_read c.self.invariant c.self.view_is c.args.at c.requires.within c.index.ensures
     ∙ sym c.in_ok-children.ensures
 
 -- there are as many keys as children
@@ -45,14 +41,13 @@ child : (t : ℕ) (c : In_ok-children t) (j : ℕ) → j < length c.in_ok-childr
     (c.args.at < i) × (i < length c.args.self.now)
     × (path_at c.args.self.now i ≡ path_at c.args.self.now c.args.at ++ key_in (keys t c) j ∷ [])
     × ((d : Node) → (let m = get_or c.self.inside.nodes.items i d in m.key ≡ key_in (keys t c) j))
-child t c = child_read c.self.inside.nodes.items c.self.invariant c.self.view_is c.args.at c.in_ok-children.children.now
-    (children t c)
+child t c = child_read c.self.invariant c.self.view_is c.args.at c.in_ok-children.children.now (children t c)
 
 -- the bytes of the children
 whole : (t : ℕ) (c : In_ok-children t) → sum_by (bytes_at c.self.inside.nodes.items)
     c.in_ok-children.children.now ≡ below (map_of c.args.self.now) (path_at c.args.self.now c.args.at)
 whole t c = ap (sum_by (bytes_at c.self.inside.nodes.items)) (sym (children t c))
-    ∙ below_read c.self.inside.nodes.items c.self.invariant c.self.view_is c.args.at c.requires.within
+    ∙ below_read c.self.invariant c.self.view_is c.args.at c.requires.within
 
 pub bytes_of-size_below-requires-clause-within : goal.bytes_of-size_below-requires-clause-within
 bytes_of-size_below-requires-clause-within t c =
@@ -90,7 +85,7 @@ pub returns-in_err-add_self-clause-err : goal.returns-in_err-add_self-clause-err
 returns-in_err-add_self-clause-err t c =
     let large : 2 ^ 64 ≤ total c.in_ok-graph.field-0 + c.figures-size.result.0 =
     c.in_err-add_self.ensures.too_large.0 (ap (λ (r : Refusal). Err r) c.in_err-add_self.ensures.no_other) in
-    let own = own_fits c.args.self.now (listing_of c.self.inside.nodes.items c.self.invariant c.self.view_is) c.args.at
+    let own = own_fits c.args.self.now (listing_of c.self.invariant c.self.view_is) c.args.at
     c.requires.within [] in
     let none : total c.in_ok-graph.field-0 ≡ 0 = ap total c.in_ok-graph.ensures ∙ total-default in
     absurd {A = IfErr c.from_residual-in_err-add_self.result (λ e. e ≡ Memory)}
@@ -107,8 +102,7 @@ loop-child-init t c =
     c.in_ok-add_self.ensures.sum ∙ (λ j. add_self (c.figures-size.ensures.size j) (c.in_ok-graph.ensures j)) in
     let found : map warning_of c.if-is_short.warned.items ≡ start ++ warned_at v i = elim c.if-is_short.branch [
       | then-is_short+in_ok-push_warned w ↦
-          (let figures = figures_read c.self.inside.nodes.items c.self.invariant v c.self.view_is i c.requires.within
-          w.index-then-is_short.result.now w.index-then-is_short.ensures in
+          (let figures = figures_read c.self.invariant c.self.view_is i c.requires.within w.index-then-is_short.ensures in
           let keys : texts w.as_slice.result.now ≡ path_at v i = ap texts w.as_slice.ensures.value ∙ c.requires.keys in
           ap (λ (x : Vec WarnedPath Global). map warning_of x.items) w.warned-is
           ∙ (w.in_ok-push_warned.ensures
@@ -117,7 +111,7 @@ loop-child-init t c =
       | else-is_short w ↦ ap (λ (x : Vec WarnedPath Global). map warning_of x.items) w.warned-is
           ∙ none_warned v i start (sym w.if-is_short.false ∙ c.figures-size.ensures.short)
     ] in
-    record { keys = refl; made = part_start v (listing_of c.self.inside.nodes.items c.self.invariant c.self.view_is) i c.requires.within (keys t here.In_ok-children) _ _ _ is found }
+    record { keys = refl; made = part_start v (listing_of c.self.invariant c.self.view_is) i c.requires.within (keys t here.In_ok-children) _ _ _ is found }
 
 pub leaf-requires : goal.leaf-requires
 leaf-requires t c = (child t (goal.at.leaf-requires t c).In_ok-children c.loop-child.child-index c.loop-child-test.true).1
@@ -160,7 +154,7 @@ module _ (t : ℕ) (c : In_ok-children t) (j : ℕ) (h : j < length c.in_ok-chil
   more : {w'' : List Warned} {d g' : Graph} →
       MakesGraph c.args.self.now (get_or c.in_ok-children.children.now j 0) w' w'' d → g' ≡ sum_of g (under k d) →
       Part t c (j + 1) w w'' g'
-  more {w''} {d} {g'} made is = rw (add-one j) (part_more c.args.self.now (listing_of c.self.inside.nodes.items c.self.invariant c.self.view_is) c.args.at c.requires.within (keys t c) (c.self.invariant.arena.rise c.args.at) j within _ (child t c j h).2
+  more {w''} {d} {g'} made is = rw (add-one j) (part_more c.args.self.now (listing_of c.self.invariant c.self.view_is) c.args.at c.requires.within (keys t c) (c.self.invariant.arena.rise c.args.at) j within _ (child t c j h).2
       w w' w'' g g' d part made (is ∙ ap (λ (l : Key). sum_of g (under l d)) key))
 
 pub push_child-requires : goal.push_child-requires
@@ -201,6 +195,6 @@ loop-child-preserved t c =
     }
 
 pub returns-clause-made : goal.returns-clause-made
-returns-clause-made t c = made_all c.self.inside.nodes.items c.self.invariant c.self.view_is c.args.at c.requires.within
+returns-clause-made t c = made_all c.self.invariant c.self.view_is c.args.at c.requires.within
     _ _ _ c.loop-child.child-index (let ended = c.loop-child.auto.child-index-end in
     omega (arith, count t (goal.at.returns-clause-made t c).In_ok-children)) c.loop-child.invariant.made

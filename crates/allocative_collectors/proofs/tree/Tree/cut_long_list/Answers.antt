@@ -6,11 +6,10 @@ use Rattle.allocative_collectors.proofs.tree.Tree.cut_long_list.Goals as goal
 
 pub invariant_of-self : goal.invariant_of-self
 invariant_of-self c =
-    let items = c.self.inside.nodes.items in
     let lists = c.self.inside.children.items in
     let old = c.index_mut.result.now in
-    let within = in_lists items c.self.invariant c.self.view_is c.args.at c.requires in
+    let within = in_lists c.self.invariant c.self.view_is c.args.at c.requires in
     let read : c.index.result.now ≡ old =
     c.index.ensures ∙ (get_or_default lists c.args.at c.index.result.now old within ∙ sym c.index_mut.ensures.value) in
-    same_lists items c.self.invariant c.args.at old _ c.index_mut.ensures.value
+    same_lists c.self.invariant c.args.at old _ c.index_mut.ensures.value
     (c.in-Ok.ensures ∙ (c.as_slice.ensures.value ∙ (ap (λ (v : Vec ℕ Global). v.items) c.deref-3.ensures ∙ (ap numbers (sym c.in-Few.is) ∙ ap numbers read))))

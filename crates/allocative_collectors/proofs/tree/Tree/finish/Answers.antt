@@ -1,9 +1,8 @@
 -- The walk from the root has all paths.
-use Rattle.std.proofs.Common.{arith, ◌≡◌, ◌<◌, ◌^◌, ℕ, true, List, ◌++◌, map, Bor, sym, ap, subst, ◌∙◌, flat_map, Bool}
-use Rattle.std.proofs.Common.{false, not, ◌&&◌, cond, [], ◌∷◌, refl, nat_lt, append-nil}
+use Rattle.std.proofs.Common.{arith, ◌≡◌, ◌<◌, ◌^◌, ℕ, true, List, ◌++◌, map, Bor, sym, ap, subst, ◌∙◌, flat_map, []}
+use Rattle.std.proofs.Common.{◌∷◌, refl, append-nil}
 use Rattle.allocative_collectors.proofs.Common.{get, Path, Graph, graph, map_of, warning_of, warning_lines, entries}
-use Rattle.allocative_collectors.proofs.Common.{newline, Sums, below, is_root, warning_text, rows_behind}
-use Rattle.allocative_collectors.proofs.Common.{flat_map-append}
+use Rattle.allocative_collectors.proofs.Common.{newline, Sums, below, warning_text, rows_behind, flat_map-append}
 use Rattle.std.specs.FinMap.{same_map}
 use Rattle.allocative_graph.specs.Graph.{total, warned, warning, warning_line, warned_paths}
 use Rattle.allocative_graph.proofs.Basics.{path_total, path_antisymmetric}
@@ -21,12 +20,7 @@ all_kept (x ∷ xs) = ap (λ (ys : List _). x ∷ ys) (all_kept xs)
 -- ---- the text of the warnings
 -- The line of an entry's warned path is the text of its warning, and empty if it has none.
 line_of : (s : Sums) (e : Path × Node) → warning_lines (warned s e) ≡ warning s e
-line_of s e = by (not (is_root e.0) && not e.1.is_unique && nat_lt e.1.bytes (below s e.0))
-  where
-    by : (b : Bool) → warning_lines (cond b (record { path = e.0; self_size = e.1.bytes; children_size = below s e.0 }
-        ∷ []) []) ≡ cond b (warning_line e.0 e.1.bytes (below s e.0)) []
-    by true = append-nil (warning_line e.0 e.1.bytes (below s e.0))
-    by false = refl
+line_of s e = grind (arith, append-nil (warning_line e.0 e.1.bytes (below s e.0)))
 
 -- The lines of the warned paths of some entries are the texts of their warnings.
 lines_of : (s : Sums) (es : List (Path × Node)) → warning_lines (flat_map (warned s) es) ≡ flat_map (warning s) es
@@ -36,17 +30,17 @@ lines_of s (e ∷ es) =
     ∙ (λ i. line_of s e i ++ lines_of s es i)
 
 pub build_graph-requires-clause-within : goal.build_graph-requires-clause-within
-build_graph-requires-clause-within c = (listing_of c.self.inside.nodes.items c.self.invariant c.self.view_is).rooted
+build_graph-requires-clause-within c = (listing_of c.self.invariant c.self.view_is).rooted
 
 pub build_graph-requires-clause-keys : goal.build_graph-requires-clause-keys
 build_graph-requires-clause-keys c =
     ap (map (λ (k : Bor (List ℕ)). k.now)) c.new-keys.ensures.items
-    ∙ sym (listing_of c.self.inside.nodes.items c.self.invariant c.self.view_is).root_path
+    ∙ sym (listing_of c.self.invariant c.self.view_is).root_path
 
 pub returns-clause-made : goal.returns-clause-made
 returns-clause-made c =
     let v = c.args.self.now in
-    let root = (listing_of c.self.inside.nodes.items c.self.invariant c.self.view_is).root_path in
+    let root = (listing_of c.self.invariant c.self.view_is).root_path in
     let made = c.in_ok-build_graph.ensures.made in
     let found : map warning_of c.build_graph.new.warned.items ≡ warned_paths (map_of v) =
     made.warned_are ∙ ((λ j. map warning_of (c.new-warned.ensures.items j)

@@ -1,6 +1,5 @@
 -- A write of guesses changes no sum.
-use Rattle.std.proofs.Common.{◌≡◌, ◌<◌, length, sym, subst, ◌∙◌, refl, arith}
-use Rattle.allocative_collectors.proofs.Common.{Listed}
+use Rattle.std.proofs.Common.{◌≡◌, ◌∙◌, refl, arith}
 use Rattle.allocative_collectors.proofs.NodeReads.{same_tree, same_view}
 use Rattle.allocative_collectors.proofs.tree.Tree.follow_last.Goals as goal
 use Rattle.allocative_collectors.proofs.tree.Tree.follow_last.Goals.{Joined-last-len, then-last-len, else-last-len}
@@ -21,13 +20,11 @@ same c = elim c.if-last-len.branch [
 
 pub expect_follower-requires-clause-parent : goal.expect_follower-requires-clause-parent
 expect_follower-requires-clause-parent c =
-    subst (λ (s : Listed). c.args.at < length s)
-    (sym (same (goal.at.expect_follower-requires-clause-parent c).Joined-last-len)) c.requires.parent
+    rw (same (goal.at.expect_follower-requires-clause-parent c).Joined-last-len) c.requires.parent
 
 pub expect_follower-requires-clause-child : goal.expect_follower-requires-clause-child
 expect_follower-requires-clause-child c =
-    subst (λ (s : Listed). c.args.child < length s)
-    (sym (same (goal.at.expect_follower-requires-clause-child c).Joined-last-len)) c.requires.child
+    rw (same (goal.at.expect_follower-requires-clause-child c).Joined-last-len) c.requires.child
 
 pub returns : goal.returns
 returns c = c.expect_follower.ensures ∙ same (goal.at.returns c).Joined-last-len

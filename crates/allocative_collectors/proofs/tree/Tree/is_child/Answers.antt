@@ -1,6 +1,6 @@
 -- A node with this parent and this key is the child, and no other node is.
-use Rattle.std.proofs.Common.{◌≡◌, ◌≢◌, ◌-◌, ◌^◌, ◌<◌, ◌↔◌, false, List, length, true≢false, arith, sym}
-use Rattle.std.proofs.Common.{ap, subst, ◌∙◌, eqb-true}
+use Rattle.std.proofs.Common.{◌≡◌, ◌≢◌, ◌-◌, ◌^◌, ◌<◌, ◌↔◌, false, List, length, true≢false, arith, sym, ap, subst, ◌∙◌}
+use Rattle.std.proofs.Common.{eqb-true}
 use Rattle.allocative_collectors.proofs.Common.{Node, Listed, IsEntered, parent_at, at, no_node}
 use Rattle.std.proofs.lemmas.Slice.Eq.{bytes_eq-Decides}
 use Rattle.allocative_collectors.proofs.Labels.{length_sums}

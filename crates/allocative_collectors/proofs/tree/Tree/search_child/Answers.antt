@@ -2,15 +2,15 @@
 use Rattle.std.proofs.Common.{◌≡◌, ℕ, false, List, length, map, set, get_or, [], ◌∷◌, ◌++◌, sym, refl, ap, subst}
 use Rattle.std.proofs.Common.{subst₂, ◌∙◌}
 use Rattle.allocative_collectors.proofs.Common.{HasKey, leaf, Listed, IsEntered, IsTree, IsChild, IsArena, KeysRise}
-use Rattle.allocative_collectors.proofs.Common.{keys_of, keys_at, children_at, IsKeyGap, sums}
-use Rattle.allocative_collectors.proofs.Common.{get_or_default, Children, numbers}
+use Rattle.allocative_collectors.proofs.Common.{keys_of, keys_at, children_at, IsKeyGap, sums, get_or_default, Children}
+use Rattle.allocative_collectors.proofs.Common.{numbers}
 use Rattle.std.specs.List.{insert}
 use Rattle.std.proofs.lemmas.List.Elements.{All-contains}
 use Rattle.allocative_collectors.specs.declared.children.Children.TheVariants.{Empty}
 use Rattle.allocative_collectors.specs.declared.tree.Node.{Node}
 use Rattle.allocative_collectors.specs.Nodes.{IsPlace, flat_place}
-use Rattle.allocative_collectors.proofs.NodeReads.{in_nodes, in_lists, children_read, grown_lists}
-use Rattle.allocative_collectors.proofs.NodeReads.{tree_of, same_lists, was_entered, now_entered}
+use Rattle.allocative_collectors.proofs.NodeReads.{in_nodes, in_lists, children_read, grown_lists, tree_of, same_lists}
+use Rattle.allocative_collectors.proofs.NodeReads.{was_entered, now_entered}
 use Rattle.allocative_collectors.proofs.Grown.{grown, with_child, arena_grown}
 use Rattle.allocative_collectors.proofs.tree.Tree.search_child.Goals as goal
 use Rattle.allocative_collectors.proofs.tree.Tree.search_child.Goals.{After-index, After-index_mut}
@@ -19,8 +19,7 @@ use Rattle.allocative_collectors.proofs.tree.Tree.search_child.Goals.{After-push
 -- A step of `search_child`: the list that is searched has the numbers of the node's children.
 searched : (c : After-index) →
     children_at (map numbers c.self.inside.children.items) c.args.at ≡ numbers c.index.result.now
-searched c = children_read c.self.inside.children.items c.args.at c.index.result.now
-    (in_lists c.self.inside.nodes.items c.self.invariant c.self.view_is c.args.at c.requires) c.index.ensures
+searched c = children_read c.self.invariant c.self.view_is c.args.at c.requires c.index.ensures
 
 pub find-requires : goal.find-requires
 find-requires c = record {
@@ -49,7 +48,7 @@ read c = c.index_mut.ensures.value ∙ ap (λ (l : List Children). get_or l c.ar
 same : (c : After-index_mut) → c.index.result.now ≡ c.index_mut.result.now
 same c = c.index.ensures
     ∙ (get_or_default c.self.inside.children.items c.args.at c.index.result.now c.index_mut.result.now
-    (in_lists c.self.inside.nodes.items c.self.invariant c.self.view_is c.args.at c.requires) ∙ sym (read c))
+    (in_lists c.self.invariant c.self.view_is c.args.at c.requires) ∙ sym (read c))
 
 pub insert-requires : goal.insert-requires
 insert-requires c = subst (λ (l : Children). IsPlace l c.in-Err.place)
@@ -60,7 +59,7 @@ invariant_of-self-in_err-insert-in-Err c =
     let here = (goal.at.invariant_of-self-in_err-insert-in-Err c).After-index_mut in
     subst₂ (λ (ns : List Node) (cs : List Children). IsTree ns (set cs c.args.at c.insert.new.self))
     (sym c.in_ok-reserve-in-Err.ensures.items) (sym c.in_ok-reserve-in-Err-2.ensures.items)
-    (same_lists c.self.inside.nodes.items c.self.invariant c.args.at c.index_mut.result.now _ (read here)
+    (same_lists c.self.invariant c.args.at c.index_mut.result.now _ (read here)
     c.in_err-insert-in-Err.ensures.err)
 
 -- where the new number is put
@@ -85,8 +84,7 @@ made_lists c is =
     let old = c.index_mut.result.now in
     ap (map numbers) c.push_reserved.ensures.items
     ∙ ((λ j. map numbers (set (c.in_ok-reserve-in-Err-2.ensures.items j) c.args.at c.insert.new.self ++ Empty ∷ []))
-    ∙ grown_lists c.self.inside.children.items c.args.at old c.insert.new.self Empty
-    (in_lists c.self.inside.nodes.items c.self.invariant c.self.view_is c.args.at c.requires) is refl (place c) _
+    ∙ grown_lists c.self.invariant c.self.view_is c.args.at c.requires c.insert.new.self Empty is refl (place c) _
     (c.in_ok-insert-in-Err.ensures.ok ∙ ap (insert (numbers old) (place c)) (number c)))
 
 -- the gap that was found, among the keys of the children
