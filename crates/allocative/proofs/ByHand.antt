@@ -6,7 +6,7 @@ use Rattle.allocative.proofs.Common.{enters_first, Visitor, with_state, Visited,
 use Rattle.allocative.specs.Visited.{AnyEffect}
 use Rattle.allocative.proofs.Strict.{not_strict}
 use Rattle.allocative.proofs.Meaning.{entered_if, means_same, visited_as}
-use Rattle.allocative.proofs.Visits.{adds_nothing, adds_both, adds_inline, adds_unique}
+use Rattle.allocative.proofs.Visits.{adds_nothing, adds_both, adds_entry}
 
 -- What the collector was shown, the visit shows.
 pub shown_by_hand : {p : Showing} {a : Visitor} {s t : State} {r : Result (Unit {0}) Refusal} → s ≡ a.collector.now →
@@ -26,12 +26,12 @@ shown_before {p} {a = a} {t = t} {u = u} e h k =
 -- An entry with nothing inside it.
 pub inline_alone : {k : Key} {n : ℕ} {o q : Restore} {s t d : State} {x : Unit {0}} →
     OpensEntry false k (Some n) s (Ok o) t → ClosesEntry q t d → q ≡ o → AddsForest (Inside k n Nothing) s (Ok x) d
-inline_alone g l e = adds_inline g refl (adds_nothing _ tt) l e
+inline_alone g l e = adds_entry g refl (adds_nothing _ tt) l e
 
 -- Opening a unique entry and closing it at once shows a unique entry with nothing inside it.
 pub unique_alone : {k : Key} {n : ℕ} {o q : Restore} {s t d : State} {x : Unit {0}} →
     OpensEntry true k (Some n) s (Ok o) t → ClosesEntry q t d → q ≡ o → AddsForest (Unique k n Nothing) s (Ok x) d
-unique_alone g l e = adds_unique g refl (adds_nothing _ tt) l e
+unique_alone g l e = adds_entry g refl (adds_nothing _ tt) l e
 
 -- A shared value's content whose visitor is forgotten: more visitors are open than before.
 pub content_forgotten : {q : Showing} {k : Key} {n : ℕ} {i : Identity} {s t : State} {v : Unit {0}} →

@@ -5,7 +5,7 @@ use Rattle.allocative.proofs.Common.{nothing_held, close_entry, Showing, Inside,
 use Rattle.allocative.proofs.Common.{Visitor, called, refused_inside, IsSum, ClosesEntry}
 use Rattle.std.specs.Fn.{Once}
 use Rattle.allocative.specs.Closures.{CallShows, CallsInside, not_called, CalledAtRoot, AnswersSum, after_told}
-use Rattle.allocative.proofs.Visits.{adds_inline, entry_err, not_entered, adds_refused_err}
+use Rattle.allocative.proofs.Visits.{adds_entry, entry_err, not_entered, adds_refused_err}
 use Rattle.allocative.proofs.Roots.{visits_root, held_by_visit}
 
 -- what is answered once the visitor is left
@@ -31,7 +31,7 @@ module _ {F : Type 0} (g : Once F (MutBor Visitor × Unit {0}) (Result (Unit {0}
   pub with_shows : (p : Showing) {k : Key} {n : ℕ} {s t : State} {r : Result (Unit {0}) Refusal} →
       CallsInside g f k n s t r → CallShows g f p → AddsForest (Inside k n p) s r t
   with_shows p (not_called w) each = not_entered w
-  with_shows p (called x y w i c l o) each = adds_inline w i (each x y _ c) l o
+  with_shows p (called x y w i c l o) each = adds_entry w i (each x y _ c) l o
   with_shows p (refused_inside x y z c w i m e l) each = entry_err {z = c} w i (adds_refused_err c (each x y _ m) e) l
 
   -- the sum of a closure's entries, if each call of it shows one of p

@@ -4,10 +4,9 @@ pub use Rattle.std.specs.Fn.{FnOnceReturnsAtMut}
 pub use Rattle.std.specs.Iterator.{Yields}
 pub use Rattle.std.specs.Map.Iter.{deref}
 pub use Rattle.allocative_described.specs.Sizes.{checked, size_product}
-pub use Rattle.allocative_graph.specs.Collector.{Failed, Going, Kind, Live, OfGraph, OfSum, Restore, State, Summing}
+pub use Rattle.allocative_graph.specs.Collector.{Failed, Going, Kind, Live, OfGraph, OfSum, Restore, State}
 pub use Rattle.allocative_graph.specs.Collector.{Takes, begin, enter, enter_first, failed_with, is_graph, outer_of}
-pub use Rattle.allocative_graph.specs.Collector.{leave, close_entry, nothing_held, count_entry, entry_bytes, plus}
-pub use Rattle.allocative_graph.specs.Collector.{visitors}
+pub use Rattle.allocative_graph.specs.Collector.{leave, close_entry, nothing_held, plus, visitors}
 pub use Rattle.allocative_graph.specs.Forest.{Again, Empty, First, Forest, entry_of, followed_by}
 pub use Rattle.allocative_graph.specs.Owned.{ShowsNoContent, held}
 pub use Rattle.allocative_graph.specs.Identity.{Identity}
@@ -16,10 +15,10 @@ pub use Rattle.allocative_graph.specs.Shows.{Both, Field, Inside, InsideAs, Uniq
 pub use Rattle.allocative_graph.specs.Shows.{Showing, each_shows, sized, slice_shows}
 pub use Rattle.allocative_graph.specs.Sums.{add_all}
 pub use Rattle.allocative_graph.specs.Visits.{RefusesEntry, OpensRoot, OpensEntry, OpensShared, HasFailed, IsProfileOf}
-pub use Rattle.allocative_graph.specs.Visits.{Profile, VisitsRoot, Settles, AddsForest, already, enters_again, ExceedsSum}
+pub use Rattle.allocative_graph.specs.Visits.{Profile, VisitsRoot, Settles, AddsForest, already, enters_again}
 pub use Rattle.allocative_graph.specs.Visits.{enters_first, forgotten, hidden, is_entered, is_refused}
-pub use Rattle.allocative_graph.specs.Visits.{is_refused_shared, RefusesSized, refused, stays_failed, stays_shared}
-pub use Rattle.allocative_graph.specs.Visits.{ClosesEntry, is_too_large_shared, counts}
+pub use Rattle.allocative_graph.specs.Visits.{is_refused_shared, refused, stays_failed, stays_shared, ClosesEntry}
+pub use Rattle.allocative_graph.specs.Visits.{is_too_large_shared, counts}
 pub use Rattle.allocative_graph.specs.declared.refusal.Refusal.{Refusal}
 pub use Rattle.allocative_graph.specs.declared.refusal.Refusal.TheVariants.{Memory, TooLarge}
 pub use Rattle.serde_json.specs.declared.value.Value.{out-Value, the_lemmas}

@@ -1,6 +1,6 @@
 -- What the hand-written proofs of calls that lend a collector cite: the steps of a walk, the one machine value of a
 -- parameter, and what such a call passes on.
-pub use Rattle.std.proofs.Common.{◌≡◌, ℕ, List, [], ◌∷◌, refl, sym, ap, subst, MutBor, Bool, Result, Ok, Err, IfOk}
+pub use Rattle.std.proofs.Common.{◌≡◌, ℕ, List, [], ◌∷◌, refl, sym, ap, subst, MutBor, Result, Ok, Err, IfOk}
 pub use Rattle.std.proofs.Common.{IfErr, OnOk, OnErr, true, false, Option, None, Some, IfSome}
 pub use Rattle.std.proofs.raw_atomic.Walks.{proved, proved_at}
 pub use Rattle.std.proofs.mem.Facts.{says_two}
@@ -47,7 +47,7 @@ use denote.Struct.Laws.{usize-laws, usize-copy}
 pub use Rattle.allocative.proofs.Common.{name_if_ok, Refusal, Key, State, Visitor, LendsCollector, with_state}
 pub use Rattle.allocative.proofs.Common.{OpensRoot, Settles, OpensShared, EndsWith, EndsWithout}
 pub use Rattle.allocative.proofs.Common.{AnswersShared, answer_without_visitor, transpose, Identity, enters_first, LendsNested, Nests}
-pub use Rattle.allocative.proofs.Common.{IsRefused, OpensEntry, RefusesEntry, Failed}
+pub use Rattle.allocative.proofs.Common.{IsRefused, OpensEntry, RefusesEntry}
 pub use Rattle.std.specs.Borrow.{RestsIfErr}
 pub use prog.Wp.{WpFn, Closed}
 pub use denote.Param.{layout, bounded, param}

@@ -1,7 +1,6 @@
 -- What a visit by a root visitor amounts to.
 use Rattle.std.proofs.Common.{◌≡◌, ℕ, suc, ◌+◌, ◌<◌, ◌^◌, inr, List, length, take, get_or, Bool, IsTrue, Result, Ok}
 use Rattle.std.proofs.Common.{Err, IsErr, refl, ap, sym, subst, ◌∙◌, arith, inl, IfOk, IfErr, [], ◌∷◌, ◌++◌, drop}
-use Rattle.std.proofs.Common.{take-append-drop, true, false}
 use Rattle.allocative.proofs.Common.{Restore, Refusal, Forest, followed_by, add_all, held, ShowsNoContent, Kind}
 use Rattle.allocative.proofs.Common.{OfGraph, OfSum, State, Failed, Going, leave, plus, Takes, visitors, is_graph}
 use Rattle.allocative.proofs.Common.{begin, outer_of, close_entry, nothing_held, Showing, Both, each_shows, AddsForest}
@@ -23,12 +22,11 @@ use Rattle.allocative_graph.proofs.Plus.{plus-following, takes_both, visitors-le
 use Rattle.allocative_graph.proofs.Plus.{figure_after-zero, figure_after-none, is_graph-plus, is_graph-leave}
 use Rattle.allocative_graph.proofs.Plus.{is_graph-begin}
 use Rattle.allocative.proofs.Strict.{bytes_entered-plus, can_first, can_second, may_refuse, each_append, each_one}
-use Rattle.allocative.proofs.Strict.{declared_append}
+use Rattle.allocative.proofs.Strict.{declared_append, around_item}
 use Rattle.allocative_graph.proofs.Showings.{all_is_meaning, reaches_exactly, one_sums, whole_following, graphs_add}
 use Rattle.std.specs.List.{list_all}
-use Rattle.std.proofs.lemmas.Bool.{false≢true}
-use Rattle.std.proofs.lemmas.List.{take_more, drop_more}
-use Rattle.std.proofs.lemmas.List.Folds.{list_all_at}
+use Rattle.std.proofs.lemmas.List.{take_more}
+use Rattle.std.proofs.lemmas.List.Sums.{AllPass-from_list_all}
 
 -- If no visitor was open, exactly one is open after a root visitor was opened.
 visitors-begin : (b : Kind) → IsClosed b → visitors (begin b) ≡ 1
@@ -190,19 +188,13 @@ only_if_full_among w y p front x back (Going b) (Going c) t u e only (z, f, a, k
     can_first (begin (plus b f)) (after.0, λ g y. room_begun b f g (after.1 g y)) in
     (r.0, may_refuse (begin (plus b f)) (begin b) can same e m)
 
--- The list is the items before the one with this index, that item, and those after it.
-pub around_item : {T : Type 0} (xs : List T) (i : ℕ) (x : T) → i < length xs → x ≡ get_or xs i x →
-    take i xs ++ x ∷ drop (i + 1) xs ≡ xs
-around_item xs i x l e = (λ k. take i xs ++ e k ∷ drop (i + 1) xs)
-    ∙ ap (λ ys. take i xs ++ ys) (sym (drop_more xs i x l)) ∙ take-append-drop i xs
-
 -- The root with this index is refused after the roots before it were visited.
 pub only_if_full_indexed : {T : Type 0} (w y : Bool) (p : T → Showing) (xs : List T) (i : ℕ) (x : T) (s m t : State)
     (u : Unit) {e : Refusal} {r : Result Unit Refusal} → (IsTrue w → IsTrue y) → r ≡ Err e →
     VisitsRoot (each_shows p (take i xs)) s (Ok u) m → RootFailsOnlyIfFull y (p x) m (Err e) t → i < length xs →
     x ≡ get_or xs i x → RootFailsOnlyIfFull w (each_shows p xs) s r t
 only_if_full_indexed w y p xs i x s m t u {e} only err g k l is =
-    rw (← around_item xs i x l is, err) (only_if_full_among w y p (take i xs) x (drop (i + 1) xs) s m t u e only g k)
+    rw (← around_item xs i x l is, err) (only_if_full_among w y p (take i xs) x (drop (suc i) xs) s m t u e only g k)
 
 -- The root with this index is refused with what its visit left, after the roots before it were visited.
 pub refused_indexed : {T : Type 0} (p : T → Showing) (effect : T → Effect) (xs : List T) (i : ℕ) (x : T) (s m : State)
@@ -211,7 +203,7 @@ pub refused_indexed : {T : Type 0} (p : T → Showing) (effect : T → Effect) (
 refused_indexed p effect xs i x s m err k h l is = rw err (inr (record {
   before = take i xs;
   root = x;
-  after = drop (i + 1) xs;
+  after = drop (suc i) xs;
   are = sym (around_item xs i x l is);
   left = m;
   visited = k;
@@ -221,11 +213,7 @@ refused_indexed p effect xs i x s m err k h l is = rw err (inr (record {
 -- If all roots are strict, so is the root with this index.
 pub one_of_all : {T : Type 0} (q : T → Bool) (xs : List T) (i : ℕ) (x : T) → i < length xs → x ≡ get_or xs i x →
     IsTrue (list_all q xs) → IsTrue (q x)
-one_of_all q xs i x l is all = by_case (q x) refl
-  where
-    by_case : (b : Bool) → b ≡ q x → IsTrue b
-    by_case true h = refl
-    by_case false h = absurd (false≢true (sym (list_all_at q xs i x l (ap q (sym is) ∙ sym h)) ∙ all))
+one_of_all q xs i x l is all = ap q is ∙ AllPass-from_list_all q xs all i x l
 
 -- ---- a whole run
 -- If p is visited in an empty collector that ends with a profile, a whole showing of p has that profile.

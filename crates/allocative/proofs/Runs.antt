@@ -1,17 +1,17 @@
 -- How a loop over an iterator shows one more item, and what a whole run of it shows.
-use Rattle.std.proofs.Common.{Bool, false, true, ℕ, zero, suc, codes, ◌+◌, ◌*◌, ◌<◌, ◌^◌, length, filter_map, cond}
-use Rattle.std.proofs.Common.{count_by, is_some, arith, ◌⊎◌, inl, inr, List, [], ◌∷◌, ◌++◌, map, ◌≡◌, Option, None}
+use Rattle.std.proofs.Common.{Bool, false, true, ℕ, zero, suc, codes, ◌+◌, ◌*◌, ◌<◌, ◌^◌, length, drop, filter_map}
+use Rattle.std.proofs.Common.{arith, ◌⊎◌, inl, inr, List, [], ◌∷◌, ◌++◌, map, ◌≡◌, Option, None}
 use Rattle.std.proofs.Common.{Some, Result, Ok, Err, refl, sym, ◌∙◌, ap, subst}
 use Rattle.allocative.proofs.Common.{Restore, Yields, Refusal, Key, Forest, Kind, State, Showing, Nothing, Both}
 use Rattle.allocative.proofs.Common.{Inside, Field, each_shows, slice_shows, OpensEntry, checked, size_product}
 use Rattle.allocative.proofs.Common.{are_shown_each, bytes_shown, CountsRun, in_any_order, Visitor, IsDeclared, CanTake}
 use Rattle.allocative.proofs.Common.{FailsOnlyIfFull, with_state, Entered, Means, ClosesEntry}
 use Rattle.std.proofs.lemmas.List.{map-append, length-map}
-use Rattle.std.proofs.lemmas.List.Sums.{sum_by-cons}
 use Rattle.std.proofs.lemmas.List.Elements.{All-nil, All-cons, All-head, All-tail}
 use Rattle.std.proofs.lemmas.Bool.Decides.{nat_tests}
 use Rattle.std.proofs.lemmas.List.Sorted.{IsPermutation-refl, IsPermutation-sym, All-permutation}
 use Rattle.std.proofs.lemmas.Iterator.{YieldsList, items_from_drains}
+use Rattle.std.proofs.lemmas.Iterator.Consumers.{YieldsList-so_far, YieldsList-turn}
 use Rattle.std.specs.Iterator.{Drains, AlwaysYields}
 use Rattle.std.specs.List.{All}
 use Rattle.slab.specs.Slab.{entries_from}
@@ -20,9 +20,9 @@ use Rattle.allocative.proofs.Meaning.{entered_if, entered_as, entered_both, ente
 use Rattle.allocative.proofs.Meaning.{strict_same}
 use Rattle.allocative.specs.Making.{EntersRun, EntersData, MakesPlanOrGives, Done, first_refused, first_entered}
 use Rattle.allocative.proofs.Strict.{declared_nothing, declared_first, declared_second, declared_both, declared_append}
-use Rattle.allocative.proofs.Strict.{each_append, each_one, entry_fits, not_strict, only_if_full_as, only_if_full_inside}
-use Rattle.allocative.proofs.Strict.{only_if_full_not_within}
-use Rattle.allocative.proofs.Visits.{adds_inline, adds_weaker, entry_err, close_cause, not_entered, not_entered_cause}
+use Rattle.allocative.proofs.Strict.{each_append, each_one, entry_fits, not_strict, only_if_full_as, only_if_full_within}
+use Rattle.allocative.proofs.Strict.{only_if_full_not_within, around_item}
+use Rattle.allocative.proofs.Visits.{adds_entry, adds_weaker, entry_err, close_cause, not_entered, not_entered_cause}
 use Rattle.allocative.proofs.Making.{gives_within, gives_refused}
 use Rattle.allocative.proofs.ContainerMeaning.{plain_slice, slice_is_each, entry_declared, checked_fits, none_of_it}
 
@@ -61,7 +61,7 @@ along_run {steps = steps} {s = s} xs d h =
     record { along = λ i ys y. rw (← same_items {steps = steps} {s = s} xs d (record { runs = y })) (h.only_if_full i) }
 
 -- The items so far and the next one begin the list that every run gives.
-begins : {S A B : Type 0} (steps : S → Option A → S → Type 0) (v : A → B) (s : S) {u : S} (t : S) {x : A} (xs : List A)
+pub begins : {S A B : Type 0} (steps : S → Option A → S → Type 0) (v : A → B) (s : S) {u : S} (t : S) {x : A} (xs : List A)
     (ys : List B) → Yields steps s xs t → steps t (Some x) u → AlwaysYields steps v s ys →
     (rest : List B) × (map v xs ++ v x ∷ rest ≡ ys)
 begins steps v s {u = u} t {x = x} [] [] e g y = absurd (y x u (subst (λ z. steps z (Some x) u) (sym e) g))
@@ -80,11 +80,13 @@ pub along_refused : {S A B : Type 0} {d : Bool} (steps : S → Option A → S �
     steps t (Some x) u →
     Entered d (each_shows p (map v xs)) a b (Ok w) → Entered d (p (v x)) b c (Err e) →
     RefusesAlong d steps s v (each_shows p) a c r
-along_refused steps {s = s} t {v} {p} {x} xs is g n f z = record {
+along_refused steps {s = s} {u = u} t {v} {p} {x} xs is g n f z = record {
   along = λ i ys y.
-      let split = begins steps v s t xs ys g n y in
+      let every : YieldsList steps v s ys = record { runs = y } in
+      let turn = YieldsList-turn every xs t g (Some x) u x refl n in
       let both = entered_both strict_same strict_same f (entered_passed is strict_same z) in
-      rw (← split.1) ((entered_as both (means_append p (map v xs) (v x ∷ split.0))).only_if_full i);
+      rw (← around_item ys (length xs) (v x) turn.0 turn.1, ← YieldsList-so_far every xs t g)
+      ((entered_as both (means_append p (map v xs) (v x ∷ drop (suc (length xs)) ys))).only_if_full i);
 }
 
 -- An entry is entered with what is entered inside it, once it is left.
@@ -92,7 +94,7 @@ entered_within : {p : Showing} {k : Key} {n : ℕ} {o : Restore} {a b : Visitor}
     {r : Result (Unit {0}) Refusal} →
     OpensEntry false k (Some n) a.collector.now (Ok o) t → Entered false p (with_state a t) b r →
     ClosesEntry o b.collector.now d → Entered false (Inside k n p) a (with_state b d) r
-entered_within {r = Ok u} g h l = record { same_reference = h.same_reference; same_outer = h.same_outer; shown = adds_inline g refl h.shown l refl; cause = tt; only_if_full = not_strict }
+entered_within {r = Ok u} g h l = record { same_reference = h.same_reference; same_outer = h.same_outer; shown = adds_entry g refl h.shown l refl; cause = tt; only_if_full = not_strict }
 entered_within {r = Err e} g h l = record { same_reference = h.same_reference; same_outer = h.same_outer; shown = entry_err g refl h.shown l; cause = close_cause l h.cause; only_if_full = not_strict }
 
 -- The entry `data` was refused.
@@ -117,7 +119,7 @@ pub data_entered : {S A B : Type 0} {e : Bool} {steps : S → Option A → S →
     EntersData e steps s v p a (with_state b d) r
 data_entered g h f m l = record {
   entered = entered_within g h l;
-  only_if_full = record { along = λ i ys y. only_if_full_inside g (f.along i ys y) l };
+  only_if_full = record { along = λ i ys y. only_if_full_within g (f.along i ys y) l };
   first = first_entered g;
   plan = gives_within g m l;
 }
@@ -243,11 +245,3 @@ pub values_from : {T : Type 0} (key : ℕ) (slots : List (Option T)) →
 values_from key [] = refl
 values_from key (None ∷ rest) = values_from (key + 1) rest
 values_from key (Some x ∷ rest) = ap (λ xs. x ∷ xs) (values_from (key + 1) rest)
-
--- A list of slots has as many values as filled slots.
-pub values_count : {T : Type 0} (slots : List (Option T)) →
-    length (filter_map (λ slot. slot) slots) ≡ count_by is_some slots
-values_count [] = refl
-values_count (None ∷ rest) = omega (arith, values_count rest, sum_by-cons (λ slot. cond (is_some slot) 1 0) None rest)
-values_count (Some x ∷ rest) = omega
-    (arith, values_count rest, sum_by-cons (λ slot. cond (is_some slot) 1 0) (Some x) rest)

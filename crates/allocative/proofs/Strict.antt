@@ -1,5 +1,5 @@
 -- How visits that refuse only if they must compose: one after another, inside an entry, and as a shared content.
-use Rattle.std.proofs.Common.{◌≡◌, ℕ, ◌+◌, ◌<◌, ◌^◌, Bool, true, false, ◌&&◌, IsTrue, List, [], ◌∷◌, ◌++◌, flat_map}
+use Rattle.std.proofs.Common.{◌≡◌, ℕ, ◌+◌, ◌<◌, ◌^◌, Bool, true, false, ◌&&◌, IsTrue, List, [], ◌∷◌, ◌++◌, flat_map, suc, length, get_or, take, drop}
 use Rattle.std.proofs.Common.{Option, Some, None, inl, inr, Result, Ok, Err, refl, sym, ◌∙◌, ap, subst, arith}
 use Rattle.allocative.proofs.Common.{Restore, Refusal, Memory, TooLarge, Key, Identity, Forest, Empty, First, Again}
 use Rattle.allocative.proofs.Common.{followed_by, entry_of, add_all, Live, Kind, OfGraph, OfSum, State, Failed, Going}
@@ -9,6 +9,7 @@ use Rattle.allocative.proofs.Common.{OpensEntry, stays_failed, is_refused, is_en
 use Rattle.allocative.proofs.Common.{is_refused_shared, enters_first, enters_again, all_bytes, HasRoomFor}
 use Rattle.allocative.proofs.Common.{ShowsContents, IsDeclared, CanTake, MayRefuse, FailsOnlyIfFull, has_added}
 use Rattle.allocative.proofs.Common.{has_refused, ClosesEntry, is_too_large_shared, counts}
+use Rattle.std.proofs.Math.Seq.{split_at}
 use Rattle.std.proofs.lemmas.Bool.{false≢true, and_parts}
 use Rattle.std.proofs.lemmas.Grind.{flat_map-append}
 use Rattle.allocative_graph.specs.declared.refusal.Refusal.TheVariants.{Open}
@@ -70,7 +71,7 @@ all_bytes-following f g =
 
 -- ---- room
 -- If two forests one after the other fit words, with so many visitors open, each of them does.
-words_both : (o : ℕ) (f g : Forest) → FitsWords o (followed_by f g) → FitsWords o f × FitsWords o g
+pub words_both : (o : ℕ) (f g : Forest) → FitsWords o (followed_by f g) → FitsWords o f × FitsWords o g
 words_both o Empty g h = (tt, h)
 words_both o (Inline k n f after) g h = let r = words_both o after g h.3 in ((h.0, h.1, h.2, r.0), r.1)
 words_both o (Unique k n f after) g h = let r = words_both o after g h.3 in ((h.0, h.1, h.2, r.0), r.1)
@@ -262,28 +263,6 @@ pub only_if_full_not_within : {u : Bool} {p : Showing} {k : Key} {n : ℕ} {s t 
 only_if_full_not_within stays_failed = had_failed
 only_if_full_not_within {u} {k = k} {n = n} (is_refused {b = b} {e = e} h) = has_refused (entry_refuses _ u k n b e h)
 
--- If a visit fails only if full inside an inline entry that is opened and closed, so does the visit of the entry.
-pub only_if_full_inside : {p : Showing} {k : Key} {n : ℕ} {o : Restore} {s t c d : State} {r : Result Unit Refusal} →
-    OpensEntry false k (Some n) s (Ok o) t → FailsOnlyIfFull p t r c → ClosesEntry o c d →
-    FailsOnlyIfFull (Inside k n p) s r d
-only_if_full_inside = only_if_full_within
-
--- If a visit fails only if full inside a unique entry that is opened and closed, so does the visit of the entry.
-pub only_if_full_unique : {p : Showing} {k : Key} {n : ℕ} {o : Restore} {s t c d : State} {r : Result Unit Refusal} →
-    OpensEntry true k (Some n) s (Ok o) t → FailsOnlyIfFull p t r c → ClosesEntry o c d →
-    FailsOnlyIfFull (InsideAs true k n p) s r d
-only_if_full_unique = only_if_full_within
-
--- If opening an inline entry is refused, the visit that shows the entry fails only if full.
-pub only_if_full_not_inside : {p : Showing} {k : Key} {n : ℕ} {s t : State} {e : Refusal} →
-    OpensEntry false k (Some n) s (Err e) t → FailsOnlyIfFull (Inside k n p) s (Err e) t
-only_if_full_not_inside = only_if_full_not_within
-
--- If opening a unique entry is refused, the visit that shows the entry fails only if full.
-pub only_if_full_not_unique : {p : Showing} {k : Key} {n : ℕ} {s t : State} {e : Refusal} →
-    OpensEntry true k (Some n) s (Err e) t → FailsOnlyIfFull (InsideAs true k n p) s (Err e) t
-only_if_full_not_unique = only_if_full_not_within
-
 -- If a field with a size is declared, so is the inline entry of that size.
 in_sized : {k : Key} {n : ℕ} {p : Showing} → IsDeclared (Field k (Some n) p) → IsDeclared (Inside k n p)
 in_sized (f, sized x, s) = (f, x, s)
@@ -352,21 +331,23 @@ declared_append p (x ∷ xs) ys d =
 pub each_one : {T : Type 0} (p : T → Showing) (x : T) (f : Forest) → p x f → each_shows p (x ∷ []) f
 each_one p x f h = (f, Empty, h, refl, sym (followed_by-empty f))
 
+-- The list is the items before the one with this index, that item, and those after it.
+pub around_item : {T : Type 0} (xs : List T) (i : ℕ) (x : T) → i < length xs → x ≡ get_or xs i x →
+    take i xs ++ x ∷ drop (suc i) xs ≡ xs
+around_item xs i x l e = (λ k. take i xs ++ e k ∷ drop (suc i) xs) ∙ sym (split_at xs i x l)
+
 -- ---- a shared entry
 -- If a visit fails only if full at a new content that is opened and closed, so does the visit of the shared entry.
-pub only_if_full_content : {p : Showing} {k : Key} {n : ℕ} {i : Identity} {o : Restore} {is_first : Bool}
-    {s t c d : State} {r : Result Unit Refusal} →
-    OpensShared k n i s (Ok is_first) t → is_first ≡ true → FailsOnlyIfFull p t r c → ClosesEntry o c d →
-    FailsOnlyIfFull (Shared k n i p) s r d
-only_if_full_content {k = k} {n} {i} {o} (enters_first {c = b} room new e) is (has_added {c = c} f x t j) m =
+pub only_if_full_content : {p : Showing} {k : Key} {n : ℕ} {i : Identity} {o : Restore} {s t c d : State}
+    {r : Result Unit Refusal} →
+    OpensShared k n i s (Ok true) t → FailsOnlyIfFull p t r c → ClosesEntry o c d → FailsOnlyIfFull (Shared k n i p) s r d
+only_if_full_content {k = k} {n} {i} {o} (enters_first {c = b} room new e) (has_added {c = c} f x t j) m =
     let t' : Takes (OfGraph (enter_first k n i b)) f = subst (λ (z : Live). Takes (OfGraph z) f) e t in
     rw m.closes (has_added {b = OfGraph b} {c = leave o c} (First k n i f Empty) (inl (f, x, refl))
     (takes_shared k n i b f new t') (cc (inside_first k n i b f o)))
-only_if_full_content {p} {k} {n} {i} (enters_first {c = b} room new e) is (has_refused {e = r} w) m =
+only_if_full_content {p} {k} {n} {i} (enters_first {c = b} room new e) (has_refused {e = r} w) m =
     let w' : MayRefuse p (OfGraph (enter_first k n i b)) r = subst (λ (z : Live). MayRefuse p (OfGraph z) r) e w in
     rw m.closes (has_refused (may_refuse (OfGraph (enter_first k n i b)) (OfGraph b) (can_content k n i b) refl r w'))
-only_if_full_content (counts r e) is f m = absurd (false≢true is)
-only_if_full_content (enters_again r h e) is f m = absurd (false≢true is)
 
 -- If the content of an opened shared entry is not to be shown, a visit that returns Ok then fails only if full.
 pub only_if_full_again : {p : Showing} {k : Key} {n : ℕ} {i : Identity} {is_first : Bool} {s t : State} {x : Unit} →

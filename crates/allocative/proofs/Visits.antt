@@ -4,7 +4,7 @@ use Rattle.std.proofs.Common.{IsErr, ap, subst, arith, Some, None}
 use Rattle.allocative.proofs.Common.{Restore, Refusal, Key, Identity, Forest, Empty, First, Again, followed_by}
 use Rattle.allocative.proofs.Common.{entry_of, Live, Kind, OfGraph, State, Failed, Going, enter, enter_first, plus}
 use Rattle.allocative.proofs.Common.{Takes, is_graph, visitors, outer_of, failed_with, close_entry, Showing, Nothing}
-use Rattle.allocative.proofs.Common.{Both, InsideAs, Inside, Unique, Field, sized, Shared, AddsForest, already, refused}
+use Rattle.allocative.proofs.Common.{Both, InsideAs, Field, sized, Shared, AddsForest, already, refused}
 use Rattle.allocative.proofs.Common.{hidden, forgotten, HasFailed, OpensEntry, stays_failed, is_refused, is_entered}
 use Rattle.allocative.proofs.Common.{OpensShared, stays_shared, is_refused_shared, enters_first, enters_again}
 use Rattle.allocative.proofs.Common.{RefusesEntry, ClosesEntry, OfSum, is_too_large_shared, counts}
@@ -90,18 +90,6 @@ adds_entry {u} {p} {k} {n} {c = c} {v = v} {x = x} (is_entered {b = b} {c = d} r
     let s' : AddsForest p (Going d) (Ok v) c = subst (λ (z : State). AddsForest p z (Ok v) c) i s in
     rw (l.closes, q, f) (out_of u k n b d e x s')
 
--- An inline entry shows what is shown inside it, if it is opened, the visit returns Ok, and it is closed.
-pub adds_inline : {p : Showing} {k : Key} {n : ℕ} {o q : Restore} {s t a c d : State} {v x : Unit} →
-    OpensEntry false k (Some n) s (Ok o) t → a ≡ t → AddsForest p a (Ok v) c → ClosesEntry q c d → q ≡ o →
-    AddsForest (Inside k n p) s (Ok x) d
-adds_inline = adds_entry
-
--- A unique entry shows what is shown inside it, if it is opened, the visit returns Ok, and it is closed.
-pub adds_unique : {p : Showing} {k : Key} {n : ℕ} {o q : Restore} {s t a c d : State} {v x : Unit} →
-    OpensEntry true k (Some n) s (Ok o) t → a ≡ t → AddsForest p a (Ok v) c → ClosesEntry q c d → q ≡ o →
-    AddsForest (Unique k n p) s (Ok x) d
-adds_unique = adds_entry
-
 -- A field shows what is shown inside it, if it is opened, the visit returns Ok, and it is closed.
 pub adds_field : {p : Showing} {k : Key} {y : Option ℕ} {o q : Restore} {s t a c d : State} {v x : Unit} →
     OpensEntry false k y s (Ok o) t → a ≡ t → AddsForest p a (Ok v) c → ClosesEntry q c d → q ≡ o →
@@ -110,7 +98,7 @@ adds_field {y = None} g i s l q = elim g [ ]
 adds_field {y = Some n} g i s l q = adds_weaker (λ f h. sized h) (adds_entry g i s l q)
 
 -- ---- a shared entry
--- A step of `adds_shared`: a shared entry with a new identity shows what was shown as its content.
+-- A step of `content_shown`: a shared entry with a new identity shows what was shown as its content.
 out_of_first : {p : Showing} (k : Key) (n : ℕ) (i : Identity) (b d : Live) → contains b.met i ≡ false →
     d ≡ enter_first k n i b → {c : State} {v : Unit} (o : Restore) (w : Unit) →
     AddsForest p (Going (OfGraph d)) (Ok v) c →
@@ -123,17 +111,6 @@ out_of_first k n i b d h e o w (forgotten {c = c} j m) =
 out_of_first k n i b d h e o w (added {c = c} f q t m) =
     let t' : Takes (OfGraph (enter_first k n i b)) f = subst (λ (x : Live). Takes (OfGraph x) f) e t in
     added (First k n i f Empty) (inl (f, q, refl)) (takes_shared k n i b f h t') (cc (inside_first k n i b f o))
-
--- If the content of a shared entry is to be shown, its visit returns Ok, and it is closed, the entry shows its content.
-pub adds_shared : {p : Showing} {k : Key} {n : ℕ} {i : Identity} {q : Restore} {is_first : Bool} {s t a c d : State}
-    {v x : Unit} →
-    OpensShared k n i s (Ok is_first) t → is_first ≡ true → a ≡ t → AddsForest p a (Ok v) c → ClosesEntry q c d →
-    AddsForest (Shared k n i p) s (Ok x) d
-adds_shared {p} {k} {n} {i} {q} {c = c} {v = v} {x = x} (enters_first {c = b} {d = d} r h e) is z s g =
-    let s' : AddsForest p (Going (OfGraph d)) (Ok v) c = subst (λ (y : State). AddsForest p y (Ok v) c) z s in
-    rw g.closes (out_of_first k n i b d h e q x s')
-adds_shared (counts r e) is z s g = absurd (false≢true is)
-adds_shared (enters_again r h e) is z s g = absurd (false≢true is)
 
 -- If a shared entry is opened and its content is not to be shown, the pointer alone is shown.
 pub adds_again : {p : Showing} {k : Key} {n : ℕ} {i : Identity} {is_first : Bool} {s t : State} {x : Unit} →
@@ -156,15 +133,13 @@ pub entry_err : {u : Bool} {p q : Showing} {k : Key} {y : Option ℕ} {o w : Res
 entry_err {p = p} {w = w} {c = c} {z = y} (is_entered {c = d} r f e) i s l =
     rw l.closes (inside_failed w (subst (λ (z : State). AddsForest p z (Err y) c) i s))
 
--- If the visit of a shared content returns an error and the entry is closed, the visit around it may too.
-pub shared_err : {p q : Showing} {k : Key} {n : ℕ} {i : Identity} {w : Restore} {is_first : Bool} {s t a c d : State}
-    {z x : Refusal} →
-    OpensShared k n i s (Ok is_first) t → is_first ≡ true → a ≡ t → AddsForest p a (Err z) c → ClosesEntry w c d →
-    AddsForest q s (Err x) d
-shared_err {p = p} {w = w} {c = c} {z = y} (enters_first {d = d} r f e) is i s l =
-    rw l.closes (inside_failed w (subst (λ (z : State). AddsForest p z (Err y) c) i s))
-shared_err (counts r e) is i s l = absurd (false≢true is)
-shared_err (enters_again r h e) is i s l = absurd (false≢true is)
+-- If the content of a shared entry is visited and closed, the entry shows its content and returns what the visit did.
+pub content_shown : {p : Showing} {k : Key} {n : ℕ} {i : Identity} {w : Restore} {s t c d : State}
+    (r : Result Unit Refusal) → OpensShared k n i s (Ok true) t → AddsForest p t r c → ClosesEntry w c d →
+    AddsForest (Shared k n i p) s r d
+content_shown {k = k} {n} {i} {w} (Ok x) (enters_first {c = b} {d = d} r f e) h l =
+    rw l.closes (out_of_first k n i b d f e w x h)
+content_shown {w = w} (Err x) (enters_first r f e) h l = rw l.closes (inside_failed w h)
 
 -- ---- refusals
 -- The error of a result, and e if there is none.

@@ -27,7 +27,7 @@ pub use crate::run::{builder, profile, registry, size_of, sum_of_two};
 pub use crate::visitor::{Visitor, by_hand, collector, entries};
 pub use allocative_collectors::output::{FlameGraphOutput, WarnedPath};
 pub use allocative_described::{
-    And, Described, Fields, Or, Record, raw_table_alloc_size_for_len, raw_table_law,
+    And, Described, Fields, Fixed, Or, Record, raw_table_alloc_size_for_len, raw_table_law,
     shared_inner_size, up_law,
 };
 pub use allocative_graph::flamegraph::{Child, FlameGraph, Row, push_path};

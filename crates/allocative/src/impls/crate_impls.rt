@@ -1,7 +1,6 @@
 //! What the types of the crates that this one depends on show.
 ghost use Rattle.std.specs.FinMap.{len};
-ghost use Rattle.std.specs.Prelude.{◌≡◌, ◌-◌, ◌*◌, ◌&&◌, true, codes, Some};
-ghost use Rattle.allocative_described.specs.Sizes.{checked};
+ghost use Rattle.std.specs.Prelude.{◌&&◌, true, codes, Some};
 ghost use Rattle.slab.specs.Slab.{values};
 ghost use Rattle.allocative_graph.specs.Shows as shows;
 ghost use Rattle.allocative_graph.specs.Shows.{Nothing};
@@ -170,23 +169,17 @@ impl<T: Allocative + Described, const N: usize> Allocative for SmallVec<T, N> {
     }
 }
 
-/// The bytes of the nodes below the root: for each path but the root's a key of 16 bytes and a graph of 40.
-fn bytes_below(graph: &FlameGraph) -> Option<usize>
-    ensures { result ≡ checked ((len graph.now - 1) * 56) }
-{
-    let paths = graph.path_count()?;
-    paths.saturating_sub(1).checked_mul(56)
-}
-
-// A pointer to the nodes below the root, each of a key and a graph. Keys do not own their texts, and unused places of a
-// list of nodes are not counted.
+// A pointer to the nodes below the root, each of a key of 16 bytes and a graph of 40. Keys do not own their texts, and
+// unused places of a list of nodes are not counted.
 impl Allocative for FlameGraph {
     ghost may_show = { λ g. shows.Field (codes "FlameGraph") (Some 40) (graph_inside (len g)) };
 
     ghost is_strict = { true };
 
     fn visit(&self, visitor: &mut Visitor<'_>) -> Result<(), Refusal> {
-        let nodes = Declared("Child", bytes_below(self), ());
+        let paths = self.path_count();
+        let bytes = paths.and_then(|all| all.saturating_sub(1).checked_mul(56));
+        let nodes = Declared("Child", bytes, ());
         Whole(self, Unique("ptr", 8, nodes)).enter(visitor)
     }
 }

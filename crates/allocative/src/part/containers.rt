@@ -83,8 +83,7 @@ impl<'a, K: IntoKey, T: Allocative + Described> Part for FieldEach<K, &'a [T]> {
     ghost is_strict = { T.is_strict };
 
     fn enter(self, visitor: &mut Visitor<'_>) -> Result<(), Refusal> {
-        let FieldEach(key, items) = self;
-        visitor.visit_run(FieldUnder(key.into_key()), items.iter())
+        visitor.visit_fields(self.0.into_key(), self.1)
     }
 }
 

@@ -158,6 +158,23 @@ impl Visitor<'_> {
         self.visit_total_bytes::<T>(Key::for_type_name::<T>(), count)
     }
 
+    // The inline entry `data` of 8 bytes, with what is entered of each item that the iterator gives inside it.
+    fn visit_run_in_data<A: Drop, E: EnterItem<A>, I: Iterator<Item = A> + Drop>(
+        &mut self,
+        how: E,
+        items: I,
+    ) -> Result<(), Refusal>
+        requires can { I.can_next items }
+        requires ends { IsFinite (I.remaining items) }
+        ensures { EntersData E.is_strict I.next_gives items E.seen (E.may_show how)
+            self.old self.new result }
+    {
+        let outer = self.collector.open_entry(Key::new("data"), Some(8), false)?;
+        let answer = self.visit_run(how, items);
+        self.collector.close_entry(outer);
+        answer
+    }
+
     /// The inline entry `data` of 8 bytes, with the fields `key` and `value` for each pair that the
     /// iterator gives inside it.
     ///
@@ -175,10 +192,7 @@ impl Visitor<'_> {
         ensures { EntersData (K.is_strict && V.is_strict) I.next_gives entries deref_pair
             (pair_shows K.size K.may_show V.size V.may_show) self.old self.new result }
     {
-        let outer = self.collector.open_entry(Key::new("data"), Some(8), false)?;
-        let answer = self.visit_run(KeyAndValue, entries);
-        self.collector.close_entry(outer);
-        answer
+        self.visit_run_in_data(KeyAndValue, entries)
     }
 
     /// The inline entry `data` of 8 bytes, with a field `key` for each key that the iterator gives inside it.
@@ -193,9 +207,6 @@ impl Visitor<'_> {
         ensures { EntersData K.is_strict I.next_gives entries deref
             (field_of (codes "key") K.size K.may_show) self.old self.new result }
     {
-        let outer = self.collector.open_entry(Key::new("data"), Some(8), false)?;
-        let answer = self.visit_run(FieldUnder(Key::new("key")), entries);
-        self.collector.close_entry(outer);
-        answer
+        self.visit_run_in_data(FieldUnder(Key::new("key")), entries)
     }
 }

@@ -6,7 +6,8 @@ ghost use Rattle.allocative_described.specs.Sizes.{size_product};
 ghost use Rattle.allocative_graph.specs.Shows.{Field, Nothing, Both, each_shows, slice_shows};
 ghost use Rattle.allocative.specs.Making.{MakesPlan, MakesFirst, KeepsFailure, Done, one, VisitsNone, slice_plan, room_plan, vec_plan};
 ghost use Rattle.allocative.specs.Visited.{Entered};
-ghost use Rattle.allocative.specs.Bodies.{are_shown_each, bytes_shown, vec_body, data_shows, slice_of};
+ghost use Rattle.allocative.specs.Bodies.{are_shown_each, bytes_shown, vec_body, slice_of};
+ghost use Rattle.allocative.specs.Runs.{field_of};
 
 use crate::visitor::iterators::{FieldUnder, Itself};
 use crate::{Allocative, Described, Key, Refusal, Visitor};
@@ -60,9 +61,10 @@ impl Visitor<'_> {
         self.visit_total_bytes::<T>(Key::new("unused_capacity"), Some(count))
     }
 
-    /// What each item shows, in order.
+    /// What each item shows, in order, with no entry of its own. It returns the first error of an item, and enters nothing
+    /// after it.
     #[inline(always)]
-    pub(crate) fn visit_each<T: Allocative>(&mut self, items: &[T]) -> Result<(), Refusal>
+    pub fn visit_each<T: Allocative>(&mut self, items: &[T]) -> Result<(), Refusal>
         ensures entered { Entered T.is_strict (each_shows T.may_show items.now)
             self.old self.new result }
         ensures kept { KeepsFailure self.old self.new result }
@@ -89,16 +91,17 @@ impl Visitor<'_> {
         self.visit_total_bytes::<T>(Key::for_type_name::<T>(), Some(items.len()))
     }
 
-    /// A field `data` for each item, in order.
-    pub(crate) fn visit_data<T: Allocative + Described>(
+    /// A field under the key for each item, in order.
+    pub(crate) fn visit_fields<T: Allocative + Described>(
         &mut self,
+        name: Key,
         items: &[T],
     ) -> Result<(), Refusal>
-        ensures entered { Entered T.is_strict (data_shows T.size T.may_show items.now)
+        ensures entered { Entered T.is_strict (each_shows (field_of name T.size T.may_show) items.now)
             self.old self.new result }
         ensures plan { length items.now ≡ 0 → MakesPlan Done self.old self.new result }
     {
-        self.visit_run(FieldUnder(Key::new("data")), items.iter())
+        self.visit_run(FieldUnder(name), items.iter())
     }
 
     /// One inline entry with the item's name and the bytes of all items, with a field `data` for each item
@@ -118,7 +121,7 @@ impl Visitor<'_> {
         let outer = self
             .collector
             .open_entry(Key::for_type_name::<T>(), bytes, false)?;
-        let answer = self.visit_data(items);
+        let answer = self.visit_fields(Key::new("data"), items);
         self.collector.close_entry(outer);
         answer
     }

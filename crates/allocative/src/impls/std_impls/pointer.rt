@@ -8,9 +8,10 @@ ghost use Rattle.allocative_graph.specs.Shows as shows;
 ghost use Rattle.allocative.specs.Bodies.{slice_of};
 ghost use Rattle.allocative.specs.StdShows.{shared_inside};
 
+use crate::visitor::slices::bytes_of;
 use crate::{
-    Allocative, Declared, Described, Field, IdArc, IdRc, Inside, Key, Part, Refusal, Shared,
-    Unique, Visitor, Whole, shared_inner_size,
+    Allocative, Declared, Described, Field, FieldEach, IdArc, IdRc, Inside, Key, Part, Refusal,
+    Shared, Unique, Visitor, Whole, shared_inner_size,
 };
 use std::boxed::{BoxedSlice, BoxedStr};
 use std::marker::PhantomData;
@@ -27,20 +28,6 @@ impl<T: Allocative> Allocative for Box<T> {
     }
 }
 
-/// A slice with an entry of its own, as `Visitor::visit_slice_of` enters it.
-#[derive(Drop)]
-struct SliceOf<'a, T>(&'a [T]);
-
-impl<'a, T: Allocative + Described> Part for SliceOf<'a, T> {
-    ghost may_show = { λ s. slice_of T.name T.size T.may_show s.0.now };
-
-    ghost is_strict = { T.is_strict };
-
-    fn enter(self, visitor: &mut Visitor<'_>) -> Result<(), Refusal> {
-        visitor.visit_slice_of(self.0)
-    }
-}
-
 impl<T: Allocative + Described> Allocative for BoxedSlice<T> {
     ghost may_show = { λ b. shows.Field (codes "Box") (Some 16)
         (shows.Unique (codes "ptr") 16 (slice_of T.name T.size T.may_show (boxed_slice_items b))) };
@@ -48,8 +35,10 @@ impl<T: Allocative + Described> Allocative for BoxedSlice<T> {
     ghost is_strict = { T.is_strict };
 
     fn visit(&self, visitor: &mut Visitor<'_>) -> Result<(), Refusal> {
-        let items = SliceOf(self.as_slice());
-        Whole(self, Unique("ptr", 16, items)).enter(visitor)
+        let items = self.as_slice();
+        let bytes = bytes_of::<T>(Some(items.len()));
+        let slice = Declared(Key::for_type_name::<T>(), bytes, FieldEach("data", items));
+        Whole(self, Unique("ptr", 16, slice)).enter(visitor)
     }
 }
 

@@ -1,12 +1,13 @@
 -- The entries that the iterator gives are the slab's, and it has as many values.
-use Rattle.std.proofs.Common.{◌≡◌, ℕ, length, rules, sym, ◌∙◌}
+use Rattle.std.proofs.Common.{◌≡◌, ℕ, length, rules, ◌∙◌}
 use denote.Ref.{Bor}
+use Rattle.slab.proofs.DrainLemmas.{length-values}
 use Rattle.allocative.proofs.Common.{values, deref}
 use Rattle.std.proofs.lemmas.Iterator.{YieldsList-from_map_by}
 use Rattle.std.proofs.lemmas.Iterator.Consumers.{YieldsList-from_first}
 use Rattle.allocative.proofs.Meaning.{entered_if, strict_always, means_same}
 use Rattle.allocative.proofs.ContainerMeaning.{entered_plain, entered_one_by_one}
-use Rattle.allocative.proofs.Runs.{entered_list, values_from, values_count}
+use Rattle.allocative.proofs.Runs.{entered_list, values_from}
 use Rattle.allocative.proofs.impls.crate_impls.ValuesPart.enter.Goals as goal
 
 pub returns-then-are_shown_each : goal.returns-then-are_shown_each
@@ -22,7 +23,7 @@ returns-then-are_shown_each g c =
 pub returns : goal.returns
 returns g c =
     let slab = c.args.self.0.now in
-    let n : c.len.result ≡ length (values slab) = c.len.ensures ∙ sym (values_count slab.slots) in
+    let n : c.len.result ≡ length (values slab) = c.len.ensures ∙ length-values slab.slots in
     let entered = rw (c.for_type_name.ensures, n) at c.visit_total_bytes.ensures.entered in
     entered_plain g.T.Described.name g.T.Described.size g.T.Described.needs_drop g.T.Allocative.may_show (values slab)
     (search rules) (entered_if entered strict_always means_same)

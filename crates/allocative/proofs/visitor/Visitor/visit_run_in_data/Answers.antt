@@ -1,8 +1,8 @@
--- of Visitor::visit_generic_set_fields: an error and the result
+-- of Visitor::visit_run_in_data: an error and the result
 use Rattle.std.proofs.Common.{rules}
 use Rattle.allocative.proofs.Runs.{data_entered, data_refused}
 use Rattle.allocative.proofs.Visits.{same_err}
-use Rattle.allocative.proofs.visitor.Visitor.visit_generic_set_fields.Goals as goal
+use Rattle.allocative.proofs.visitor.Visitor.visit_run_in_data.Goals as goal
 
 pub returns-in_err-outer : goal.returns-in_err-outer
 returns-in_err-outer g c =
@@ -11,6 +11,6 @@ returns-in_err-outer g c =
 
 pub returns : goal.returns
 returns g c =
-    let run = rw c.new-2.ensures at c.visit_run-answer.ensures in
+    let run = c.visit_run-answer.ensures in
     data_entered (rw c.new.ensures at c.in_ok-outer.ensures.opens) run.entered run.only_if_full run.plan
     c.close_entry.ensures
