@@ -6,7 +6,6 @@ from typing import NamedTuple
 
 from . import foreign
 from .known import NUMBERS, Scope, split_at_hasher
-from .rust_sizes import BEFORE, POINTERS, is_unsized, layout_of
 from .types import Member, Type
 
 # Bytes, alignment, and how many parameters of a type whose size does not depend on them.
@@ -20,8 +19,22 @@ FIXED |= {"FlameGraph": (40, 8, 0), "Ledger": (56, 8, 0), "Account": (64, 8, 0),
 FIXED |= dict.fromkeys("Duration Instant SystemTime Number".split(), (16, 8, 0)) | {"Value": (32, 8, 0)}
 TAGGED = ("Option", "Result", "Either")
 COMPOSED = (*TAGGED, "ManuallyDrop", "UnsafeCell")
-# What stands before the value in a cell or a lock: its bytes, and the least alignment.
-HELD = {name: before for (home, name), before in BEFORE.items() if home == "std"} | {"OnceCell": (1, 1)}
+POINTERS = ("Rc", "Arc", "Weak", "Box")
+# What stands before the value in a cell or a lock, by its crate: its bytes, and the least alignment.
+BEFORE = {("std", "Mutex"): (5, 4), ("std", "RwLock"): (9, 4), ("std", "RefCell"): (8, 8), ("std", "Cell"): (0, 1)}
+BEFORE |= {("std", "OnceLock"): (4, 4), ("std", "OnceCell"): (1, 1)}
+BEFORE |= {("parking_lot", "Mutex"): (1, 1), ("parking_lot", "RwLock"): (8, 8)}
+# The bytes and the alignment in Rust on x86-64 of types that are not described.
+RUST = {
+    "std": {(24, 8): "OsString JoinHandle", (16, 8): "CString Sender SyncSender Receiver RandomState Layout TypeId"}
+    | {(8, 8): "Thread ThreadId AtomicPtr NonNull Stdin Stdout", (40, 8): "Barrier"}
+    | {(4, 4): "File TcpListener TcpStream UdpSocket UnixStream Condvar Once"},
+    "crossbeam_channel": {(16, 8): "Sender Receiver"},
+    "chrono": {(4, 4): "NaiveDate", (8, 4): "NaiveTime", (12, 4): "NaiveDateTime"},
+    "regex": {(32, 8): "Regex"},
+    "semver": {(40, 8): "Version"},
+}
+SIZES = {(home, name): size for home, sizes in RUST.items() for size, names in sizes.items() for name in names.split()}
 # A type of no bytes whose alignment and drop are those of what is not known.
 UNKNOWN = "[String; 0]"
 
@@ -64,7 +77,7 @@ class Counting:
         if name in FIXED and has_known_hasher and (name == "Infallible" or self.scope.is_of_library(kind)):
             size, align, count = FIXED[name]
             return Counted(path + (f"<{', '.join(['()'] * count)}>" if count else ""), size, align)
-        if kind.form in ("tuple", "array") or name in COMPOSED or (name in HELD and self.scope.is_of_library(kind)):
+        if kind.form in ("tuple", "array") or name in COMPOSED or (self.home(kind) in BEFORE and self.scope.is_of_library(kind)):
             return self.of_parts(kind, path, [self.of(part, parameters) for part in kind.parts])
         if self.scope.holds(kind, self.layouts):
             return Counted(self.layouts[name], None, 8) if name in self.layouts else None
@@ -82,8 +95,24 @@ class Counting:
             length = kind.text.rpartition("; ")[2][:-1]
             size = size * int(length) if size is not None and length.isdigit() else None
             return Counted(f"[{inside}; {length}]", size, align)
-        before, least = HELD.get(kind.name, (int(kind.name in TAGGED), 1))
+        before, least = BEFORE.get(self.home(kind), (int(kind.name in TAGGED), 1))
         return known[0] if kind.name == "UnsafeCell" else Counted(f"{path}<{inside}>", *laid_out(known, before, least))
+
+    def home(self, kind: Type) -> tuple[str, str]:
+        """The crate and the name of a type."""
+        path = self.scope.path(kind) if kind.path else ()
+        return path[0] if len(path) > 1 else "std", kind.name
+
+    def in_rust(self, kind: Type) -> Counted | None:
+        """A type of the size in Rust of one that does not count, or nothing if that is not known here."""
+        kind = self.scope.real(kind)
+        home = self.home(kind)
+        if home in SIZES and not self.scope.own(kind):
+            return Counted(UNKNOWN, *SIZES[home])
+        is_composed = kind.form in ("tuple", "array") or (home in BEFORE and not self.scope.own(kind))
+        if not is_composed or any(each.name in TAGGED for each in kind.all()):
+            return None
+        return self.of_parts(kind, kind.name, [self.of(part, ()) or self.in_rust(part) for part in kind.parts])
 
     def member(self, member: Member, parameters: tuple[str, ...]) -> list[Counted] | None:
         """What counts for a field: nothing for a `PhantomData`, and `None` if it is not known."""
@@ -92,7 +121,7 @@ class Counting:
         found = self.of(member.type, parameters if member.size is None else ())
         size = member.size
         if size is None and found is None:
-            size = (layout_of(self.scope, member.type) or (None,))[0]
+            size = getattr(self.in_rust(member.type), "size", None)
         if size is None or (found and found.size == size):
             return [found] if found else None
         empty = f"[{found.text}; 0]" if found else UNKNOWN
@@ -104,3 +133,8 @@ def laid_out(parts: list[Counted], before: int | None = None, least: int = 1) ->
     sizes, align = [part.size for part in parts if part.size is not None], max([least, *(part.align for part in parts)])
     size = sum(sizes) if before is None else before + max(sizes, default=0)
     return (-(-size // align) * align if len(sizes) == len(parts) else None), align
+
+
+def is_unsized(kind: Type) -> bool:
+    """Whether a pointer to a type has two words."""
+    return kind.name in ("str", "Path", "OsStr", "CStr") or kind.text.startswith(("dyn ", "["))

@@ -7,19 +7,19 @@ import os
 import re
 import textwrap
 from argparse import Namespace
+from collections.abc import Callable
 from functools import cached_property
 
 from . import foreign
-from .counted import Counted, Counting
+from .counted import Counted, Counting, is_unsized
 from .known import Scope
-from .rust_sizes import is_unsized
 from .tally import HOMES, MANY, SHAPES, Tally, find_tallied, reason
 from .text import LEVELS, WIDTH, Writer
 from .tokens import Fault, Tokens
 from .types import Definition, Foreign, Member, Module, Type, module_of, type_of
 
 BEGIN, END = "// allocative: begin", "// allocative: end"
-CODE = set("Allocative And Declared Described Field Inside Or Part Record Refusal Unique Visitor Whole".split())
+CODE = set("Allocative And Declared Described Field Fixed Inside Or Part Record Refusal Unique Visitor Whole".split())
 RESERVED = CODE | {"Option", "Result", "Box", "String"}
 BY_HAND = 'write it by hand: "A type that holds itself" in docs/IMPLEMENTING.md'
 TACTIC = "[tactic(auto, using(allocative::proofs::Parts::parts))]\n"
@@ -65,14 +65,8 @@ class Crate:
 
     def reached(self, name: str) -> set[str]:
         """The types of the crate that a type of it names, at any depth."""
-        found: set[str] = set()
-        waiting = [name]
-        while waiting:
-            definition = self.types.get(waiting.pop())
-            kinds = {kind.name for member in definition.members for kind in member.type.all()} if definition else set()
-            waiting += (kinds & self.types.keys()) - found
-            found |= kinds & self.types.keys()
-        return found
+        kinds = {each: {kind.name for member in one.members for kind in member.type.all()} for each, one in self.types.items()}
+        return closure(name, lambda each: kinds.get(each, set()) & kinds.keys())
 
     def implements(self, name: str, traits: tuple[str, ...]) -> bool:
         """Whether some traits are implemented for a type."""
@@ -99,6 +93,7 @@ class Source:
         self.is_inline = is_inline
         self.inner = [part for part in chosen.module.split("::") if part]
         folder, inside = crate_of(chosen.file)
+        self.path = [*inside, *self.inner]
         self.crate = Crate(folder)
         self.text = text
         self.pieces = pieces_of(text)
@@ -106,7 +101,6 @@ class Source:
         self.module = self.find(spliced(text, blanks))
         if self.pieces and not is_inline:
             self.module.implemented = self.find(text).implemented
-        self.path = [*inside, *self.inner]
         self.text_at = self.path if is_inline else [*self.path, "shown"]
         self.declared_at = ".".join(["Rattle", self.crate.name, "specs.declared", *self.path])
         self.tactic = f"#{TACTIC}" if is_inline else ""
@@ -289,16 +283,12 @@ class Source:
 
     def reached(self, name: str) -> set[str]:
         """The types of the module that a type holds, at any depth."""
-        found: set[str] = set()
-        waiting = [name]
-        while waiting:
-            definition = self.module.types.get(waiting.pop())
-            for member in definition.members if definition else ():
-                kinds = self.scope.real(member.type).all()
-                more = {kind.name for kind in kinds if self.scope.own(kind)} - found
-                found |= more
-                waiting += more
-        return found
+
+        def held(each: str) -> set[str]:
+            kinds = (kind for member in self.module.types[each].members for kind in self.scope.real(member.type).all())
+            return {kind.name for kind in kinds if self.scope.own(kind)}
+
+        return closure(name, held)
 
     def counts(self, kind: Type) -> bool:
         """Whether fields of a type are counted first: if it has a tally, and holds any number of items."""
@@ -327,6 +317,7 @@ class Source:
         lines = [f"ghost use {path}.{{{', '.join(sorted(names))}}};\n" for path, names in lists if names]
         text, code = "".join(lines).replace(".{shows}", " as shows"), use_line("allocative", used & CODE)
         code += "".join(use_line(f"allocative_tally::{home}", used & names) for home, names in HOMES.items())
+        code += use_line("std::marker", used & {"PhantomData"} - mine.uses.keys())
         if self.is_inline:
             return text + ("\n" if text and code else "") + code
         return f"{text}\nuse super::*;\n{code}"
@@ -357,6 +348,17 @@ def crate_of(path: str) -> tuple[str, list[str]]:
     at = len(parts) - 2 - parts[-2::-1].index("src")
     inside = parts[at + 1 :]
     return os.sep.join(parts[:at]), [] if inside in (["lib"], ["main"]) else inside
+
+
+def closure(first: str, reached: Callable[[str], set[str]]) -> set[str]:
+    """The names that are reached from one, at any depth."""
+    found: set[str] = set()
+    waiting = [first]
+    while waiting:
+        more = reached(waiting.pop()) - found
+        found |= more
+        waiting += more
+    return found
 
 
 def size_advice(member: Member, counted: list[Counted] | None) -> str:

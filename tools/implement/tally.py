@@ -4,10 +4,11 @@ from __future__ import annotations
 
 import re
 from functools import reduce
+from itertools import count
 from typing import TYPE_CHECKING, Any, Callable, NamedTuple
 
 from .known import CELLS, NUMBERS, SERVICE, Scope, split_at_hasher
-from .text import INDENT, WIDTH, bound, called, entered, holds, in_angles, joined, laid, pattern_of, size_of
+from .text import GROUP, INDENT, WIDTH, bound, called, entered, holds, in_angles, joined, laid, pattern_of, size_of
 from .types import Definition, Member, Type, Variant
 
 if TYPE_CHECKING:
@@ -21,8 +22,8 @@ UNTALLIED |= {name for name in NUMBERS if name.startswith("Atomic")}
 # The containers of any number of items.
 MANY = set("Vec VecDeque BTreeMap BTreeSet HashMap HashSet IndexMap IndexSet".split())
 # The modules of the library that have the words of the code.
-HOMES = {"field": {"CountedField", "FieldMany", "OwnTally", "count_own"}}
-HOMES["tally"] = {"CountError", "Entries", "InlineSum", "Sum", "Tallied", "added", "declared"}
+HOMES = {"field": {"CountedField", "FieldMany", "OwnTally", "SizedMany", "count_own"}}
+HOMES["tally"] = {"CountError", "Entries", "Tallied", "added", "declared"}
 SHAPES = {"Beside", "NoEntry", "entries"}
 # What a field adds to the weight of a tally, by the name of its type and those of its parts: a number 1, a map 6, a set
 # or what other crates have for many items 10, any other 3. The checker's borrow checker covers what shows 32 texts, of
@@ -32,8 +33,11 @@ WEIGHTS |= dict.fromkeys(("BTreeSet", "HashSet", "IndexMap", "IndexSet", "Slab",
 LARGEST_TALLY = 96
 NAMED_LENGTH = re.compile(r"; *[A-Za-z_]")
 HUMP = re.compile(r"(?<=[a-z0-9])(?=[A-Z])")
-# Gives the goal and the proof at a step that fails, from a proof of why, in which `{}` is what the step ensures.
-Failed = Callable[[str, str], tuple[str, str]]
+DECLARED = "c.in_ok-declared.ensures"
+# Gives the name of a step in an arm, from its name alone.
+Step = Callable[[str], str]
+# What the code of a tally names.
+TAKEN = "self tally count_own added declared"
 
 
 class Part(NamedTuple):
@@ -57,9 +61,10 @@ class Part(NamedTuple):
         """The declared size of an entry, in clauses."""
         return size_of(self.type) if self.bytes is None else f"(Some {self.bytes})"
 
-    def times(self, count: str) -> str:
-        """The sum of so many entries, in code."""
-        return f"Sum::times({f'<{self.type}>::size()' if self.bytes is None else f'Some({self.bytes})'}, {count})"
+    def many(self, count: str, inside: str) -> tuple[str, list[str]]:
+        """The entries of so many values, in code: what makes them, and its arguments."""
+        kind = self.type if self.bytes is None else f"Fixed<{self.bytes}, 1, false>"
+        return f"SizedMany::<{kind}, _, _>", [quoted(self.key), count, inside, "PhantomData"]
 
 
 def reason(scope: Scope, kind: Type, parameters: tuple[str, ...]) -> str:
@@ -194,10 +199,9 @@ class Tally:
         if self.definition.is_enum:
             body += f"{INDENT}match self {{\n{''.join(self.arm(*each) for each in self.arms)}{INDENT}}}\n"
         else:
-            body += "".join(self.counting(part, f"&self.{part.key}", INDENT) for part in self.root.inside)
-            body += f"{INDENT}Ok(())\n"
+            names = locals_of(self.definition.variants[0])
+            body += self.together(self.root.inside, names, [f"&self.{part.key}" for part in self.root.inside], INDENT)
         writer.answer(f"{writer.name}Tallied/tally", self.counted(), writer.lemma)
-        writer.answer(f"{writer.name}Tallied/show", [("returns", self.sums())])
         depth = 2 * len(self.flat) + 2
         writer.answer(f"{writer.name}Tallied/none_counted", [("returns", f"search (rules, starting) depth {depth}")])
         return (
@@ -231,8 +235,7 @@ class Tally:
             count = f"tally.{part.name}" if part in self.kept and not part.kind else "count"
             text += "".join(INDENT + self.entry(each, names, count) for each in (*part.inside, part))
         inside = paired([names[each] for each in self.root.inside], "({}, {})".format, "()")
-        size = called("let size = ", "Sum::times", [f"<{self.root.type}>::size()", "count"], ";", INDENT)
-        return f"{text}{INDENT}{size}{INDENT}{entered('InlineSum', [quoted(self.root.key), 'size', inside], INDENT)}\n"
+        return f"{text}{INDENT}{entered(*self.root.many('count', inside), INDENT)}\n"
 
     def entry(self, part: Part, names: dict[Part, str], count: str) -> str:
         """The line that makes the entries of a part of so many values."""
@@ -243,20 +246,22 @@ class Tally:
             arguments = [quoted(part.key), f"&tally.{part.name}", count]
         else:
             inside = paired([names[each] for each in part.inside], "({}, {})".format, "()")
-            return called(head, "InlineSum", [quoted(part.key), part.times(count), inside], ";", INDENT)
+            return called(head, *part.many(count, inside), ";", INDENT)
         return called(head, f"FieldMany::<{part.type}>", arguments, ";", INDENT)
 
-    def counting(self, part: Part, value: str, indent: str) -> str:
-        """The line that counts the value of a field. One that is shown by its size alone needs none."""
-        if part.bytes is not None:
-            return ""
-        if part.is_own:
-            return indent + called("", "count_own", [f"&mut tally.{part.name}", value], "?;", indent)
-        return indent + called("", "Tallied::tally", [value, f"&mut tally.{part.name}"], "?;", indent)
+    def together(self, parts: tuple[Part, ...], names: list[str], values: list[str], indent: str) -> str:
+        """The lines that count fields and join what each comes to. A field that is shown by its size alone needs none."""
+        lines = "".join(
+            indent + called(f"let {name} = ", "Tallied::tally", [value, f"&mut tally.{part.name}"], ";", indent)
+            for part, name, value in zip(parts, names, values)
+            if part.kind
+        )
+        results = [name if part.kind else "" for part, name in zip(parts, names)]
+        return f"{lines}{indent}{joined(results, lambda some: chained(some, indent)) or 'Ok(())'}\n"
 
     def arm(self, variant: Variant, part: Part | None) -> str:
         """The lines that count the fields of a variant."""
-        names, indent = bound(variant.names, 44, "self tally count_own added declared"), " " * 16
+        names, indent = names_of(variant), " " * 16
         head = f"{' ' * 12}{self.writer.name}::{variant.name}{pattern_of(variant, names)} => "
         if not part:
             return f"{head}Ok(()),\n"
@@ -264,83 +269,71 @@ class Tally:
         if not part.kind:
             lines = f"{indent}declared::<{part.type}>()?;\n" if part.bytes is None else ""
             lines += f"{indent}tally.{part.name} = added(tally.{part.name}, 1)?;\n"
-        shown = [name for each, name in zip(variant.members, names) if not each.is_skipped]
-        inside = part.inside if variant.is_entry else (part,)
-        lines += "".join(self.counting(each, name, indent) for each, name in zip(inside, shown))
-        return f"{head}{{\n{lines}{indent}Ok(())\n{' ' * 12}}}\n"
+        shown = locals_of(variant)
+        if part.is_own:
+            return called(head, "count_own", [f"&mut tally.{part.name}", *shown], ",", " " * 12)
+        lines += self.together(part.inside, shown, shown, indent)
+        return f"{head}{{\n{lines}{' ' * 12}}}\n"
 
     # ---- answers
-    def sums(self) -> str:
-        """The proof of what is entered: the sums are those of the shape."""
-        facts, times, sizes = [], 1, 1
-        for part in (each for inside in self.root.inside for each in (*inside.inside, inside) if not each.kind):
-            facts.append(f"c.times{ordinal(times)}.ensures")
-            facts += [f"c.size{ordinal(sizes)}.ensures"] if part.bytes is None else []
-            times, sizes = times + 1, sizes + (part.bytes is None)
-        facts.append(f"c.times-size.ensures, c.size{ordinal(sizes)}.ensures")
-        return f"rw ({', '.join(facts)}) at c.enter.ensures"
-
     def counted(self) -> list[tuple[str, str]]:
         """The proofs of what is counted, each with the name of its goal."""
         if not self.definition.is_enum:
-            found = [("returns", self.whole("next_whole", fields(self.root.inside, "")))]
-            return found + self.refused(
-                self.root.inside, "", 1, "cannot", lambda step, why: stopped(step, f"cannot_field {why}")
-            )
+            proof, is_sure = fields(self.root.inside, locals_of(self.definition.variants[0]), str)
+            whole = f"whole_counts _ {DECLARED} {self.room}\n    {proof}"
+            return [("returns", self.whole("next_whole", proof) if is_sure else whole)]
         found = []
+        # The steps of the arms before. A step that an arm before has too is named by its arm.
+        before: set[str] = set()
         for (variant, part), fact in zip(self.arms, self.writer.facts):
-            arm = f"-in-{variant.name}" if self.arms[1:] else ""
-            proof, last = "nothing_counted", f"-{variant.name}"
-            found += self.refused_arm(part, arm, fact) if part else []
-            if part and part.is_own:
-                proof, last = f"(own_counted c.in_ok-count_own{arm}.ensures)", f"_ok-count_own{arm}"
-            elif part and part.bytes is not None:
-                proof, last = "(fixed_counted _ _ (omega arith))", f"_ok-tally{arm}"
-            elif part:
-                case = f"case_counted c.in_ok-declared{arm or '-2'}.ensures (omega arith)"
-                # The first step that is named `tally` is that which adds to the number of the variant.
-                proof = f"({case}\n    {fields(part.inside, arm, 2)}\n    {self.room})"
-                last = f"_ok-tally{arm}{ordinal(len([each for each in part.inside if each.kind]) + 1)}"
-            proof = placed(self.root.inside, part, proof, "({}_counted {})") if part else proof
-            goal = f"returns-in{last}" if arm else "returns"
-            found.append((goal, f"next_as (rw {fact} as_itself)\n    ({self.whole('next_case', proof)})"))
+            arm, names = f"-in-{variant.name}" if self.arms[1:] else "", locals_of(variant)
+            found += self.counted_arm(part, names, arm, fact, lambda step: step + arm if step in before else step)
+            counted = [f"tally-{name}" for each, name in zip(part.inside, names) if each.kind] if part else []
+            before |= {*counted, *["and"] * (len(counted) > 1), *["count_own"] * bool(part and part.is_own)}
         return found
 
-    def refused(self, parts: tuple[Part, ...], arm: str, start: int, lemma: str, failed: Failed) -> list[tuple[str, str]]:
-        """The proofs for fields that cannot be counted, in an arm, by steps that are numbered from a start.
+    def counted_arm(self, part: Part | None, names: list[str], arm: str, fact: str, step: Step) -> list[tuple[str, str]]:
+        """The proofs for a variant with fields of some names, from what is known of the value."""
 
-        `lemma` is how the names of the lemmas begin, and `failed` gives the proof for the value.
-        """
-        steps = enumerate((each for each in parts if each.kind), start)
-        why = f"({lemma}_field {{}})"
-        return [failed(f"tally{arm}{ordinal(at)}", placed(parts, part, why, f"({lemma}_{{}} {{}})")) for at, part in steps]
+        def counted(proof: str) -> str:
+            inside = placed(self.root.inside, part, proof, "({}_counted {})") if part else proof
+            return f"next_as (rw {fact} as_itself)\n    ({self.whole('next_case', inside)})"
 
-    def refused_arm(self, part: Part, arm: str, fact: str) -> list[tuple[str, str]]:
-        """The proofs for the part of a variant that cannot be counted."""
-        place = placed(self.root.inside, part, "{}", "(exceeds_{} {})", ("left", "right"))
+        def refused(proof: str) -> str:
+            return f"(cannot_case {placed(self.root.inside, part, proof, '(exceeds_{} {})', ('left', 'right'))})"
 
-        def failed(step: str, why: str) -> tuple[str, str]:
+        def told(name: str, proof: str) -> str:
             if arm:
-                return stopped(step, f"rw {fact}\n    (cannot_case {place.format(why)})", "({}.next _)")
+                return f"rw {fact}\n    {refused(proof.format(name))}"
             # The value of an only variant is known by an equation of the whole, which rewrites what is known of it too.
-            case = f"(rw {fact}\n    (λ e. cannot_case {place.format(why.format('(e.next _)'))}))"
-            return stopped(step, f"from_fact {{}}\n    {case}")
+            return f"from_fact {name}\n    (rw {fact} (λ e. {refused(proof.format('e'))[1:-1]}))"
 
-        def full(step: str, why: str) -> tuple[str, str]:
-            return stopped(step, f"rw {fact}\n    (cannot_case {place.format(why)})")
-
-        step = f"tally{arm}"
+        if not part:
+            return [(f"returns{arm}", counted("nothing_counted"))]
         if part.is_own:
-            return [failed(f"count_own{arm}", "{}")]
+            own = f"c.{step('count_own')}"
+            ok, err = counted("(own_counted own)"), told("own", "({}.next _)")
+            return [(f"returns{arm}", f"MatchResult-weaker {own}.result {own}.ensures\n    (λ _ own. {ok})\n    (λ _ own. {err})")]
+        added = f"tally{arm}"
+        goal = f"returns-in_ok-{added}" if arm else "returns"
         if part.bytes is not None:
-            return [full(step, "(exceeds_sum false _ (omega arith))")]
-        found = [full(step, "(exceeds_full {})"), full(f"declared{arm or '-2'}", "(exceeds_missing {})")]
-        inside = self.refused(part.inside, arm, 2, "exceeds", lambda step, why: failed(step, f"(exceeds_field {why})"))
-        return found + inside
+            ok = counted("(fixed_counted _ _ (omega arith))")
+            err = refused("(exceeds_sum false _ (omega arith))")
+            return [stopped(added, f"rw {fact}\n    {err}"), (goal, ok)]
+        declared = f"declared{arm or '-2'}"
+        full, missing = refused("(exceeds_full {})"), refused("(exceeds_missing {})")
+        found = [stopped(added, f"rw {fact}\n    {full}"), stopped(declared, f"rw {fact}\n    {missing}")]
+        proof, is_sure = fields(part.inside, names, step)
+        case = f"(case_counted c.in_ok-{declared}.ensures (omega arith)\n    {{}}\n    {self.room})"
+        if is_sure:
+            return [*found, (goal, counted(case.format(proof)))]
+        ok, err = counted(case.format("told")), told("told", "(exceeds_field ({}.next _))")
+        proof = f"told_as {proof}\n    (λ told. {ok})\n    (λ told. {err})"
+        return [*found, (goal, proof)]
 
     def whole(self, lemma: str, inside: str) -> str:
         """The proof for the entry of a value, from that for what is inside it."""
-        return f"{lemma} c.in_ok-declared.ensures\n    {inside}\n    {self.room}"
+        return f"{lemma} {DECLARED}\n    {inside}\n    {self.room}"
 
 
 def quoted(key: str) -> str:
@@ -352,13 +345,47 @@ def ordinal(at: int) -> str:
     return f"-{at}" if at > 1 else ""
 
 
-def fields(parts: tuple[Part, ...], arm: str, start: int = 1) -> str:
-    """The proof for fields, which are counted in an arm, by steps that are numbered from a start."""
-    steps = []
-    for part in parts:
-        steps.append(f"(next_field c.in_ok-tally{arm}{ordinal(start)}.ensures)" if part.kind else "next_fixed")
-        start += bool(part.kind)
-    return paired(steps, "(next_both\n    {}\n    {})".format, "next_nothing")
+def names_of(variant: Variant) -> list[str]:
+    """The names of the fields of a variant, or of a struct, in the code of its tally: short ones if there are many."""
+    return bound(variant.names, 38 if len(variant.names) <= GROUP else 0, TAKEN)
+
+
+def locals_of(variant: Variant) -> list[str]:
+    """The names of the fields that are shown."""
+    return [name for each, name in zip(variant.members, names_of(variant)) if not each.is_skipped]
+
+
+def chained(results: list[str], indent: str) -> str:
+    """Results as one, laid out as `rt fmt` does."""
+    first, *later = [each for each in results if each] or [""]
+    if not later:
+        return first
+    rest = chained(later, "")
+    line = f"{first}.and({rest})"
+    if len(line) <= 60:
+        return line
+    if len(rest) > 60:
+        return f"{first}.and(\n{indent}    {chained(later, indent + ' ' * 4)},\n{indent})"
+    return f"{first}\n{indent}    .and({rest})"
+
+
+def fields(parts: tuple[Part, ...], names: list[str], step: Step) -> tuple[str, bool]:
+    """The proof for fields, which are counted under these names, and whether they are surely counted."""
+    # The steps that join results, in the order in which they are taken.
+    numbers = count(1)
+
+    def within(tree: Any) -> tuple[str, bool]:
+        if isinstance(tree, tuple):
+            return tree
+        (one, is_first_sure), (last, is_last_sure) = map(within, tree)
+        lemma = "next_both" if is_last_sure else "sure_first"
+        if not is_first_sure:
+            lemma = "sure_second" if is_last_sure else f"both_count c.{step('and')}{ordinal(next(numbers))}.ensures"
+        return f"({lemma}\n    {one}\n    {last})", is_first_sure and is_last_sure
+
+    counted = [(f"(field_counts _ _ _ _ _ _ c.{step(f'tally-{name}')}.ensures)", False) for name in names]
+    steps = [each if part.kind else ("next_fixed", True) for part, each in zip(parts, counted)]
+    return within(paired(steps, lambda one, last: [one, last], ("next_nothing", True)))
 
 
 def placed(
@@ -375,8 +402,8 @@ def placed(
     return within(paired([*parts], lambda one, later: [one, later], None))
 
 
-def stopped(step: str, proof: str, fact: str = "{}") -> tuple[str, str]:
-    """The goal at the exit of a `?`, and its proof from that for the error, in which `{}` is a fact of what failed."""
+def stopped(step: str, proof: str) -> tuple[str, str]:
+    """The goal at the exit of a `?`, and its proof from that for the error, in which `{}` is what the step ensures."""
     residual = f"c.from_residual-in_err-{step}"
-    proof = proof.format(fact.format(f"c.in_err-{step}.ensures"))
+    proof = proof.format(f"c.in_err-{step}.ensures")
     return f"returns-in_err-{step}", f"stops {residual}.result _ _ {residual}.ensures.0\n    ({proof})"

@@ -60,11 +60,12 @@ LEMMAS = {
     "allocative.proofs.Meaning": "entered_loosely strict_same means_both means_field means_same visited_as visited_if",
     "allocative.proofs.Parts": "strict",
     "allocative_tally.proofs.Counting": "first_counted second_counted",
-    "allocative_tally.proofs.Fields": "case_counted fixed_counted holding next_as next_both next_case next_field next_fixed "
-    "next_nothing next_whole nothing_counted own_counted starting",
+    "allocative_tally.proofs.Fields": "both_count case_counted field_counts fixed_counted holding next_as next_both next_case "
+    "next_fixed next_nothing next_whole nothing_counted own_counted starting sure_first sure_second told_as whole_counts",
     "allocative_tally.proofs.Sizes": "holds_bytes",
-    "allocative_tally.proofs.Weighing": "cannot_case cannot_field cannot_first cannot_second exceeds_field "
-    "exceeds_first exceeds_full exceeds_left exceeds_missing exceeds_right exceeds_second exceeds_sum from_fact stops",
+    "allocative_tally.proofs.Weighing": "cannot_case exceeds_field exceeds_full exceeds_left exceeds_missing exceeds_right "
+    "exceeds_sum from_fact stops",
+    "std.proofs.lemmas.Result": "MatchResult-weaker",
     "allocative_tally.specs.Whole": "as_itself",
 }
 DESCRIBED = {"align": "usize", "needs_drop": "bool", "size": "Option<usize>"}

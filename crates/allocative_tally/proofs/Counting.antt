@@ -7,13 +7,12 @@ use Rattle.allocative.proofs.Common.{Inside, Field, each_shows}
 use Rattle.allocative_graph.specs.Owned.{direct}
 use Rattle.allocative_graph.proofs.Owned.{direct-following}
 use Rattle.allocative.proofs.Strict.{followed_by-empty, followed_by_assoc}
-use Rattle.allocative_tally.specs.Shapes.{IsPlain, Merged, Width, Unique, Wide, Narrow, is_unique, HasWidth, Shape}
-use Rattle.allocative_tally.specs.Shapes.{NoEntry, Beside, EntryAt, forest_of, Holds, IsRight, entry_counted, top_bytes}
-use Rattle.allocative_tally.specs.Shapes.{is_there, weight, ShownAs}
-use Rattle.allocative_tally.specs.Tallies.{Tallies, IsWithin, AddsEntry, both_bounds}
+use Rattle.allocative_tally.specs.{IsPlain, Merged, Width, Unique, Wide, Narrow, is_unique, HasWidth, Shape, NoEntry}
+use Rattle.allocative_tally.specs.{Beside, EntryAt, forest_of, Holds, IsRight, entry_counted, top_bytes, is_there}
+use Rattle.allocative_tally.specs.{weight, ShownAs, IsWithin, AddsEntry, both_bounds, weight_entry, as_itself}
+use Rattle.allocative_tally.specs.Tallies.{Tallies}
 use Rattle.allocative_tally.specs.declared.tally.Sum.{Sum}
-use Rattle.allocative_tally.proofs.Sizes.{HoldsBound, holds_nothing}
-use Rattle.allocative_tally.specs.Whole.{weight_entry}
+use Rattle.allocative_tally.proofs.Sizes.{HoldsBound, holds_itself, holds_nothing}
 use Rattle.allocative_tally.proofs.Weighing.{both_weight, field_as, each_as}
 use Rattle.allocative_tally.proofs.Merging.{plain_parts, plain_inside, merged_same, merged_then, merged_both}
 use Rattle.allocative_tally.proofs.Merging.{merged_crossed, merged_entry, merged_inside, KeepsOwned, direct_entry}
@@ -33,15 +32,24 @@ tallies_none {w} {s = s} x = record {
   weighs = λ f x. omega arith;
 }
 
--- What was counted as p was counted as q, if p is shown as q.
-pub tallies_as : {w : Option ℕ} {p q : Showing} {s t : Shape} → ShownAs p q → Tallies w p s t → Tallies w q s t
-tallies_as a t = record {
+-- What was counted as p within a bound was counted as q, if p is shown as q, within a size that holds the bound.
+tallies_to : {v w : Option ℕ} {p q : Showing} {s t : Shape} → HoldsBound v w → ShownAs p q → Tallies w p s t →
+    Tallies v q s t
+tallies_to h a t = record {
   counted = t.counted;
   allowed = a.up t.counted t.allowed;
-  within = t.within;
+  within = h.room _ t.within;
   merged = t.merged;
   weighs = λ f x. let l = a.down f x in omega (arith, t.weighs l.0 l.1, l.2);
 }
+
+-- What was counted as p was counted as q, if p is shown as q.
+pub tallies_as : {w : Option ℕ} {p q : Showing} {s t : Shape} → ShownAs p q → Tallies w p s t → Tallies w q s t
+tallies_as a t = tallies_to holds_itself a t
+
+-- What was counted within a bound is within a size that holds the bound.
+pub tallies_within : {v w : Option ℕ} {p : Showing} {s t : Shape} → HoldsBound v w → Tallies w p s t → Tallies v p s t
+tallies_within h t = tallies_to h as_itself t
 
 -- Two forests are within the bounds of both if each is within its own.
 both_within : (m n : Option ℕ) (f g : Forest) → IsWithin (direct f) m → IsWithin (direct g) n →
@@ -206,13 +214,6 @@ pub counted_unique : {w : Option ℕ} {p : Showing} {k : Key} {n : ℕ} {old new
     AddsEntry n old new → (c : Tallies w p s t) → (IsRight s → direct (forest_of s) + direct c.counted < 2 ^ 64) →
     Tallies (Some n) (InsideAs true k n p) (EntryAt Unique k old s) (EntryAt Unique k new t)
 counted_unique {k = k} {n = n} more c room = tallies_entry Unique k n more c tt (λ r a fits. room r)
-
--- One more inline entry was counted, which has at most the bytes directly inside it.
-pub counted_narrow : {w : Option ℕ} {p : Showing} {k : Key} {n : ℕ} {old new : Sum} {s t : Shape} →
-    AddsEntry n old new → (c : Tallies w p s t) → (IsRight s → direct (forest_of s) + direct c.counted < 2 ^ 64) →
-    ((f : Forest) → p f → n ≤ direct f) → Tallies (Some n) (Inside k n p) (EntryAt Narrow k old s) (EntryAt Narrow k new t)
-counted_narrow {k = k} {n = n} more c room least =
-    tallies_entry Narrow k n more c (least c.counted c.allowed) (λ r a fits. room r)
 
 -- One more inline entry with nothing inside it was counted.
 pub counted_leaf : {k : Key} {n : ℕ} {old new : Sum} → AddsEntry n old new →

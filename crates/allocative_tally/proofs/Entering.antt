@@ -1,21 +1,19 @@
 -- What was entered as the merged forest was entered as the forests that it merges.
 use Rattle.std.proofs.Common.{◌≡◌, ℕ, Bool, true, false, Result, Ok, refl, sym, ap, subst, ◌∙◌, arith, Option, Some}
-use Rattle.std.proofs.Common.{◌<◌, ◌≤◌, ◌^◌, List, ◌∷◌, ◌++◌, length, get_or, take, drop, []}
-use Rattle.std.proofs.lemmas.List.{take-append-drop}
+use Rattle.std.proofs.Common.{◌<◌, ◌≤◌, ◌^◌}
 use Rattle.allocative_graph.specs.Owned.{direct}
 use Rattle.allocative_graph.specs.Sums.{bytes_entered}
 use Rattle.allocative_graph.specs.Visits.{added}
 use Rattle.allocative.specs.Strict.{had_failed}
-use Rattle.allocative.proofs.Common.{Refusal, Key, Forest, Empty, followed_by, entry_of, Kind, OfGraph, OfSum, State, plus}
-use Rattle.allocative.proofs.Common.{Showing, Nothing, Both, InsideAs, AddsForest, already, refused, hidden, forgotten}
-use Rattle.allocative.proofs.Common.{CanTake, HasRoomFor, FailsOnlyIfFull, each_shows, has_added, has_refused, Entered}
+use Rattle.allocative.proofs.Common.{Refusal, Key, Forest, Empty, followed_by, entry_of, Kind, OfGraph, OfSum, State}
+use Rattle.allocative.proofs.Common.{plus, Showing, Nothing, Both, InsideAs, AddsForest, already, refused, hidden}
+use Rattle.allocative.proofs.Common.{forgotten, CanTake, HasRoomFor, FailsOnlyIfFull, has_added, has_refused, Entered}
 use Rattle.allocative.proofs.Common.{Means}
-use Rattle.allocative.proofs.Meaning.{entered_as, entered_none, means_same}
-use Rattle.allocative.proofs.Strict.{may_refuse, declared_first, declared_append, each_append, each_one}
-use Rattle.allocative.proofs.Strict.{bytes_entered-plus}
-use Rattle.allocative_tally.specs.Shapes.{IsPlain, Merged, Width, is_unique, Shape, NoEntry, Beside, EntryAt, forest_of}
-use Rattle.allocative_tally.specs.Shapes.{IsNothing, entry_counted, shape_shows, is_shape, is_there}
-use Rattle.allocative_tally.specs.Tallies.{Tallies, EntersShape, IsWithin}
+use Rattle.allocative.proofs.Meaning.{entered_as, entered_none}
+use Rattle.allocative.proofs.Strict.{may_refuse, bytes_entered-plus}
+use Rattle.allocative_tally.specs.{IsPlain, Merged, Width, is_unique, Shape, NoEntry, Beside, EntryAt, forest_of}
+use Rattle.allocative_tally.specs.{IsNothing, entry_counted, shape_shows, is_shape, is_there, EntersShape, IsWithin}
+use Rattle.allocative_tally.specs.Tallies.{Tallies}
 use Rattle.allocative_tally.specs.declared.tally.Sum.{Sum}
 use Rattle.allocative_tally.proofs.Merging.{plain_taken, plain_shows}
 
@@ -96,36 +94,6 @@ counts {n = n} {s = s} {t = t} none c e room =
     }
 
 -- ---- what a tally enters
--- Two shapes are shown, one after another.
-pub means_beside : {s t : Shape} → Means true (Both (shape_shows s) (shape_shows t)) (shape_shows (Beside s t))
-means_beside {s} {t} = record {
-  means = λ h (a, b, y, z, e). is_shape (e ∙ (λ i. followed_by (shown_alone y i) (shown_alone z i)));
-  declared = λ i (h, a, c). (h, (forest_of s, forest_of t, is_shape refl, is_shape refl, shown_alone a), c);
-}
-
--- No part means no entry.
-pub means_no_entry : Means true Nothing (shape_shows NoEntry)
-means_no_entry = record { means = λ h a. is_shape a; declared = λ i (h, a, c). (h, shown_alone a, c) }
-
--- The entry of a sum that is there is an entry, with the shape inside it.
-pub means_there : (x : Width) {k : Key} {sum : Sum} {s : Shape} → 0 < sum.count →
-    Means true (InsideAs (is_unique x) k sum.bytes (shape_shows s)) (shape_shows (EntryAt x k sum s))
-means_there x {k} {sum} {s} some =
-    let b : is_there sum ≡ true = grind (arith, some) in
-    let e = ap (λ (y : Bool). entry_counted y (is_unique x) k sum.bytes (forest_of s)) b in
-    record {
-      means = λ h (g, a, i). is_shape (i ∙ ap (entry_of (is_unique x) k sum.bytes) (shown_alone a) ∙ sym e);
-      declared = λ j (h, a, c). (h, (forest_of s, is_shape refl, shown_alone a ∙ e), c);
-    }
-
--- The entry of a sum that is not there is no entry.
-pub means_not_there : (x : Width) {k : Key} {sum : Sum} {s : Shape} → sum.count ≡ 0 →
-    Means true Nothing (shape_shows (EntryAt x k sum s))
-means_not_there x {k} {sum} {s} none =
-    let b : is_there sum ≡ false = rw none refl in
-    let e = ap (λ (y : Bool). entry_counted y (is_unique x) k sum.bytes (forest_of s)) b in
-    record { means = λ h a. is_shape (a ∙ sym e); declared = λ j d. (Empty, refl, tt) }
-
 -- What was entered as a part was entered as the shape that it means.
 pub enters_shape : {p : Showing} {s : Shape} {a b : _} {r : Result (Unit {0}) Refusal} → Entered true p a b r →
     Means true p (shape_shows s) → EntersShape s a b r
@@ -139,30 +107,37 @@ enters_same e h = enters_shape h.entered (record {
   declared = λ j (f, a, c). (f, is_shape (shown_alone a ∙ sym e), c);
 })
 
+-- Two shapes were entered, one after another.
+pub enters_both : {s t : Shape} {a b : _} {r : Result (Unit {0}) Refusal} →
+    Entered true (Both (shape_shows s) (shape_shows t)) a b r → EntersShape (Beside s t) a b r
+enters_both {s} {t} h = enters_shape h (record {
+  means = λ f (g, k, y, z, e). is_shape (e ∙ (λ i. followed_by (shown_alone y i) (shown_alone z i)));
+  declared = λ i (f, a, c). (f, (forest_of s, forest_of t, is_shape refl, is_shape refl, shown_alone a), c);
+})
+
+-- No entry was entered.
+pub enters_nothing : {a b : _} {r : Result (Unit {0}) Refusal} → Entered true Nothing a b r → EntersShape NoEntry a b r
+enters_nothing h = enters_shape h
+    (record { means = λ f a. is_shape a; declared = λ i (f, a, c). (f, shown_alone a, c) })
+
+-- The entry of a sum that is there was entered, with the shape inside it.
+pub enters_entry : (x : Width) {k : Key} {sum : Sum} {s : Shape} {a b : _} {r : Result (Unit {0}) Refusal} →
+    0 < sum.count → Entered true (InsideAs (is_unique x) k sum.bytes (shape_shows s)) a b r →
+    EntersShape (EntryAt x k sum s) a b r
+enters_entry x {k} {sum} {s} some h =
+    let there : is_there sum ≡ true = grind (arith, some) in
+    let e = ap (λ (y : Bool). entry_counted y (is_unique x) k sum.bytes (forest_of s)) there in
+    enters_shape h (record {
+      means = λ f (g, a, i). is_shape (i ∙ ap (entry_of (is_unique x) k sum.bytes) (shown_alone a) ∙ sym e);
+      declared = λ j (f, a, c). (f, (forest_of s, is_shape refl, shown_alone a ∙ e), c);
+    })
+
 -- A call that enters nothing and returns Ok has entered the entry of a sum that is not there.
 pub enters_none : (x : Width) {k : Key} {sum : Sum} {s : Shape} (a : _) → sum.count ≡ 0 →
     EntersShape (EntryAt x k sum s) a a (Ok tt)
-enters_none x a b = record { entered = entered_none a (means_not_there x b) }
-
--- ---- items, one by one
--- No item shows nothing.
-pub each_none : {T : Type 0} {e : Bool} (p : T → Showing) (xs : List T) → length xs ≡ 0 →
-    Means e Nothing (each_shows p xs)
-each_none p [] h = means_same
-each_none p (x ∷ xs) h = absurd (omega (arith, h))
-
--- One item shows what it shows.
-pub each_single : {T : Type 0} {e : Bool} (p : T → Showing) (xs : List T) (x : T) → length xs ≡ 1 → x ≡ get_or xs 0 x →
-    Means e (p x) (each_shows p xs)
-each_single p [] x h i = absurd (omega (arith, h))
-each_single {e = e} p (y ∷ []) x h i = subst (λ z. Means e (p z) (each_shows p (y ∷ []))) (sym i)
-    (record { means = each_one p y; declared = λ j d. declared_first d })
-each_single p (y ∷ z ∷ ys) x h i = absurd (omega (arith, h))
-
--- The items of the front and then those of the back are all items.
-pub each_halves : {T : Type 0} {e : Bool} (p : T → Showing) (xs front back : List T) (n : ℕ) → front ≡ take n xs →
-    back ≡ drop n xs → Means e (Both (each_shows p front) (each_shows p back)) (each_shows p xs)
-each_halves {e = e} p xs front back n f b = subst (λ ys. Means e (Both (each_shows p front) (each_shows p back))
-    (each_shows p ys))
-    ((λ i. f i ++ b i) ∙ take-append-drop n xs)
-    (record { means = each_append p front back; declared = λ j d. declared_append p front back d })
+enters_none x {k} {sum} {s} a none =
+    let there : is_there sum ≡ false = rw none refl in
+    let e = ap (λ (y : Bool). entry_counted y (is_unique x) k sum.bytes (forest_of s)) there in record {
+      entered = entered_none a
+          (record { means = λ f a. is_shape (a ∙ sym e); declared = λ j d. (Empty, refl, tt) });
+    }

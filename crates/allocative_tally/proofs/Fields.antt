@@ -1,13 +1,18 @@
 -- How values of structs and enums are counted, by their fields.
 use Rattle.std.proofs.Common.{◌≡◌, ◌≤◌, ◌<◌, ◌+◌, ◌*◌, mul-add, ℕ, Option, Some, None, refl, sym, ap, subst, arith, ◌∙◌}
+use Rattle.std.proofs.Common.{Result, Ok, Err, MatchResult}
+use Rattle.std.specs.Result.{result_and}
+use Rattle.std.proofs.lemmas.Result.{MatchResult-weaker}
+use Rattle.allocative_tally.specs.{CannotTally}
+use Rattle.allocative_tally.specs.declared.tally.CountError.{CountError}
+use Rattle.allocative_tally.proofs.Weighing.{cannot_field, cannot_first, cannot_second}
 use Rattle.allocative_graph.specs.Owned.{direct}
 use Rattle.allocative.proofs.Common.{Key, Forest, Showing, Nothing, Both, Inside, Field}
-use Rattle.allocative_tally.specs.Shapes.{Shape, NoEntry, Beside, IsNothing, bytes_times, entries, sum_of, sum_times}
-use Rattle.allocative_tally.specs.Tallies.{Tallies, TalliesNext, TalliesFields, TalliesOwn, AddsEntry, IsDeclared}
-use Rattle.allocative_tally.specs.Tallies.{both_bounds}
+use Rattle.allocative_tally.specs.{Shape, NoEntry, Beside, IsNothing, bytes_times, entries, sum_of, sum_times}
+use Rattle.allocative_tally.specs.{TalliesNext, TalliesFields, TalliesOwn, AddsEntry, IsDeclared, both_bounds, ShownAs}
+use Rattle.allocative_tally.specs.Tallies.{Tallies}
 use Rattle.allocative_tally.proofs.Counting.{counted_leaf, counted_field, counted_inline, tallies_both, tallies_none}
-use Rattle.allocative_tally.proofs.Counting.{tallies_as}
-use Rattle.allocative_tally.specs.Shapes.{ShownAs}
+use Rattle.allocative_tally.proofs.Counting.{tallies_as, tallies_within}
 use Rattle.allocative_tally.proofs.Sizes.{HoldsBound, holds_up, holds_both, holds_first, holds_second, holds_first_of}
 use Rattle.allocative_tally.proofs.Sizes.{holds_second_of, holds_itself, holds_bytes, holds_nothing, holds_grouped}
 
@@ -16,23 +21,18 @@ use Rattle.allocative_tally.proofs.Sizes.{holds_second_of, holds_itself, holds_b
 pub adds_of : (n m : ℕ) {a b c : ℕ} → 0 < m → m ≤ n + 1 → c ≡ a + b → AddsEntry b (sum_of n a) (sum_of m c)
 adds_of n m some one e = record { is_there = grind (arith, some); bytes = λ room. e; weighs = omega arith }
 
--- Entries have the bytes of more values of a declared size.
-pub adds_times : (size : Option ℕ) (n m a b c : ℕ) {z : ℕ} → 0 < m → m ≤ n + 1 → size ≡ Some z → c ≡ a + b →
-    AddsEntry (z * b) (sum_of n (bytes_times size a)) (sum_of m (bytes_times size c))
-adds_times None n m a b c some one e i = absurd (cc)
-adds_times (Some s) n m a b c {z} some one e i =
-    let same : s * b ≡ z * b = ap (λ (y : ℕ). y * b) (cc) in
-    let all : s * c ≡ s * a + s * b = ap (λ (y : ℕ). s * y) i ∙ mul-add s a b in record {
-      is_there = grind (arith, some);
-      bytes = λ room. omega (arith, room, same, all);
-      weighs = omega (arith, one, same, all);
-    }
-
 -- One more value of a declared size is one more entry.
 pub one_more : (size : Option ℕ) (n m : ℕ) {z : ℕ} → size ≡ Some z → m ≡ n + 1 →
     AddsEntry z (sum_times size n) (sum_times size m)
-one_more size n m {z} e i = subst (λ (b : ℕ). AddsEntry b (sum_times size n) (sum_times size m)) (omega arith)
-    (adds_times size n m n 1 m (omega (arith, i)) (omega (arith, i)) e i)
+one_more None n m e i = absurd (cc)
+one_more (Some s) n m {z} e i =
+    let same : s ≡ z = cc in
+    let some : 0 < m = omega (arith, i) in
+    let all : s * m ≡ s * n + s * 1 = ap (λ (y : ℕ). s * y) i ∙ mul-add s n 1 in record {
+      is_there = grind (arith, some);
+      bytes = λ room. omega (arith, room, same, all);
+      weighs = omega (arith, i, same, all);
+    }
 
 -- No entry of no values.
 times_none : (size : Option ℕ) → bytes_times size 0 ≡ 0
@@ -59,23 +59,10 @@ starts_both s t a b = record { is_empty = rw (a.is_empty, b.is_empty) refl; hold
 pub ruleset starting = (starts_entry, starts_both)
 
 -- ---- fields
--- What was counted within a bound is within a size that holds the bound.
-pub tallies_within : {w : Option ℕ} {p : Showing} {s t : Shape} (v : Option ℕ) → HoldsBound v w → Tallies w p s t →
-    Tallies v p s t
-tallies_within v h t =
-    record {
-      counted = t.counted;
-      allowed = t.allowed;
-      within = h.room _ t.within;
-      merged = t.merged;
-      weighs =
-          t.weighs;
-    }
-
 -- Fields within a bound are within a size that holds the bound.
 pub next_within : {v w : Option ℕ} {p : Showing} {s t : ℕ → Shape} → HoldsBound v w → TalliesFields w p s t →
     TalliesFields v p s t
-next_within h a = record { next = λ n. tallies_within _ h (a.next n) }
+next_within h a = record { next = λ n. tallies_within h (a.next n) }
 
 -- A value is its own entry with its fields inside it.
 whole_counted : (n m : ℕ) {b : ℕ} {size w : Option ℕ} {k : Key} {p : Showing} {s t : Shape} → size ≡ Some b → m ≡ n + 1 →
@@ -123,6 +110,48 @@ pub next_whole : {size w : Option ℕ} {k : Key} {p : Showing} {s t : ℕ → Sh
     TalliesNext size (Field k size p) (λ n. entries k size n (s n)) (λ n. entries k size n (t n))
 next_whole d fields holds = record { declared = d; next = λ n. whole_counted n (n + 1) d.sized refl (fields.next n) holds }
 
+-- ---- fields that are counted, or cannot be
+-- What counting a value's fields comes to: they were counted, or they cannot be.
+pub record FieldsCount (size : Option ℕ) (p : Showing) (s t : ℕ → Shape) (r : Result (Unit {0}) CountError) : Type 0 where
+  pub told : MatchResult r (λ _. TalliesFields size p s t) (λ _. CannotTally p s)
+
+-- A field is counted, or cannot be, as its value.
+pub field_counts : (v : Option ℕ) (k : Key) (p : Showing) (s t : ℕ → Shape) (r : Result (Unit {0}) CountError) →
+    MatchResult r (λ _. TalliesNext v p s t) (λ _. CannotTally p s) →
+    FieldsCount v (Field k v p) (λ n. entries k v n (s n)) (λ n. entries k v n (t n)) r
+field_counts v k p s t r m = record { told = MatchResult-weaker r m (λ _. next_field) (λ _. cannot_field) }
+
+-- Fields that are surely counted, and then others.
+pub sure_first : {v w : Option ℕ} {p q : Showing} {s s' t t' : ℕ → Shape} {b : Result (Unit {0}) CountError} →
+    TalliesFields v p s s' → FieldsCount w q t t' b →
+    FieldsCount (both_bounds v w) (Both p q) (λ n. Beside (s n) (t n)) (λ n. Beside (s' n) (t' n)) b
+sure_first {b = b} x y = record { told = MatchResult-weaker b y.told (λ _. next_both x) (λ _. cannot_second) }
+
+-- Fields, and then others that are surely counted.
+pub sure_second : {v w : Option ℕ} {p q : Showing} {s s' t t' : ℕ → Shape} {a : Result (Unit {0}) CountError} →
+    FieldsCount v p s s' a → TalliesFields w q t t' →
+    FieldsCount (both_bounds v w) (Both p q) (λ n. Beside (s n) (t n)) (λ n. Beside (s' n) (t' n)) a
+sure_second {a = a} x y = record { told = MatchResult-weaker a x.told (λ _ z. next_both z y) (λ _. cannot_first) }
+
+-- Fields and then others are counted, or one of them cannot be, as their results joined.
+pub both_count : {v w : Option ℕ} {p q : Showing} {s s' t t' : ℕ → Shape} {a b r : Result (Unit {0}) CountError} →
+    r ≡ result_and a b → FieldsCount v p s s' a → FieldsCount w q t t' b →
+    FieldsCount (both_bounds v w) (Both p q) (λ n. Beside (s n) (t n)) (λ n. Beside (s' n) (t' n)) r
+both_count {a = Ok u} e x y = rw e (sure_first x.told y)
+both_count {a = Err f} e x y = rw e (record { told = cannot_first x.told })
+
+-- What counting fields comes to, from that for fields that were counted, and that for fields that cannot be.
+pub told_as : {w : Option ℕ} {p : Showing} {s t : ℕ → Shape} {r : Result (Unit {0}) CountError} {P Q : Type 0} →
+    FieldsCount w p s t r → (TalliesFields w p s t → P) → (CannotTally p s → Q) → MatchResult r (λ _. P) (λ _. Q)
+told_as {r = r} m ok err = MatchResult-weaker r m.told (λ _. ok) (λ _. err)
+
+-- A value is counted, or cannot be, as its fields.
+pub whole_counts : {v w : Option ℕ} (k : Key) {p : Showing} {s t : ℕ → Shape} {r : Result (Unit {0}) CountError} →
+    IsDeclared v → HoldsBound v w → FieldsCount w p s t r →
+    MatchResult r (λ _. TalliesNext v (Field k v p) (λ n. entries k v n (s n)) (λ n. entries k v n (t n)))
+    (λ _. CannotTally (Field k v p) (λ n. entries k v n (s n)))
+whole_counts k d holds m = told_as m (λ f. next_whole d f holds) cannot_field
+
 -- What was counted as p was counted as q, if p is shown as q.
 pub next_as : {w : Option ℕ} {p q : Showing} {s t : ℕ → Shape} → ShownAs p q → TalliesNext w p s t →
     TalliesNext w q s t
@@ -142,9 +171,7 @@ next_leaf {size} a d = next_as a (next_case d nothing_counted (holds_nothing siz
 -- A case of several fields is its entry, with the fields inside it.
 pub case_counted : {v w : Option ℕ} {k : Key} {p : Showing} {n m : ℕ} {s t : ℕ → Shape} → IsDeclared v → m ≡ n + 1 →
     TalliesFields w p s t → HoldsBound v w → Tallies v (Field k v p) (entries k v n (s n)) (entries k v m (t m))
-case_counted {v} {k = k} {p} {n} {m} {s} {t} d more fields holds =
-    subst (λ (i : ℕ). Tallies v (Field k v p) (entries k v n (s n)) (entries k v i (t i))) (sym more)
-    (whole_counted n (n + 1) d.sized refl (fields.next n) holds)
+case_counted {n = n} d more fields holds = rw more (whole_counted n (n + 1) d.sized refl (fields.next n) holds)
 
 -- A case of one value is its entry, with what the value shows.
 pub own_counted : {v : Option ℕ} {k : Key} {p : Showing} {n m : ℕ} {s t : ℕ → Shape} → TalliesOwn v p n s m t →

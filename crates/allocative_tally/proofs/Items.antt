@@ -1,52 +1,49 @@
 -- How texts, buffers and items are counted, and those of arrays, boxes, maps and the packs.
-use Rattle.std.proofs.Common.{◌≡◌, ◌≤◌, ◌<◌, ◌+◌, ◌-◌, ◌*◌, ◌^◌, mul-add, ℕ, Bool, true, false, codes, List, ◌++◌}
-use Rattle.std.proofs.Common.{length, length-append, Option, Some, None, refl, sym, ap, subst, ◌∙◌, arith, ◌∷◌, inl}
-use Rattle.std.proofs.Common.{le_refl, Result, mul-suc, [], map}
-use Rattle.allocative_tally.proofs.Weighing.{pair_heavy, pairs_load, text_as, each_in, slice_one_as}
-use Rattle.allocative_tally.proofs.Weighing.{cut_as, buffer_as, inline_as, spilled_as, index_data_as, table_as}
-use Rattle.allocative_tally.proofs.Weighing.{item_cannot, small_vec_size}
+use Rattle.std.proofs.lemmas.Result.{MatchResult-weaker}
+use Rattle.std.proofs.Common.{MatchResult, ◌≡◌, ◌≤◌, ◌<◌, ◌+◌, ◌-◌, ◌*◌, ◌^◌, mul-add, ℕ, Bool, true, false, codes}
+use Rattle.std.proofs.Common.{List, ◌++◌, length, length-append, Option, Some, None, refl, sym, ap, subst, ◌∙◌, arith}
+use Rattle.std.proofs.Common.{◌∷◌, le_refl, Result, mul-suc, [], map}
+use Rattle.std.specs.Iterator.{Yields}
+use Rattle.std.proofs.lemmas.Nat.{mul-le}
+use Rattle.std.proofs.lemmas.Iterator.{YieldsList, items_from_drains}
 use Rattle.allocative_described.specs.Sizes.{checked, size_product, IsRawTableSize, size_sum}
 use Rattle.allocative_graph.specs.Owned.{direct}
 use Rattle.allocative_graph.proofs.Owned.{direct-following}
 use Rattle.allocative.proofs.Common.{Key, Showing, Both, Inside, InsideAs, Field, buffer_shows, Forest, sized}
 use Rattle.allocative.proofs.Common.{each_shows, table_shows, Refusal, Entered, Empty}
 use Rattle.allocative.proofs.ContainerMeaning.{checked_fits}
+use Rattle.allocative.proofs.Runs.{begins}
 use Rattle.allocative.specs.Bodies.{text_shows, are_shown_each, bytes_shown, data_shows}
-use Rattle.allocative_tally.specs.Shapes.{Shape, Unique, Wide, NoEntry, Beside, EntryAt, forest_of, sum_of, sum_times}
-use Rattle.allocative_tally.specs.Shapes.{entries, bytes_times, top_bytes, items_shape, buffer_shape, unused_shape}
-use Rattle.allocative_tally.specs.Shapes.{pairs_shape, Narrow, table_shape, shape_shows, IsNothing, ShownAs}
-use Rattle.allocative_tally.specs.Shapes.{least_weight}
-use Rattle.allocative_tally.specs.Tallies.{Tallies, TalliesNext, TalliesSlice, size_times, AddsPlaces, buffer_of}
-use Rattle.allocative_tally.specs.Tallies.{in_slices, TalliesMany, FitsWord, IsDeclared, IsWithin, both_bounds}
-use Rattle.allocative_tally.specs.Tallies.{TalliesFields, AddsItems, AreFields, CannotAdd, no_room_for_both}
-use Rattle.allocative_tally.specs.Tallies.{HoldsOfEveryRun, CannotTally}
+use Rattle.allocative.specs.Runs.{field_of, pair_shows}
+use Rattle.allocative.specs.PackShows.{index_data_shows}
+use Rattle.allocative.specs.declared.visitor.Visitor.{Visitor}
+use Rattle.allocative_tally.proofs.Weighing.{text_as, each_in, slice_one_as, cut_as, buffer_as, index_data_as, table_as}
+use Rattle.allocative_tally.proofs.Weighing.{both_weight, field_as, exceeds_as, exceeds_inside, added_exceeds}
+use Rattle.allocative_tally.proofs.Weighing.{run_exceeds, SliceTallies, slice_bears, begins_with, exceeds_in}
+use Rattle.allocative_tally.proofs.Weighing.{exceeds_then}
+use Rattle.allocative_tally.specs.{Shape, Wide, NoEntry, Beside, EntryAt, forest_of, sum_of, sum_times, entries}
+use Rattle.allocative_tally.specs.{bytes_times, top_bytes, items_shape, buffer_shape, unused_shape, pairs_shape}
+use Rattle.allocative_tally.specs.{table_shape, shape_shows, IsNothing, ShownAs, least_weight, TalliesNext, size_times}
+use Rattle.allocative_tally.specs.{AddsPlaces, buffer_of, in_slices, TalliesMany, FitsWord, IsDeclared, IsWithin}
+use Rattle.allocative_tally.specs.{both_bounds, TalliesFields, AddsItems, AreFields, CannotAdd, HoldsOfEveryRun}
+use Rattle.allocative_tally.specs.{CannotTally, field_least, Exceeds, IsWhole, CannotAddItems, weight, load, Width}
+use Rattle.allocative_tally.specs.{is_unique, HasWidth, text_shape}
+use Rattle.allocative_tally.specs.Tallies.{Tallies}
 use Rattle.allocative_tally.specs.declared.places.Places.{Places}
 use Rattle.allocative_tally.proofs.Counting.{counted_field, counted_inline, counted_unique, counted_leaf, tallies_both}
 use Rattle.allocative_tally.proofs.Counting.{tallies_as, tallies_then, tallies_none, entry_direct, shape_direct}
-use Rattle.allocative_tally.proofs.Counting.{counted_narrow, first_counted, second_counted, tallies_more}
-use Rattle.allocative_tally.specs.Whole.{field_least}
-use Rattle.std.specs.Iterator.{Yields, AlwaysYields}
-use Rattle.allocative_tally.proofs.Sizes.{holds_bytes, room_checked, checked_is, HoldsBound, holds_up, holds_second}
-use Rattle.allocative_tally.proofs.Sizes.{holds_first_of, holds_second_of}
-use Rattle.allocative_tally.proofs.Fields.{adds_of, one_more, next_case, tallies_within}
-use Rattle.std.proofs.lemmas.Nat.{mul-le}
-use Rattle.smallvec.specs.SmallVec.{SmallVec, IsSpilled}
-use Rattle.allocative.specs.Runs.{field_of, pair_shows}
-use Rattle.allocative.specs.PackShows.{index_data_shows, small_vec_inside}
-use Rattle.allocative.specs.declared.visitor.Visitor.{Visitor}
+use Rattle.allocative_tally.proofs.Counting.{tallies_more, tallies_within, tallies_entry}
+use Rattle.allocative_tally.proofs.Sizes.{holds_bytes, room_checked, checked_is, HoldsBound, times_checked}
+use Rattle.allocative_tally.proofs.Sizes.{least_checked}
+use Rattle.allocative_tally.proofs.Fields.{adds_of, one_more, next_case}
 use Rattle.allocative_tally.proofs.Entering.{entered_counted, counts}
-use Rattle.std.proofs.lemmas.Iterator.{YieldsList, items_from_drains}
 
 -- ---- texts
 -- A text is five entries.
 pub text_counted : {l c a b u a' b' u' : ℕ} → l ≤ c → a' ≡ a + c → b' ≡ b + l → u' ≡ u + (c - l) → a' < 2 ^ 64 →
     TalliesNext (Some 24) (Field (codes "String") (Some 24) (text_shows l c))
-    (λ n. entries (codes "String") (Some 24) n (EntryAt Unique (codes "ptr") (sum_times (Some 8) n)
-    (EntryAt Wide (codes "capacity") (sum_of n a) (Beside (EntryAt Wide (codes "u8") (sum_of n b) NoEntry)
-    (unused_shape n u)))))
-    (λ n. entries (codes "String") (Some 24) n (EntryAt Unique (codes "ptr") (sum_times (Some 8) n)
-    (EntryAt Wide (codes "capacity") (sum_of n a') (Beside (EntryAt Wide (codes "u8") (sum_of n b') NoEntry)
-    (unused_shape n u')))))
+    (λ n. entries (codes "String") (Some 24) n (text_shape n a b u))
+    (λ n. entries (codes "String") (Some 24) n (text_shape n a' b' u'))
 text_counted {l} {c} {a} {b} {u} {a'} {b'} {u'} room capacity used unused fits = record {
   declared = record { bytes = 24; sized = refl; fits = omega arith };
   next = λ n.
@@ -63,20 +60,22 @@ text_counted {l} {c} {a} {b} {u} {a'} {b'} {u'} room capacity used unused fits =
 }
 
 -- ---- containers
--- A container is its own entry with what it shows inside it.
-pub next_inside : {m : ℕ} (n : ℕ) {k : Key} {p : Showing} {s t : Shape} → m ≤ n → n < 2 ^ 64 → Tallies (Some m) p s t →
-    TalliesNext (Some n) (Inside k n p) (λ i. entries k (Some n) i s) (λ i. entries k (Some n) i t)
-next_inside n room fits inside = record {
+-- A container is its own entry of n bytes, with what it shows inside it.
+pub next_container : {m : ℕ} (n : ℕ) {k : Key} {p q : Showing} {s t : Shape} → m ≤ n → n < 2 ^ 64 →
+    ShownAs (Inside k n p) q → Tallies (Some m) p s t →
+    TalliesNext (Some n) q (λ i. entries k (Some n) i s) (λ i. entries k (Some n) i t)
+next_container n room fits like inside = record {
   declared = record { bytes = n; sized = refl; fits = fits };
-  next = λ i. counted_inline (one_more (Some n) i (i + 1) refl refl) inside (holds_bytes room);
+  next = λ i. tallies_as like (counted_inline (one_more (Some n) i (i + 1) refl refl) inside (holds_bytes room));
 }
 
--- The same, of a container that declares its size.
-pub next_container : {m : ℕ} (n : ℕ) {k : Key} {p : Showing} {s t : Shape} → m ≤ n → n < 2 ^ 64 →
-    Tallies (Some m) p s t →
-    TalliesNext (Some n) (Field k (Some n) p) (λ i. entries k (Some n) i s) (λ i. entries k (Some n) i t)
-next_container n room fits inside =
-    next_case (record { bytes = n; sized = refl; fits = fits }) inside (holds_bytes room)
+-- The same, whether it was counted or cannot be.
+pub container : {X E : Type 0} (n m : ℕ) (r : Result X E) (k : Key) (p : Showing) {q : Showing} (s t : Shape) → m ≤ n →
+    n < 2 ^ 64 → ShownAs (Inside k n p) q → MatchResult r (λ _. Tallies (Some m) p s t) (λ _. Exceeds p s) →
+    MatchResult r (λ _. TalliesNext (Some n) q (λ i. entries k (Some n) i s) (λ i. entries k (Some n) i t))
+    (λ _. CannotTally q (λ i. entries k (Some n) i s))
+container n m r k p s t room fits like inside = MatchResult-weaker r inside (λ _. next_container n room fits like)
+    (λ _ a. record { next = λ i. exceeds_as like (exceeds_inside false n a) })
 
 -- ---- places
 -- The bytes of so many values of a size, if they fit a word.
@@ -88,6 +87,12 @@ times_is (Some s) {z} n e fits = let same : s * n ≡ z * n = ap (λ (y : ℕ). 
 pub times_most : (size : Option ℕ) {z : ℕ} (n : ℕ) → size ≡ Some z → bytes_times size n ≤ z * n
 times_most None n e = absurd (cc)
 times_most (Some s) {z} n e = let same : s * n ≡ z * n = ap (λ (y : ℕ). y * n) (cc) in omega (arith, same)
+
+-- Bytes that fit a word are those of a size that is known.
+pub fits_is : {size : Option ℕ} {z n : ℕ} → FitsWord size n → size ≡ Some z → (z * n < 2 ^ 64) × (bytes_times size n ≡ z * n)
+fits_is {size} {z} {n} a e =
+    let same : a.bytes ≡ z = let both = sym a.sized ∙ e in cc in
+    let fits : z * n < 2 ^ 64 = subst (λ (y : ℕ). y * n < 2 ^ 64) same a.fits in (fits, times_is size n e fits)
 
 -- The bytes of the items before and of those that were added fit a word.
 pub items_fit : {size : Option ℕ} {l : ℕ} {old new : Places} → (a : AddsItems size l old new) →
@@ -105,15 +110,25 @@ pub most_direct : {size : Option ℕ} {z : ℕ} (n : ℕ) (s : Shape) → size �
     direct (forest_of s) ≤ z * n
 most_direct {size} n s e most = omega (arith, shape_direct s, most, times_most size n e)
 
--- A pointer is counted with the items in its buffer.
-pub pointer_counted : {size : Option ℕ} {l : ℕ} {old new : Places} (k : Key) {p : Showing} {s t : Shape} →
-    (a : AddsItems size l old new) → direct (forest_of s) ≤ a.room.bytes * old.items → Tallies
-    (Some (a.room.bytes * l)) p s t →
-    Tallies (Some 8) (InsideAs true k 8 p) (EntryAt Unique k (sum_times (Some 8) old.buffers) s)
-    (EntryAt Unique k (sum_times (Some 8) new.buffers) t)
-pointer_counted {old = old} {new} k a before items =
-    counted_unique {k = k} (one_more (Some 8) old.buffers new.buffers refl a.buffers) items
-    (λ r. omega (arith, before, items.within, items_fit a))
+-- An entry of 8 bytes is counted with the items inside it if they were added, and has too much to count otherwise.
+pub entry_added : {X E : Type 0} (x : Width) (k : Key) (old new : Places) {size : Option ℕ} {l : ℕ} {p : Showing}
+    {s t : ℕ → Shape} (r : Result X E) → ((f : Forest) → size ≡ None → p f → 2 ^ 64 ≤ weight f) →
+    ((z i : ℕ) → size ≡ Some z → direct (forest_of (s i)) ≤ z * i) → ((i : ℕ) → i + bytes_times size i ≤ load (t i)) →
+    ((z : ℕ) (f : Forest) → size ≡ Some z → bytes_times size l ≡ z * l → p f → direct f ≤ z * l → HasWidth x 8 f) →
+    TalliesMany size l p s t → MatchResult r (λ _. AddsItems size l old new) (λ _. CannotAddItems size l old) →
+    MatchResult r (λ _. Tallies (Some 8) (InsideAs (is_unique x) k 8 p)
+    (EntryAt x k (sum_times (Some 8) old.buffers) (s old.items))
+    (EntryAt x k (sum_times (Some 8) new.buffers) (t new.items)))
+    (λ _. Exceeds (InsideAs (is_unique x) k 8 p) (EntryAt x k (sum_times (Some 8) old.buffers) (s old.items)))
+entry_added x k old new {size} {l} r heavy most least fits items added = MatchResult-weaker r added
+    (λ _ a.
+    let z = a.room.bytes in
+    let all = times_counted l a.room.sized (items.next old.items new.items a.items) in
+    let bytes = times_is size l a.room.sized (omega (arith, items_fit a)) in
+    tallies_entry x k 8 (one_more (Some 8) old.buffers new.buffers refl a.buffers) all
+    (fits z all.counted a.room.sized bytes all.allowed all.within)
+    (λ r w b. omega (arith, most z old.items a.room.sized, all.within, items_fit a)))
+    (λ _ a. run_exceeds {x = x} a heavy (least (old.items + l)) (items.next old.items (old.items + l) refl))
 
 -- A buffer is counted with its items and the bytes of its unused places.
 pub places_counted : {size : Option ℕ} {y m n n' b b' : ℕ} (k : Key) (u : ℕ) {p : Showing} {s t : Shape} → n' ≡ n + 1 →
@@ -140,30 +155,24 @@ one_in : {T : Type 0} (cut : Bool) (name : Key) (z : ℕ) (needs_drop : Bool) (p
 one_in false name z needs_drop p xs n m i j is some one more =
     tallies_as (slice_one_as name z needs_drop p xs is) (counted_leaf (adds_of n m some one more))
 one_in true name z needs_drop p xs n m i j is some one more =
-    tallies_as (cut_as name z needs_drop p xs is) (tallies_within _ (holds_bytes {m = z * length xs + z * 0} (omega arith))
+    tallies_as (cut_as name z needs_drop p xs is) (tallies_within (holds_bytes {m = z * length xs + z * 0} (omega arith))
     (tallies_then (counted_leaf (adds_of n m some one more))
     (counted_leaf {n = z * 0} (adds_of m m some (omega arith) (omega arith)))))
 
 -- A slice of items that are shown one by one is what each item shows.
-pub slice_each : {T : Type 0} (name : Key) (size : Option ℕ) (needs_drop : Bool) (p : T → Showing) (xs : List T)
-    {s t : ℕ → Shape} → are_shown_each needs_drop size ≡ true →
-    TalliesMany size (length xs) (each_shows p xs) s t →
-    TalliesSlice size needs_drop name p xs s t
-slice_each name None needs_drop p xs is c = absurd (cc)
-slice_each name (Some y) needs_drop p xs is c = record {
-  next = λ cut z n m i j e some one more. rw is (tallies_as (each_in cut name y needs_drop p xs is)
-      (times_counted (length xs) e (c.next i j more)));
-}
+pub slice_each : {T : Type 0} (cut : Bool) (name : Key) {z : ℕ} (needs_drop : Bool) (p : T → Showing) (xs : List T)
+    {s t : ℕ → Shape} (n i : ℕ) → are_shown_each needs_drop (Some z) ≡ true →
+    TalliesMany (Some z) (length xs) (each_shows p xs) s t → SliceTallies cut name z needs_drop p xs s t n i
+slice_each cut name {z} needs_drop p xs n i is each =
+    record { slice = rw is (tallies_as (each_in cut name z needs_drop p xs is) (each.next i (i + length xs) refl)) }
 
 -- A slice of other items is one entry.
-pub slice_one : {T : Type 0} (name : Key) (size : Option ℕ) (needs_drop : Bool) (p : T → Showing) (xs : List T)
-    (s : ℕ → Shape) → are_shown_each needs_drop size ≡ false → TalliesSlice size needs_drop name p xs s s
-slice_one name None needs_drop p xs s is = record { next = λ cut z n m i j e some one more. absurd (cc) }
-slice_one name (Some y) needs_drop p xs s is = record {
-  next = λ cut z n m i j e some one more.
-      let same : y ≡ z = cc in
-      let all : y * j ≡ y * i + y * length xs = ap (λ (v : ℕ). y * v) more ∙ mul-add y i (length xs) in
-      rw (← same) (rw is (one_in cut name y needs_drop p xs n m (y * i) (y * j) is some one all));
+pub slice_one : {T : Type 0} (cut : Bool) (name : Key) {z : ℕ} (needs_drop : Bool) (p : T → Showing) (xs : List T)
+    {s : ℕ → Shape} (n i : ℕ) → are_shown_each needs_drop (Some z) ≡ false →
+    SliceTallies cut name z needs_drop p xs s s n i
+slice_one cut name {z} needs_drop p xs n i is = record {
+  slice = rw is (one_in cut name z needs_drop p xs n (n + 1) (z * i) (z * (i + length xs)) is (omega arith) (omega arith)
+      (mul-add z i (length xs)));
 }
 
 -- ---- buffers
@@ -178,30 +187,35 @@ places_room : {item place : Option ℕ} {z y l u : ℕ} {old new : Places} → i
     AddsPlaces item place l u old new → (new.unused ≡ old.unused + y * u)
     × (z * old.items + z * l + (old.unused + y * u) < 2 ^ 64)
 places_room {z = z} {y} {l} {u} {old} {new} e i a =
-    let left : a.adds.room.bytes ≡ z = let same = sym a.adds.room.sized ∙ e in cc in
-    let right : a.spare_room.bytes ≡ y = let same = sym a.spare_room.sized ∙ i in cc in
-    let unused : new.unused ≡ old.unused + y * u = a.unused ∙ ap (λ (v : ℕ). old.unused + v * u) right in
+    let all = fits_is a.adds.room e in
+    let spare = fits_is a.spare_room i in
+    let unused : new.unused ≡ old.unused + y * u = omega (arith, a.unused, spare.1) in
     let items = ap (λ (v : ℕ). z * v) a.adds.items ∙ mul-add z old.items l in
-    (unused, omega (arith, a.room, ap (λ (v : ℕ). v * new.items) left, items, unused))
+    (unused, omega (arith, a.room, all.1, items, unused))
 
--- If there is a buffer, it is counted with its items.
-pub buffer_counted : {T : Type 0} (cut : Bool) {z c : ℕ} {old new : Places} (name : Key) (needs_drop : Bool)
-    {p : T → Showing} {xs : List T} {s t : ℕ → Shape} → 0 < z → 0 < length xs + c →
-    AddsPlaces (Some z) (Some z) (length xs) (c - length xs) old new →
-    ((i : ℕ) → top_bytes (s i) ≤ bytes_times (Some z) i) → TalliesSlice (Some z) needs_drop name p xs s t →
-    Tallies (Some 8) (buffer_shows (Some z) (in_slices cut name (Some z) needs_drop p xs) (length xs) c)
-    (buffer_of name (Some z) needs_drop old s) (buffer_of name (Some z) needs_drop new t)
-buffer_counted cut {z} {c} {old} {new} name needs_drop {xs = xs} {s} some room a most items =
+-- A buffer whose items were counted is counted with them if it was added, and has too much to count otherwise.
+pub buffer_added : {T S X E : Type 0} (cut : Bool) {z : ℕ} (c : ℕ) (old new : Places) {name : Key} {needs_drop : Bool}
+    {p : T → Showing} {xs : List T} {g : S → ℕ → Shape} (u v : S) (r : Result X E) → 0 < z → 0 < length xs + c →
+    IsWhole (Some z) g → SliceTallies cut name z needs_drop p xs (g u) (g v) old.buffers old.items →
+    MatchResult r (λ _. AddsPlaces (Some z) (Some z) (length xs) (c - length xs) old new)
+    (λ _. CannotAdd (Some z) (Some z) (length xs) (c - length xs) old) →
+    MatchResult r
+    (λ _. Tallies (Some 8) (buffer_shows (Some z) (in_slices cut name (Some z) needs_drop p xs) (length xs) c)
+    (buffer_of name (Some z) needs_drop old (g u)) (buffer_of name (Some z) needs_drop new (g v)))
+    (λ _. Exceeds (buffer_shows (Some z) (in_slices cut name (Some z) needs_drop p xs) (length xs) c)
+    (buffer_of name (Some z) needs_drop old (g u)))
+buffer_added cut {z} c old new {name} {needs_drop} {xs = xs} {g} u v r some room whole slice added =
+    MatchResult-weaker r added (λ _ a.
     let all = places_room refl refl a in
-    let more = ap (λ (v : ℕ). z * v) a.adds.items ∙ mul-add z old.items (length xs) in
     let first : bytes_times (Some z) old.items ≡ z * old.items = omega (arith, all.1) in
-    let last : bytes_times (Some z) new.items ≡ z * new.items = omega (arith, all.1, more) in
-    let slice = items.next cut z old.buffers new.buffers old.items new.items refl (omega (arith, a.adds.buffers))
-    (omega (arith, a.adds.buffers)) a.adds.items in
-    let top = items_direct (are_shown_each needs_drop (Some z)) name old.buffers (z * old.items) (s old.items)
-    (omega (arith, shape_direct (s old.items), most old.items)) in
-    rw (first, last) (tallies_as (buffer_as refl some room)
-    (places_counted (codes "ptr") (c - length xs) a.adds.buffers refl all.0 slice (omega (arith, top, all.1))))
+    let last = (fits_is a.adds.room refl).1 in
+    let top = items_direct (are_shown_each needs_drop (Some z)) name old.buffers (z * old.items) (g u old.items)
+    (omega (arith, shape_direct (g u old.items), whole.most u old.items)) in
+    rw (first, last, a.adds.items) (tallies_as (buffer_as refl some room)
+    (places_counted (codes "ptr") (c - length xs) a.adds.buffers refl all.0
+    (rw (← a.adds.buffers) at slice.slice) (omega (arith, top, all.1)))))
+    (λ _ a. exceeds_as (buffer_as refl some room) (added_exceeds (codes "ptr") a
+    (slice_bears cut needs_drop name old.buffers old.items some (whole.least v) slice)))
 
 -- ---- one by one
 -- The bytes of one more value.
@@ -215,6 +229,16 @@ many_none {w} {p} {s} x = record {
   next = λ n m e. let same : n ≡ m = omega (arith, e) in
       subst (λ (k : ℕ). Tallies (size_times w 0) p (s n) (s k)) same (tallies_none x);
 }
+
+-- One value more was counted.
+pub many_one : {w : Option ℕ} {p : Showing} {s t : ℕ → Shape} → TalliesNext w p s t → TalliesMany w 1 p s t
+many_one {w} {p} {s} {t} a = record {
+  next = λ n m e. rw e (subst (λ (v : Option ℕ). Tallies v p (s n) (t (n + 1))) (times_one w) (a.next n));
+}
+  where
+    times_one : (v : Option ℕ) → v ≡ size_times v 1
+    times_one None = refl
+    times_one (Some z) = ap Some (omega arith)
 
 -- One more item was counted.
 pub many_more : {T : Type 0} {w : Option ℕ} (p : T → Showing) (xs : List T) (x : T) {s t u : ℕ → Shape} →
@@ -240,19 +264,6 @@ pub run_as : {S A B : Type 0} {steps : S → Option A → S → Type 0} {s : S} 
     HoldsOfEveryRun steps s v q → ((xs : List B) → q xs → r xs) → HoldsOfEveryRun steps s v r
 run_as o up = record { along = λ xs y. up xs (o.along xs y) }
 
--- The items so far and the next one begin each list that every run gives.
-begins : {S A B : Type 0} (steps : S → Option A → S → Type 0) (v : A → B) (s : S) {u : S} (t : S) {x : A} (xs : List A)
-    (ys : List B) → Yields steps s xs t → steps t (Some x) u → AlwaysYields steps v s ys →
-    (rest : List B) × (map v xs ++ v x ∷ rest ≡ ys)
-begins steps v s {u = u} t {x = x} [] [] e g y = absurd (y x u (subst (λ z. steps z (Some x) u) (sym e) g))
-begins steps v s {u = u} t {x = x} [] (z ∷ zs) e g y =
-    (zs, ap (λ w. w ∷ zs) (y.1 x u (subst (λ w. steps w (Some x) u) (sym e) g)).0)
-begins steps v s t (w ∷ xs) [] h g y = absurd (y w h.0 h.1)
-begins steps v s t (w ∷ xs) (z ∷ zs) h g y =
-    let next = y.1 w h.0 h.1 in
-    let more = begins steps v h.0 t xs zs h.2 g next.1 in
-    (more.0, (λ i. next.0 i ∷ more.1 i))
-
 -- If an item of a run cannot be counted, once those before it were, no list that every run gives can.
 pub run_cannot : {S A B : Type 0} {w : Option ℕ} (steps : S → Option A → S → Type 0) {s u : S} (t : S) {v : A → B}
     {p : B → Showing} {x : A} (xs : List A) {a b : ℕ → Shape} → Yields steps s xs t → steps t (Some x) u →
@@ -260,7 +271,11 @@ pub run_cannot : {S A B : Type 0} {w : Option ℕ} (steps : S → Option A → S
     HoldsOfEveryRun steps s v (λ ys. CannotTally (each_shows p ys) a)
 run_cannot steps {s = s} t {v} {p} {x} xs {a} g n c e = record {
   along = λ ys y. let split = begins steps v s t xs ys g n y in
-      subst (λ zs. CannotTally (each_shows p zs) a) split.1 (item_cannot p (map v xs) (v x) split.0 c e);
+      let all = length (map v xs) in
+      subst (λ zs. CannotTally (each_shows p zs) a) split.1 (record {
+        next = λ i. exceeds_in (begins_with p (map v xs) (v x) split.0) (omega arith)
+            (exceeds_then (c.next i (i + all) refl) (e.next (i + all)));
+      });
 }
 
 -- What holds of all items of a run that has ended holds of every list that every run gives.
@@ -271,7 +286,7 @@ run_ends {steps = steps} {s} t u {v} {r} xs g n h =
 
 -- ---- arrays
 -- A size that has room for n items has room for at most n items.
-holds_items : (l n : ℕ) (w : Option ℕ) → l ≤ n → HoldsBound (size_product (Some n) w) (size_times w l)
+pub holds_items : (l n : ℕ) (w : Option ℕ) → l ≤ n → HoldsBound (size_product (Some n) w) (size_times w l)
 holds_items l n None h = record { room = λ d i. tt }
 holds_items l n (Some s) h = record {
   room = λ d i. room_checked (n * s) d (omega (arith, i, mul-le l s n s h (omega arith)));
@@ -294,150 +309,84 @@ array_counted {w = w} p n xs {i} {j} count declared more each =
     rw (count, ← product_order n w) (next_case declared
     (each.next i j (omega (arith, more, count))) (holds_items (length xs) n w (omega (arith, count))))
 
--- ---- boxes
--- A box's pointer is counted with the value inside it.
-pub box_counted : {size : Option ℕ} {old new : Places} {p : Showing} {s t : ℕ → Shape} → AddsItems size 1 old new →
-    ((i : ℕ) → top_bytes (s i) ≤ bytes_times size i) → TalliesNext size p s t →
-    Tallies (Some 8) (InsideAs true (codes "ptr") 8 p)
-    (EntryAt Unique (codes "ptr") (sum_times (Some 8) old.buffers) (s old.items))
-    (EntryAt Unique (codes "ptr") (sum_times (Some 8) new.buffers) (t new.items))
-box_counted {size} {old} {new} {p} {s} {t} a most value =
-    let one : Tallies (Some (a.room.bytes * 1)) p (s old.items) (t new.items) =
-    subst (λ (w : Option ℕ). Tallies w p (s old.items) (t new.items)) (a.room.sized ∙ ap Some (omega arith))
-    (subst (λ (i : ℕ). Tallies size p (s old.items) (t i)) (sym a.items) (value.next old.items)) in
-    pointer_counted (codes "ptr") a (most_direct old.items (s old.items) a.room.sized (most old.items)) one
-
--- ---- small vectors
--- A small vector whose items are in place has a field for each item inside its entry.
-pub inline_counted : {T : Type 0} {w : Option ℕ} {k : Key} {p : T → Showing} (n align : ℕ) (xs : SmallVec T)
-    {i j : ℕ} {s t : ℕ → Shape} {r : Shape} → ¬ IsSpilled n xs → length xs.items ≤ n →
-    IsDeclared (small_vec_size n w align) → j ≡ i + length xs.items →
-    TalliesMany w (length xs.items) (data_shows w p xs.items)
-    (λ m. entries (codes "data") w m (s m)) (λ m. entries (codes "data") w m (t m)) →
-    TalliesNext (small_vec_size n w align) (Field k (small_vec_size n w align) (small_vec_inside n w p xs))
-    (λ m. entries k (small_vec_size n w align) m (Beside (entries (codes "data") w i (s i)) r))
-    (λ m. entries k (small_vec_size n w align) m (Beside (entries (codes "data") w j (t j)) r))
-inline_counted {w = w} n align xs {i} {j} is room declared more each =
-    next_case declared (tallies_as (inline_as is)
-    (first_counted (each.next i j more)))
-    (holds_up _ align (holds_second (Some 8) _ (holds_second_of (Some 16) (size_product (Some n) w)
-    (holds_items (length xs.items) n w room))))
-
--- A small vector whose items are in an allocation has them inside a pointer.
-pub spilled_counted : {T : Type 0} {w : Option ℕ} {k : Key} {p : T → Showing} (n align : ℕ) (xs : SmallVec T)
-    {old new : Places} {s t : ℕ → Shape} {r : Shape} → IsSpilled n xs →
-    IsDeclared (small_vec_size n w align) → AddsItems w (length xs.items) old new →
-    TalliesMany w (length xs.items) (data_shows w p xs.items)
-    (λ m. entries (codes "data") w m (s m)) (λ m. entries (codes "data") w m (t m)) →
-    TalliesNext (small_vec_size n w align) (Field k (small_vec_size n w align) (small_vec_inside n w p xs))
-    (λ m. entries k (small_vec_size n w align) m (Beside r (EntryAt Unique (codes "ptr") (sum_times (Some 8) old.buffers)
-    (entries (codes "data") w old.items (s old.items)))))
-    (λ m. entries k (small_vec_size n w align) m (Beside r (EntryAt Unique (codes "ptr") (sum_times (Some 8) new.buffers)
-    (entries (codes "data") w new.items (t new.items)))))
-spilled_counted {w = w} n align xs {old} {new} {s} is declared a each =
-    next_case declared (tallies_as (spilled_as is) (second_counted (pointer_counted (codes "ptr") a
-    (most_direct old.items (entries (codes "data") w old.items (s old.items)) a.room.sized (le_refl _))
-    (times_counted (length xs.items) a.room.sized (each.next old.items new.items a.items)))))
-    (holds_up _ align (holds_second (Some 8) _ (holds_first_of (Some 16) (size_product (Some n) w)
-    (holds_bytes (omega arith)))))
-
--- ---- the bytes of pairs
+-- ---- items of a declared size
 -- A field has its declared size.
-pub field_direct : (k : Key) (w : Option ℕ) (n : ℕ) (p : Showing) (f : Forest) → w ≡ Some n → Field k w p f → direct f ≡ n
+field_direct : (k : Key) (w : Option ℕ) (n : ℕ) (p : Showing) (f : Forest) → w ≡ Some n → Field k w p f → direct f ≡ n
 field_direct k None n p f e x = cc
 field_direct k (Some m) n p f e (sized (g, x, i)) = let same : m ≡ n = cc in omega (arith, ap direct i, same)
-
--- A pair has the bytes of both sizes.
-pub pair_direct : {K V : Type 0} (v w : Option ℕ) (n : ℕ) (p : K → Showing) (q : V → Showing) (e : K × V) (f : Forest) →
-    size_sum v w ≡ Some n → pair_shows v p w q e f → direct f ≡ n
-pair_direct None w n p q e f s x = cc
-pair_direct (Some m) None n p q e f s x = cc
-pair_direct (Some m) (Some k) n p q e f s (a, b, x, y, i) =
-    let key = field_direct (codes "key") (Some m) m (p e.0) a refl x in
-    let value = field_direct (codes "value") (Some k) k (q e.1) b refl y in
-    omega (arith, ap direct i ∙ direct-following a b, key, value, checked_is (m + k) n s)
-
--- Items of so many bytes each have the bytes of all.
-pub each_direct : {T : Type 0} (p : T → Showing) (z : ℕ) → ((x : T) (f : Forest) → p x f → direct f ≡ z) → (xs : List T)
-    (f : Forest) → each_shows p xs f → direct f ≡ z * length xs
-each_direct p z one [] f e = ap direct e ∙ omega arith
-each_direct p z one (y ∷ ys) f (g, h, x, l, i) =
-    omega (arith, ap direct i ∙ direct-following g h, one y g x, each_direct p z one ys h l)
-
--- Pairs have at most the bytes of both sizes at the top.
-pairs_most : (v w : Option ℕ) (z i : ℕ) (s t : ℕ → Shape) → size_sum v w ≡ Some z →
-    direct (forest_of (pairs_shape v w s t i)) ≤ z * i
-pairs_most None w z i s t e = absurd (cc)
-pairs_most (Some m) None z i s t e = absurd (cc)
-pairs_most (Some m) (Some n) z i s t e =
-    let same : (m + n) * i ≡ z * i = ap (λ (x : ℕ). x * i) (checked_is (m + n) z e) in
-    omega (arith, shape_direct (pairs_shape (Some m) (Some n) s t i), same)
 
 -- Fields under a key have their declared size.
 pub are_fields : {T S : Type 0} (k : Key) (size : Option ℕ) (p : T → Showing) (s : S → ℕ → Shape) →
     AreFields size (field_of k size p) (λ t n. entries k size n (s t n))
 are_fields k size p s = record {
-  heavy = λ x f e y. omega (arith, field_least f y, ap least_weight e);
+  least = λ x f y. field_least f y;
   bytes = λ x z f e. field_direct k size z (p x) f e;
   numbers = λ t n. omega arith;
   most = λ t z n e. most_direct n (entries k size n (s t n)) e (le_refl _);
+}
+
+-- Two values, one after another, have the sum of both declared sizes.
+both_are_fields : {A B S R : Type 0} (v w : Option ℕ) {p : A → Showing} {q : B → Showing} {s : S → ℕ → Shape}
+    {t : R → ℕ → Shape} → AreFields v p s → AreFields w q t →
+    AreFields (size_sum v w) (λ (e : A × B). Both (p e.0) (q e.1)) (λ (u : S × R) n. Beside (s u.0 n) (t u.1 n))
+both_are_fields None w a b = record {
+  least = λ e f x. omega (arith, both_weight x, a.least e.0 x.0 x.2);
+  bytes = λ e z f i x. cc;
+  numbers = λ u n. omega (arith, a.numbers u.0 n);
+  most = λ u z n i. absurd (cc);
+}
+both_are_fields (Some m) None a b = record {
+  least = λ e f x. omega (arith, both_weight x, b.least e.1 x.1 x.3);
+  bytes = λ e z f i x. cc;
+  numbers = λ u n. omega (arith, a.numbers u.0 n);
+  most = λ u z n i. absurd (cc);
+}
+both_are_fields (Some m) (Some n) {s = s} {t} a b = record {
+  least = λ e f x. least_checked (m + n) (omega (arith, both_weight x, a.least e.0 x.0 x.2, b.least e.1 x.1 x.3));
+  bytes = λ e z f i x. omega (
+    arith,
+    checked_is (m + n) z i,
+    ap direct x.4 ∙ direct-following x.0 x.1,
+    a.bytes e.0 m x.0 refl x.2,
+    b.bytes e.1 n x.1 refl x.3,
+  );
+  numbers = λ u i. omega (arith, a.numbers u.0 i, b.numbers u.1 i, times_checked (m + n) i);
+  most = λ u z i e. omega (
+    arith,
+    ap (λ (k : ℕ). k * i) (checked_is (m + n) z e),
+    a.most u.0 m i refl,
+    b.most u.1 n i refl,
+    direct-following (forest_of (s u.0 i)) (forest_of (t u.1 i)),
+  );
 }
 
 -- Pairs of fields have the sum of both declared sizes.
 pub pairs_are_fields : {K V S R : Type 0} (v w : Option ℕ) (p : K → Showing) (q : V → Showing) (s : S → ℕ → Shape)
     (t : R → ℕ → Shape) →
     AreFields (size_sum v w) (pair_shows v p w q) (λ (u : S × R). pairs_shape v w (s u.0) (t u.1))
-pairs_are_fields v w p q s t = record {
-  heavy = pair_heavy v w p q;
-  bytes = λ e z f i. pair_direct v w z p q e f i;
-  numbers = λ u n. pairs_load v w (s u.0) (t u.1) n;
-  most = λ u z n. pairs_most v w z n (s u.0) (t u.1);
-}
+pairs_are_fields v w p q s t = both_are_fields v w (are_fields (codes "key") v p s) (are_fields (codes "value") w q t)
+
+-- Items have too much to count if there is one, and they have no declared size.
+pub fields_heavy : {A S : Type 0} {size : Option ℕ} {p : A → Showing} {s : S → ℕ → Shape} (xs : List A) →
+    AreFields size p s → 0 < length xs → (f : Forest) → size ≡ None → each_shows p xs f → 2 ^ 64 ≤ weight f
+fields_heavy [] a some f e y = absurd (omega (arith, some))
+fields_heavy (x ∷ xs) a some f e y = omega (arith, a.least x y.0 y.2, both_weight y, ap least_weight e)
+
+-- Items have the bytes of all.
+pub fields_direct : {A S : Type 0} {size : Option ℕ} {p : A → Showing} {s : S → ℕ → Shape} (xs : List A) →
+    AreFields size p s → (z : ℕ) (f : Forest) → size ≡ Some z → each_shows p xs f → direct f ≡ z * length xs
+fields_direct [] a z f e y = ap direct y ∙ omega arith
+fields_direct (x ∷ xs) a z f e (g, h, y, l, i) =
+    omega (arith, ap direct i ∙ direct-following g h, a.bytes x z g e y, fields_direct xs a z h e l)
 
 -- ---- the entry `data`
--- An entry `data` of no items was counted.
-pub empty_counted : {T : Type 0} (p : T → Showing) (xs : List T) {old new : Places} (s : ℕ → Shape) {r : Shape} →
-    AddsItems (Some 0) 0 old new → 0 ≡ length xs → Tallies (Some 8) (Inside (codes "data") 8 (each_shows p xs))
-    (Beside (EntryAt Wide (codes "data") (sum_times (Some 8) old.buffers) (s old.items)) r)
-    (Beside (EntryAt Wide (codes "data") (sum_times (Some 8) new.buffers) (s new.items)) r)
-empty_counted p [] {old} {new} s a e =
-    let same : old.items ≡ new.items = omega (arith, a.items) in
-    first_counted (counted_inline (one_more (Some 8) old.buffers new.buffers refl a.buffers)
-    (subst (λ (i : ℕ). Tallies (Some 0) (each_shows p []) (s old.items) (s i)) same (tallies_none refl))
-    (holds_bytes (omega arith)))
-empty_counted p (x ∷ xs) s a e = absurd (omega (arith, e))
-
--- An entry `data` of items that have at most 8 bytes was counted.
-pub small_counted : {size : Option ℕ} {l : ℕ} {q : Showing} {old new : Places} {s t : ℕ → Shape} {r : Shape} →
-    bytes_times size l ≤ 8 → AddsItems size l old new → TalliesMany size l q s t →
-    Tallies (Some 8) (Inside (codes "data") 8 q)
-    (Beside (EntryAt Wide (codes "data") (sum_times (Some 8) old.buffers) (s old.items)) r)
-    (Beside (EntryAt Wide (codes "data") (sum_times (Some 8) new.buffers) (t new.items)) r)
-small_counted {size} {l} {old = old} {new} least a items =
-    let bytes = times_is size l a.room.sized (omega (arith, items_fit a)) in
-    first_counted (counted_inline (one_more (Some 8) old.buffers new.buffers refl a.buffers)
-    (times_counted l a.room.sized (items.next old.items new.items a.items)) (holds_bytes (omega (arith, least, bytes))))
-
--- An entry `data` of items that have more than 8 bytes was counted.
-pub large_counted : {size : Option ℕ} {l : ℕ} {q : Showing} {old new : Places} {s t : ℕ → Shape} {r : Shape} →
-    8 < bytes_times size l → AddsItems size l old new → TalliesMany size l q s t →
-    ((z i : ℕ) → size ≡ Some z → direct (forest_of (s i)) ≤ z * i) →
-    ((z : ℕ) (f : Forest) → size ≡ Some z → q f → direct f ≡ z * l) → Tallies (Some 8) (Inside (codes "data") 8 q)
-    (Beside r (EntryAt Narrow (codes "data") (sum_times (Some 8) old.buffers) (s old.items)))
-    (Beside r (EntryAt Narrow (codes "data") (sum_times (Some 8) new.buffers) (t new.items)))
-large_counted {size} {l} {old = old} {new} least a items most direct_is =
-    let z = a.room.bytes in
-    let all = times_counted l a.room.sized (items.next old.items new.items a.items) in
-    let bytes = times_is size l a.room.sized (omega (arith, items_fit a)) in
-    second_counted (counted_narrow (one_more (Some 8) old.buffers new.buffers refl a.buffers) all
-    (λ r. omega (arith, most z old.items a.room.sized, all.within, items_fit a))
-    (λ f x. omega (arith, least, bytes, direct_is z f a.room.sized x)))
+-- No item shows nothing.
+pub none_counted : {T : Type 0} (p : T → Showing) (xs : List T) {s : Shape} → 0 ≡ length xs →
+    Tallies (Some 0) (each_shows p xs) s s
+none_counted p [] e = tallies_none refl
+none_counted p (x ∷ xs) e = absurd (omega (arith, e))
 
 -- ---- containers in the order of insertion
--- No items have no hash table.
-pub no_table_counted : {n : ℕ} {s : Shape} → n ≡ 0 → Tallies (Some 8) (table_shows n) s s
-no_table_counted e = tallies_none (inl (e, refl))
-
 -- The hash table of some items is a unique entry with the table's bytes inside it.
 pub table_counted : (a a' c c' : ℕ) {n b : ℕ} {bytes : Option ℕ} → 0 < n → IsRawTableSize (Some 8) n bytes → bytes ≡ Some b →
     a' ≡ a + 1 → c' ≡ c + b → c' < 2 ^ 64 → Tallies (Some 8) (table_shows n) (table_shape a c) (table_shape a' c')
@@ -449,54 +398,19 @@ table_counted a a' c c' {b = b} {bytes} some is size more buckets fits =
     tallies_as (table_as some is) (counted_unique (one_more (Some 8) a a' refl more) inside
     (λ r. omega (arith, before, within, buckets, fits)))
 
--- A buffer with unused places of another size was added.
-pub index_adds : {item place : Option ℕ} {l u x all : ℕ} {old mid new : Places} → AddsItems item l old mid →
-    FitsWord place u → x ≡ bytes_times place u → new.buffers ≡ mid.buffers → new.items ≡ mid.items →
-    new.unused ≡ old.unused + x → all ≡ bytes_times item new.items → all + new.unused < 2 ^ 64 →
-    AddsPlaces item place l u old new
-index_adds {item} {place} {u = u} {old = old} {mid} {new} a fits x buffers items unused all room =
-    let each = times_is item mid.items a.room.sized a.room.fits in record {
-      adds = record {
-        buffers = buffers ∙ a.buffers;
-        items = items ∙ a.items;
-        room = record { bytes = a.room.bytes; sized = a.room.sized; fits = rw items a.room.fits };
-      };
-      spare_room = fits;
-      unused = omega (arith, unused, x, times_is place u fits.sized fits.fits);
-      room = rw items (omega (arith, room, rw items at all, each));
-    }
-
--- Such a buffer cannot be added, since the bytes of all exceed a word.
-pub index_cannot : {item place : Option ℕ} {l u x all : ℕ} {old mid : Places} → AddsItems item l old mid →
-    FitsWord place u → x ≡ bytes_times place u → all ≡ bytes_times item mid.items → 2 ^ 64 ≤ all + (old.unused + x) →
-    CannotAdd item place l u old
-index_cannot {item} {place} {u = u} {mid = mid} a fits x all over = no_room_for_both a.room.sized fits.sized
-    (omega (
-      arith,
-      over,
-      all,
-      x,
-      times_is item mid.items a.room.sized a.room.fits,
-      times_is place u fits.sized fits.fits,
-      ap (λ (i : ℕ). a.room.bytes * i) a.items,
-    ))
-
 -- A container in the order of insertion is its own entry, with its items, its unused places and its table inside it.
-pub index_counted : {given item found size : Option ℕ} {m l u places n : ℕ} {k : Key} {p : Showing}
-    {old new : Places} {s t : ℕ → Shape} {r r' : Shape} → given ≡ item → found ≡ size → m ≡ l →
-    u ≡ places → n ≡ l → AddsPlaces given found m u old new → TalliesMany item l p s t →
-    ((z i : ℕ) → item ≡ Some z → direct (forest_of (s i)) ≤ z * i) → Tallies (Some 8) (table_shows n) r r' →
+pub index_counted : {item size : Option ℕ} {l places : ℕ} {k : Key} {p : Showing} {old new : Places} {s t : ℕ → Shape}
+    {r r' : Shape} → AddsPlaces item size l places old new → TalliesMany item l p s t →
+    ((z i : ℕ) → item ≡ Some z → direct (forest_of (s i)) ≤ z * i) → Tallies (Some 8) (table_shows l) r r' →
     TalliesNext (Some 72) (Field k (Some 72) (Both (index_data_shows size p places) (table_shows l)))
     (λ i. entries k (Some 72) i (Beside (buffer_shape (codes "data") old.buffers (s old.items) old.unused) r))
     (λ i. entries k (Some 72) i (Beside (buffer_shape (codes "data") new.buffers (t new.items) new.unused) r'))
-index_counted {item = item} {size = size} {l = l} {places = places} {old = old} {new} e i same spare count adds items
-    most table =
-    let a : AddsPlaces item size l places old new = rw (e, i, same, spare) at adds in
+index_counted {l = l} {places} {old = old} {new} a items most table =
     let all = places_room a.adds.room.sized a.spare_room.sized a in
-    next_container 72 (omega arith) (omega arith) (tallies_both (tallies_as index_data_as
+    next_container 72 (omega arith) (omega arith) field_as (tallies_both (tallies_as index_data_as
     (places_counted (codes "data") places a.adds.buffers a.spare_room.sized all.0
     (times_counted l a.adds.room.sized (items.next old.items new.items a.adds.items))
-    (omega (arith, most a.adds.room.bytes old.items a.adds.room.sized, all.1)))) (rw count at table))
+    (omega (arith, most a.adds.room.bytes old.items a.adds.room.sized, all.1)))) table)
 
 -- ---- what is entered
 -- Items that were counted from nothing, and entered, were entered as each of them shows.

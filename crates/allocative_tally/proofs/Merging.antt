@@ -18,8 +18,8 @@ use Rattle.allocative_graph.proofs.Plus.{plus-following, forest_bytes-following,
 use Rattle.allocative.specs.Strict.{FitsWords}
 use Rattle.allocative.proofs.Common.{Key, Forest, Empty, First, Again, followed_by, entry_of, add_all, ShowsContents}
 use Rattle.allocative.proofs.Common.{Kind, OfGraph, OfSum, Takes, plus, enter, leave, outer_of}
-use Rattle.allocative.proofs.Strict.{followed_by_assoc}
-use Rattle.allocative_tally.specs.Shapes.{IsPlain, Merged}
+use Rattle.allocative.proofs.Strict.{followed_by_assoc, words_both as words_apart}
+use Rattle.allocative_tally.specs.{IsPlain, Merged}
 
 -- Two forests without shared entries have none one after another.
 pub plain_both : (f g : Forest) → IsPlain f → IsPlain g → IsPlain (followed_by f g)
@@ -113,14 +113,6 @@ same_plus f g x y sums bytes direct_is (OfSum s) =
 sums_both : (s : Sums) (p : Path) (f g : Forest) → add_all s (own_behind p (followed_by f g)) ≡ add_all (add_all s
     (own_behind p f)) (own_behind p g)
 sums_both s p f g = ap (add_all s) (own-following p f g) ∙ fold-append add s (own_behind p f) (own_behind p g)
-
--- If two forests together exceed no word, neither does.
-words_apart : (o : ℕ) (f g : Forest) → FitsWords o (followed_by f g) → FitsWords o f × FitsWords o g
-words_apart o Empty g h = (tt, h)
-words_apart o (Inline k n f after) g h = let r = words_apart o after g h.3 in ((h.0, h.1, h.2, r.0), r.1)
-words_apart o (Unique k n f after) g h = let r = words_apart o after g h.3 in ((h.0, h.1, h.2, r.0), r.1)
-words_apart o (First k n i f after) g h = words_apart o after g h
-words_apart o (Again k n i after) g h = words_apart o after g h
 
 -- If neither of two forests exceeds a word, they do not together.
 words_both : (o : ℕ) (f g : Forest) → FitsWords o f → FitsWords o g → FitsWords o (followed_by f g)

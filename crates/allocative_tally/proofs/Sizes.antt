@@ -1,8 +1,9 @@
 -- Declared sizes have room for what is inside.
-use Rattle.std.proofs.Common.{◌≡◌, ◌≤◌, ◌+◌, ◌^◌, ℕ, suc, Bool, true, false, nat_lt, Option, Some, None, refl, subst}
-use Rattle.std.proofs.Common.{arith, if◌then◌else◌}
+use Rattle.std.proofs.Common.{◌≡◌, ◌≤◌, ◌<◌, ◌+◌, ◌-◌, ◌*◌, ◌^◌, ℕ, suc, Option, Some, None, min, refl, subst, arith}
+use Rattle.std.proofs.Common.{rules}
+use Rattle.std.proofs.lemmas.Bool.Decides.{nat_tests}
 use Rattle.allocative_described.specs.Sizes.{checked, up, size_sum, size_max, size_up}
-use Rattle.allocative_tally.specs.Tallies.{IsWithin, both_bounds}
+use Rattle.allocative_tally.specs.{bytes_times, least_weight, IsWithin, both_bounds}
 
 -- Whatever a bound allows is within a declared size.
 pub record HoldsBound (size w : Option ℕ) : Type 0 where
@@ -10,19 +11,23 @@ pub record HoldsBound (size w : Option ℕ) : Type 0 where
 
 -- A size that is checked and there is the size itself.
 pub checked_is : (m n : ℕ) → checked m ≡ Some n → m ≡ n
-checked_is m n e = by_test (nat_lt m (2 ^ 64)) e
-  where
-    by_test : (b : Bool) → (if b then Some m else None) ≡ Some n → m ≡ n
-    by_test true i = cc
-    by_test false i = cc
+checked_is m n e = grind (arith, nat_tests, e)
 
 -- A size that is checked is the size or none.
 pub room_checked : (m d : ℕ) → d ≤ m → IsWithin d (checked m)
-room_checked m d h = by_test (nat_lt m (2 ^ 64))
-  where
-    by_test : (b : Bool) → IsWithin d (if b then Some m else None)
-    by_test true = h
-    by_test false = tt
+room_checked m d h = search (rules, nat_tests)
+
+-- The bytes of values of a checked size are at most those of the size.
+pub times_checked : (m n : ℕ) → bytes_times (checked m) n ≤ min (m * n) (2 ^ 64 - 1)
+times_checked m n = grind (arith, nat_tests)
+
+-- What exceeds a size has no less to count than a value of the size, if it is checked.
+pub least_checked : (m : ℕ) {n : ℕ} → m < n → least_weight (checked m) ≤ n
+least_checked m h = grind (arith, nat_tests, h)
+
+-- A value of a checked size has more to count than the size, up to what exceeds a word.
+pub checked_least : (m : ℕ) → min (m + 1) (2 ^ 64) ≤ least_weight (checked m)
+checked_least m = grind (arith, nat_tests)
 
 -- A size holds itself.
 pub holds_itself : {w : Option ℕ} → HoldsBound w w

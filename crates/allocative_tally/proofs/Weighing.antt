@@ -1,30 +1,19 @@
 -- What forests have to count, and what cannot be counted.
 use Rattle.std.proofs.Common.{◌≡◌, ◌≤◌, ◌+◌, ◌^◌, ℕ, Bool, false, List, ◌∷◌, ◌++◌, Option, Some, None, [], Result, Ok}
 use Rattle.std.proofs.Common.{Err, IsErr, MatchResult, refl, sym, ap, ◌∙◌, arith, ◌<◌, ◌-◌, ◌*◌, true, subst, length}
-use Rattle.std.proofs.Common.{length-append, map, min, max, mul-add, codes, append-nil, inl, inr, ◌≢◌, nat_lt}
-use Rattle.std.proofs.Common.{if◌then◌else◌, get_or, set, sum_by}
-use Rattle.allocative.proofs.Common.{Key, Forest, Empty, followed_by, Showing, Both, InsideAs, Inside, Field, sized}
-use Rattle.allocative.proofs.Common.{each_shows, entry_of, Nothing, slice_shows, buffer_shows, table_shows, with_room}
-use Rattle.allocative.proofs.Common.{without_room, without_size}
-use Rattle.allocative_graph.specs.Forest.{Inline, First, Again, Unique as unique_entry}
-use Rattle.allocative.proofs.Strict.{followed_by_assoc, each_append, each_one, followed_by-empty}
-use Rattle.allocative_tally.specs.Shapes.{weight, load, Shape, Beside, EntryAt, Width, entries, Lighter, ShownAs}
-use Rattle.allocative_tally.specs.Shapes.{least_weight, pairs_shape, buffer_shape, table_shape, is_unique}
-use Rattle.allocative_tally.specs.Shapes.{sum_times, bytes_times, items_shape}
-use Rattle.allocative_tally.specs.Tallies.{Tallies, Exceeds, CannotTally, CannotTallySlice, TalliesSlice, TalliesMany}
-use Rattle.allocative_tally.specs.Tallies.{CannotAddItems, too_many_buffers, too_many_items, too_many_bytes, buffer_of}
-use Rattle.allocative_tally.specs.Tallies.{CannotAdd, no_room_for_items, no_room_for_places, no_room_for_both}
-use Rattle.allocative_tally.specs.Tallies.{in_slices, IsDeclared}
-use Rattle.allocative_tally.specs.Whole.{alike, weight_entry, as_itself, field_least}
-use Rattle.allocative_tally.specs.declared.tally.Sum.{Sum}
+use Rattle.std.proofs.Common.{length-append, map, min, max, mul-add, codes, append-nil, inl, inr, ◌≢◌, sum_by}
 use Rattle.std.specs.List.{All, swap}
 use Rattle.std.proofs.lemmas.List.Elements.{All-nil, All-cons, All-head, All-tail}
 use Rattle.std.proofs.lemmas.List.Sums.{sum_by-cons}
 use Rattle.std.proofs.lemmas.List.Sorted.{IsPermutation-refl, IsPermutation-sym, IsPermutation-keeps}
 use Rattle.std.proofs.lemmas.List.Sorted.{IsPermutation-swap, All-permutation, sum_by-IsPermutation}
 use Rattle.std.proofs.lemmas.Nat.{mul-le}
-use Rattle.std.proofs.lemmas.Bool.Decides.{nat_tests}
-use Rattle.std.proofs.lemmas.List.{map-set, get_or-map, length-map}
+use Rattle.std.proofs.lemmas.List.{length-map}
+use Rattle.allocative.proofs.Common.{Key, Forest, Empty, followed_by, Showing, Both, InsideAs, Inside, Field, sized}
+use Rattle.allocative.proofs.Common.{each_shows, entry_of, Nothing, slice_shows, buffer_shows, table_shows, with_room}
+use Rattle.allocative.proofs.Common.{without_room, without_size}
+use Rattle.allocative_graph.specs.Forest.{Inline, First, Again, Unique as unique_entry}
+use Rattle.allocative.proofs.Strict.{followed_by_assoc, each_append, each_one, followed_by-empty}
 use Rattle.allocative_described.specs.Sizes.{size_product, size_sum, size_max, size_up, IsRawTableSize}
 use Rattle.allocative_described.proofs.Sizes.{raw_table_size_same}
 use Rattle.allocative.specs.Bodies.{cut_shows, is_cut, text_shows, is_text, are_shown_each, bytes_shown, buffer_entry}
@@ -32,8 +21,16 @@ use Rattle.allocative.specs.Bodies.{data_shows}
 use Rattle.allocative.specs.PackShows.{index_data_shows, is_index_data, small_vec_inside, lies_inline, is_spilled}
 use Rattle.allocative.specs.StdShows.{in_any_order}
 use Rattle.smallvec.specs.SmallVec.{SmallVec, IsSpilled}
+use Rattle.indexmap.proofs.ReorderLemmas.{map-swap}
+use Rattle.allocative_tally.specs.{weight, load, Shape, Beside, EntryAt, Width, entries, Lighter, ShownAs, least_weight}
+use Rattle.allocative_tally.specs.{buffer_shape, is_unique, sum_times, bytes_times, items_shape, Exceeds, CannotTally}
+use Rattle.allocative_tally.specs.{TalliesMany, CannotAddItems, too_many_buffers, too_many_items, too_many_bytes}
+use Rattle.allocative_tally.specs.{CannotAdd, no_room_for_items, no_room_for_places, no_room_for_both, in_slices}
+use Rattle.allocative_tally.specs.{IsDeclared, alike, weight_entry, as_itself, field_least}
+use Rattle.allocative_tally.specs.Tallies.{Tallies}
+use Rattle.allocative_tally.specs.declared.tally.Sum.{Sum}
+use Rattle.allocative_tally.proofs.Sizes.{checked_least}
 use Rattle.allocative_tally.specs.declared.places.Places.{Places}
-use Rattle.allocative.specs.Runs.{pair_shows}
 
 -- ---- what forests have to count
 -- Two forests one after another have to count what each has.
@@ -164,11 +161,6 @@ cannot_second a = record { next = λ n. exceeds_second (a.next n) }
 pub exceeds_missing : {size : Option ℕ} {k : Key} {p : Showing} {s : Shape} → size ≡ None → Exceeds (Field k size p) s
 exceeds_missing e = record { most = λ f x. omega (arith, field_least f x, ap least_weight e) }
 
--- The same, whatever the number of values.
-pub cannot_missing : {size : Option ℕ} {k : Key} {p : Showing} {s : ℕ → Shape} → size ≡ None →
-    CannotTally (Field k size p) s
-cannot_missing e = record { next = λ n. exceeds_missing e }
-
 -- A value that shows a field without a declared size cannot be counted.
 pub leaf_cannot : {size : Option ℕ} {k : Key} {p q : Showing} {s : ℕ → Shape} → ShownAs (Field k size q) p →
     size ≡ None → CannotTally p s
@@ -191,11 +183,6 @@ pub cannot_case : {size : Option ℕ} {x : Width} {k : Key} {sum : ℕ → Sum} 
     CannotTally (Field k size p) (λ n. EntryAt x k (sum n) s)
 cannot_case a = record { next = λ n. exceeds_field a }
 
--- The same, of an entry whose bytes are written.
-pub cannot_inside : (n : ℕ) {x : Width} {k : Key} {sum : ℕ → Sum} {p : Showing} {s : Shape} → Exceeds p s →
-    CannotTally (Inside k n p) (λ i. EntryAt x k (sum i) s)
-cannot_inside n a = record { next = λ i. exceeds_inside false n a }
-
 -- ---- what is shown as something else
 -- What a text shows inside its own entry.
 abbrev text_entries : ℕ → ℕ → Showing
@@ -206,11 +193,6 @@ text_entries n c = InsideAs true (codes "ptr") 8 (Inside (codes "capacity") c
 pub text_as : {n c : ℕ} → ShownAs (text_entries n c) (text_shows n c)
 text_as {n} {c} = alike (λ f x. is_text x) (λ f x. elim x as (λ g y. text_entries n c g) [ is_text z ↦ z ])
 
--- A slice of items that are shown one by one is the items.
-slice_as : {T : Type 0} (name : Key) (z : ℕ) (needs_drop : Bool) (p : T → Showing) (xs : List T) →
-    are_shown_each needs_drop (Some z) ≡ true → ShownAs (each_shows p xs) (slice_shows name (Some z) needs_drop p xs)
-slice_as name z needs_drop p xs is = rw (is, slice_shows) as_itself
-
 -- A slice of other items is one entry.
 pub slice_one_as : {T : Type 0} (name : Key) (z : ℕ) (needs_drop : Bool) (p : T → Showing) (xs : List T) →
     are_shown_each needs_drop (Some z) ≡ false →
@@ -220,27 +202,16 @@ slice_one_as name z needs_drop p xs is = rw (is, slice_shows) as_itself
 -- Items that are shown one by one are shown so in one slice or in two.
 pub each_in : {T : Type 0} (cut : Bool) (name : Key) (z : ℕ) (needs_drop : Bool) (p : T → Showing) (xs : List T) →
     are_shown_each needs_drop (Some z) ≡ true → ShownAs (each_shows p xs) (in_slices cut name (Some z) needs_drop p xs)
-each_in false name z needs_drop p xs is = slice_as name z needs_drop p xs is
-each_in true name z needs_drop p xs is = record {
-  up = λ f x. is_cut xs [] (append-nil xs) (
-    f,
-    Empty,
-    (slice_as name z needs_drop p xs is).up f x,
-    (slice_as name z needs_drop p [] is).up Empty refl,
-    sym (followed_by-empty f),
-  );
-  down = down;
-}
+each_in false name z needs_drop p xs is = rw (is, slice_shows) as_itself
+each_in {T} true name z needs_drop p xs is = alike
+    (λ f x. is_cut xs [] (append-nil xs) (f, Empty, slice xs f x, slice [] Empty refl, sym (followed_by-empty f))) each
   where
-    down : (f : Forest) → cut_shows name (Some z) needs_drop p xs f → Lighter (each_shows p xs) f
-    down f (is_cut front back i both) =
-        let x = (slice_as name z needs_drop p front is).down both.0 both.2 in
-        let y = (slice_as name z needs_drop p back is).down both.1 both.3 in
-        let all = followed_by x.0 y.0 in (
-          all,
-          subst (λ ws. each_shows p ws all) i (each_append p front back all (x.0, y.0, x.1, y.1, refl)),
-          omega (arith, x.2, y.2, both_weight both, weight-following x.0 y.0),
-        )
+    slice : (ys : List T) (f : Forest) → each_shows p ys f → slice_shows name (Some z) needs_drop p ys f
+    slice ys f x = rw (is, slice_shows) x
+
+    each : (f : Forest) → cut_shows name (Some z) needs_drop p xs f → each_shows p xs f
+    each f (is_cut front back i (g, h, x, y, e)) = subst (λ ys. each_shows p ys f) i
+        (each_append p front back f (g, h, rw (is, slice_shows) at x, rw (is, slice_shows) at y, e))
 
 -- An entry with nothing inside it has its bytes to count, and itself.
 one_weight : {k : Key} {n : ℕ} {f : Forest} → Inside k n Nothing f → weight f ≡ n + 1
@@ -331,6 +302,13 @@ inside_as u k n a = record {
   );
 }
 
+-- What is shown as something else is shown as what that is shown as.
+pub as_then : {p q r : Showing} → ShownAs p q → ShownAs q r → ShownAs p r
+as_then a b = record {
+  up = λ f x. b.up f (a.up f x);
+  down = λ f x. let l = b.down f x in let m = a.down l.0 l.1 in (m.0, m.1, omega (arith, l.2, m.2));
+}
+
 -- ---- items in some order
 -- A list's items with a forest of each, which have so much to count together.
 Chosen : {T : Type 0} → (T → Showing) → ℕ → List T → Type 0
@@ -368,16 +346,6 @@ joined_up {T} p (z ∷ zs) a =
       omega (arith, sum_by-cons (λ (w : T × Forest). weight w.1) z zs, rest.2, weight-following z.1 rest.0),
     )
 
--- An exchange of two elements, and what f makes of them.
-map_swap : {X Y : Type 0} (f : X → Y) (xs : List X) (i j : ℕ) → i < length xs → j < length xs →
-    map f (swap xs i j) ≡ swap (map f xs) i j
-map_swap f [] i j a b = refl
-map_swap f (d ∷ ys) i j a b =
-    let xs = d ∷ ys in
-    let first = map-set f xs i (get_or xs j d) ∙ ap (set (map f xs) i) (sym (get_or-map f xs j d (f d) b)) in
-    map-set f (set xs i (get_or xs j d)) j (get_or xs i d)
-    ∙ (λ k. set (first k) j (sym (get_or-map f xs i d (f d) a) k))
-
 -- Items in any order have as much to count as in their own.
 pub order_as : {T : Type 0} (p : T → Showing) (xs : List T) → ShownAs (each_shows p xs) (in_any_order p xs)
 unfolding Chosen
@@ -398,45 +366,10 @@ order_as {T} p xs = record {
         let j_in : j < length zs = omega (arith, b, ap length e, length-map zs first) in
         let moved = IsPermutation-swap zs (swap zs i j) i j i_in j_in refl in (
           swap zs i j,
-          map_swap first zs i j i_in j_in ∙ ap (λ l. swap l i j) e,
+          map-swap first zs i j ∙ ap (λ l. swap l i j) e,
           All-permutation (λ (z : T × Forest). p z.0 z.1) zs (swap zs i j) moved all,
           sum_by-IsPermutation (λ (z : T × Forest). weight z.1) zs (swap zs i j) moved ∙ same,
         )
-
--- ---- how much items have to count
--- Items have too much to count if each has, and there is one.
-pub each_heavy : {T : Type 0} (p : T → Showing) → ((x : T) (f : Forest) → p x f → 2 ^ 64 ≤ weight f) → (xs : List T) →
-    0 < length xs → (f : Forest) → each_shows p xs f → 2 ^ 64 ≤ weight f
-each_heavy p one [] some f y = absurd (omega (arith, some))
-each_heavy p one (x ∷ xs) some f y = omega (arith, one x y.0 y.2, both_weight y)
-
--- A pair without declared sizes of both, or whose sizes exceed a word, has too much to count.
-pub pair_heavy : {K V : Type 0} (v w : Option ℕ) (p : K → Showing) (q : V → Showing) (e : K × V) (f : Forest) →
-    size_sum v w ≡ None → pair_shows v p w q e f → 2 ^ 64 ≤ weight f
-pair_heavy None w p q e f i x = omega (arith, both_weight x, field_least x.0 x.2)
-pair_heavy (Some m) None p q e f i x = omega (arith, both_weight x, field_least x.1 x.3)
-pair_heavy (Some m) (Some n) p q e f i x = omega (
-  arith,
-  both_weight x,
-  field_least x.0 x.2,
-  field_least x.1 x.3,
-  by_test (nat_lt (m + n) (2 ^ 64)) refl i,
-)
-  where
-    by_test : (b : Bool) → nat_lt (m + n) (2 ^ 64) ≡ b → (if b then Some (m + n) else None) ≡ None → 2 ^ 64 ≤ m + n
-    by_test true i e = absurd (cc)
-    by_test false i e = grind (arith, nat_tests, i)
-
--- The fields of so many pairs have at least their number and bytes.
-pub pairs_load : (v w : Option ℕ) (s t : ℕ → Shape) (i : ℕ) →
-    i + bytes_times (size_sum v w) i ≤ load (pairs_shape v w s t i)
-pairs_load (Some m) (Some n) s t i = omega (arith, by_test (nat_lt (m + n) (2 ^ 64)))
-  where
-    by_test : (b : Bool) → bytes_times (if b then Some (m + n) else None) i
-        ≤ min (m * i) (2 ^ 64 - 1) + min (n * i) (2 ^ 64 - 1)
-    by_test true = omega arith
-    by_test false = omega arith
-pairs_load v w s t i = omega arith
 
 -- ---- what cannot be counted
 -- The numbers of s and what q shows have at least so many items of z bytes, and their bytes, up to the greatest word.
@@ -453,40 +386,22 @@ items_over (too_many_bytes h) a = omega (arith, h _ refl, a)
 
 -- A field of so many bytes has those to count, up to what exceeds a word.
 bytes_least : (k : Key) (z u : ℕ) (f : Forest) → bytes_shown k (Some z) u f → min (z * u + 1) (2 ^ 64) ≤ weight f
-bytes_least k z u f x = omega (arith, field_least f x, by_test (nat_lt (z * u) (2 ^ 64)))
-  where
-    by_test : (b : Bool) → min (z * u + 1) (2 ^ 64) ≤ least_weight (if b then Some (z * u) else None)
-    by_test true = omega arith
-    by_test false = omega arith
+bytes_least k z u f x = omega (arith, field_least f x, checked_least (z * u))
 
 -- A buffer with unused places that cannot be added has too much to count, with what bears its items.
 pub added_exceeds : {z y l u : ℕ} {old : Places} (k : Key) {q : Showing} {s : Shape} →
     CannotAdd (Some z) (Some y) l u old → Bears z (old.items + l) q s →
     Exceeds (InsideAs true k 8 (Both q (bytes_shown (codes "unused_capacity") (Some y) u)))
     (buffer_shape k old.buffers s old.unused)
-added_exceeds {z} {y} {l} {u} {old} k {q} {s} c heavy = record {
-  most = λ f (g, x, e). by_cause (weight x.0) (weight x.1) (weight f) c (heavy x.0 x.2) (bytes_least (codes "unused_capacity") y u x.1 x.3)
-      (ap weight e ∙ weight_entry true k 8 g ∙ ap (λ i. 8 + 1 + i) (both_weight x));
-}
-  where
-    by_cause : (a b w : ℕ) → CannotAdd (Some z) (Some y) l u old →
-        min (max (old.items + l) (z * (old.items + l))) (2 ^ 64 - 1) ≤ load s + a → min (y * u + 1) (2 ^ 64) ≤ b →
-        w ≡ 8 + 1 + (a + b) → 2 ^ 64 ≤ load (buffer_shape k old.buffers s old.unused) + w
-    by_cause a b w (no_room_for_items h) items unused e = omega (arith, items_over h items, e)
-    by_cause a b w (no_room_for_places h) items unused e = omega (arith, h y refl, unused, e)
-    by_cause a b w (no_room_for_both {z = z'} {s = y'} i j h) items unused e =
-        let left : z' ≡ z = cc in
-        let right : y' ≡ y = cc in
-        let bytes = ap (λ (v : ℕ). v * (old.items + l)) left in
-        omega (arith, h, bytes, ap (λ (v : ℕ). v * u) right, items, unused, e)
-
--- No items cannot be added to those of an entry only if there are too many entries or items.
-pub empty_exceeds : {x : Width} {old : Places} {k : Key} {p : Showing} {s : Shape} → CannotAddItems (Some 0) 0 old →
-    old.items ≤ load s → Exceeds (InsideAs (is_unique x) k 8 p) (EntryAt x k (sum_times (Some 8) old.buffers) s)
-empty_exceeds {x} {old} {k} {s = s} c least = record {
-  most = λ f (g, y, e).
-      let over = items_over {m = load s} c (omega (arith, least)) in
-      omega (arith, over, ap weight e, weight_entry (is_unique x) k 8 g);
+added_exceeds {y = y} {u = u} k c heavy = record {
+  most = λ f (g, x, e).
+      let items = heavy x.0 x.2 in
+      let unused = bytes_least (codes "unused_capacity") y u x.1 x.3 in
+      let all = ap weight e ∙ weight_entry true k 8 g ∙ ap (λ i. 8 + 1 + i) (both_weight x) in elim c [
+        | no_room_for_items h ↦ omega (arith, items_over h items, all)
+        | no_room_for_places h ↦ omega (arith, h y refl, unused, all)
+        | no_room_for_both h ↦ omega (arith, h, items, unused, all)
+      ];
 }
 
 -- A declared size is there.
@@ -515,62 +430,36 @@ many_full {l = l} {n} a least over = record {
 }
 
 -- ---- buffers
+-- One more slice of items was counted, after n slices of i items: each item, or one entry of all bytes.
+pub record SliceTallies {T : Type 0} (cut : Bool) (name : Key) (z : ℕ) (needs_drop : Bool) (p : T → Showing) (xs : List T)
+    (s t : ℕ → Shape) (n i : ℕ) : Type 0
+  where
+    pub slice : Tallies (Some (z * length xs)) (in_slices cut name (Some z) needs_drop p xs)
+        (items_shape (are_shown_each needs_drop (Some z)) name n (z * i) (s i))
+        (items_shape (are_shown_each needs_drop (Some z)) name (n + 1) (z * (i + length xs)) (t (i + length xs)))
+
 -- The items of a slice that was counted, and those before, have their number and bytes.
-slice_bears : {T : Type 0} (cut : Bool) {z : ℕ} (needs_drop : Bool) (name : Key) (n i : ℕ) {p : T → Showing} {xs : List T}
+pub slice_bears : {T : Type 0} (cut : Bool) {z : ℕ} (needs_drop : Bool) (name : Key) (n i : ℕ) {p : T → Showing} {xs : List T}
     {s t : ℕ → Shape} → 0 < z → ((i : ℕ) → i + bytes_times (Some z) i ≤ load (t i)) →
-    TalliesSlice (Some z) needs_drop name p xs s t →
+    SliceTallies cut name z needs_drop p xs s t n i →
     Bears z (i + length xs) (in_slices cut name (Some z) needs_drop p xs)
     (items_shape (are_shown_each needs_drop (Some z)) name n (bytes_times (Some z) i) (s i))
 slice_bears cut {z} needs_drop name n i {xs = xs} {s} {t} some least c f x =
     let all = i + length xs in
-    by_test (are_shown_each needs_drop (Some z)) all (mul-le 1 all z all some (omega arith))
-    ((c.next cut z 0 1 i all refl (omega arith) (omega arith) refl).weighs f x) (least all)
+    by_test (are_shown_each needs_drop (Some z)) all (mul-le 1 all z all some (omega arith)) (c.slice.weighs f x) (least all)
   where
     by_test : (b : Bool) (j : ℕ) → 1 * j ≤ z * j →
-        load (items_shape b name 1 (z * j) (t j)) ≤ load (items_shape b name 0 (z * i) (s i)) + weight f →
+        load (items_shape b name (n + 1) (z * j) (t j)) ≤ load (items_shape b name n (z * i) (s i)) + weight f →
         j + min (z * j) (2 ^ 64 - 1) ≤ load (t j) →
         min (max j (z * j)) (2 ^ 64 - 1) ≤ load (items_shape b name n (min (z * i) (2 ^ 64 - 1)) (s i)) + weight f
     by_test true j more a h = omega (arith, a, h)
     by_test false j more a h = omega (arith, a, more)
 
--- If a buffer whose items were counted cannot be added, it has too much to count.
-pub places_exceed : {T : Type 0} (cut : Bool) {z c : ℕ} {old : Places} (name : Key) (needs_drop : Bool)
-    {p : T → Showing} {xs : List T} {s t : ℕ → Shape} → 0 < z → 0 < length xs + c →
-    CannotAdd (Some z) (Some z) (length xs) (c - length xs) old →
-    ((i : ℕ) → i + bytes_times (Some z) i ≤ load (t i)) → TalliesSlice (Some z) needs_drop name p xs s t →
-    Exceeds (buffer_shows (Some z) (in_slices cut name (Some z) needs_drop p xs) (length xs) c)
-    (buffer_of name (Some z) needs_drop old s)
-places_exceed cut {old = old} name needs_drop some room cannot least items =
-    exceeds_as (buffer_as refl some room) (added_exceeds (codes "ptr") cannot
-    (slice_bears cut needs_drop name old.buffers old.items some least items))
-
--- If the items of a buffer cannot be counted, neither can the buffer.
-pub buffer_exceeds : {T : Type 0} (cut : Bool) {z c : ℕ} (old : Places) (name : Key) (needs_drop : Bool)
-    {p : T → Showing} {xs : List T} {s : ℕ → Shape} → 0 < z → 0 < length xs + c →
-    CannotTallySlice (Some z) needs_drop p xs s →
-    Exceeds (buffer_shows (Some z) (in_slices cut name (Some z) needs_drop p xs) (length xs) c)
-    (buffer_of name (Some z) needs_drop old s)
-buffer_exceeds cut {z} old name needs_drop {p} {xs} some room a =
-    exceeds_as (buffer_as refl some room) (exceeds_inside true 8 (exceeds_first (rw a.is_each
-    (exceeds_as (each_in cut name z needs_drop p xs a.is_each) (a.items.next old.items)))))
-
 -- A container without a declared size of its items cannot be counted.
 pub buffer_unsized : {size : Option ℕ} {p : Showing} {n c : ℕ} {s : Shape} → size ≡ None → Exceeds
     (buffer_shows size p n c) s
-buffer_unsized {size} {p} {n} {c} e = record { most = λ f x. absurd (missing f x) }
-  where
-    missing : (f : Forest) → buffer_shows size p n c f → ⊥
-    missing f (without_size y x) = cc
-    missing f (without_room y x z v) = cc
-    missing f (with_room y x z v) = cc
-
--- ---- items, one by one
--- Items cannot be counted if one of them cannot, once those before it were counted.
-pub item_cannot : {T : Type 0} {w : Option ℕ} (p : T → Showing) (xs : List T) (x : T) (ys : List T) {s t : ℕ → Shape} →
-    TalliesMany w (length xs) (each_shows p xs) s t → CannotTally (p x) t → CannotTally (each_shows p (xs ++ x ∷ ys)) s
-item_cannot p xs x ys a b = record {
-  next = λ n. exceeds_in (begins_with p xs x ys) (omega arith)
-      (exceeds_then (a.next n (n + length xs) refl) (b.next (n + length xs)));
+buffer_unsized e = record {
+  most = λ f x. absurd (elim x [ without_size y z ↦ cc | without_room y z v w ↦ cc | with_room y z v w ↦ cc ]);
 }
 
 -- ---- arrays and small vectors
@@ -585,36 +474,13 @@ small_sized n (Some s) align d = λ e. cc
 
 -- ---- containers in the order of insertion
 -- Items that were counted, and unused places, cannot be added to those of containers.
-pub index_exceeds : {given item found size w : Option ℕ} {l m n u : ℕ} {old : Places} {p : Showing} {s t : Shape} →
-    given ≡ item → found ≡ size → m ≡ l → n ≡ u → CannotAdd given found m n old → (item ≡ None → size ≡ None) →
+pub index_exceeds : (item size : Option ℕ) {w : Option ℕ} {l u : ℕ} {old : Places} {p : Showing} {s t : Shape} →
+    (item ≡ None → size ≡ None) → CannotAdd item size l u old →
     old.items + l + bytes_times item (old.items + l) ≤ load t → Tallies w p s t →
     Exceeds (index_data_shows size p u) (buffer_shape (codes "data") old.buffers s old.unused)
-index_exceeds {item = item} {size = size} {l = l} {u = u} {old = old} {p} {s} {t} e i same spare c none least a =
-    exceeds_as index_data_as (by_size item size (rw (e, i, same, spare) at c) none least)
-  where
-    by_size : (item size : Option ℕ) → CannotAdd item size l u old → (item ≡ None → size ≡ None) →
-        old.items + l + bytes_times item (old.items + l) ≤ load t →
-        Exceeds (InsideAs true (codes "data") 8 (Both p (bytes_shown (codes "unused_capacity") size u)))
-        (buffer_shape (codes "data") old.buffers s old.unused)
-    by_size item None c none least = exceeds_inside true 8 (record {
-      most = λ f x. omega (arith, both_weight x, field_least x.1 x.3);
-    })
-    by_size None (Some y) c none least = let absent = none refl in absurd (cc)
-    by_size (Some z) (Some y) c none least =
-        added_exceeds (codes "data") c (λ f x. omega (arith, least, a.weighs f x))
-
--- A hash table cannot be counted by its number of items.
-pub table_cannot : {n l : ℕ} {s : Shape} → n ≡ l → Exceeds (table_shows n) s → Exceeds (table_shows l) s
-table_cannot {s = s} e a = subst (λ (i : ℕ). Exceeds (table_shows i) s) e a
-
--- The hash table of some items has no size that fits a word.
-pub table_missing : {n a c : ℕ} {bytes : Option ℕ} → 0 < n → IsRawTableSize (Some 8) n bytes →
-    bytes ≡ None → Exceeds (table_shows n) (table_shape a c)
-table_missing some is e = exceeds_as (table_as some is) (exceeds_inside true 8 (exceeds_missing e))
-
--- The buckets of all hash tables exceed a word.
-pub buckets_full : {n a c b : ℕ} {bytes : Option ℕ} → 0 < n → IsRawTableSize (Some 8) n bytes → bytes ≡ Some b →
-    2 ^ 64 ≤ c + b → Exceeds (table_shows n) (table_shape a c)
-buckets_full some is e over = exceeds_as (table_as some is) (exceeds_inside true 8 (record {
-  most = λ f x. omega (arith, over, field_least f x, ap least_weight e);
+index_exceeds item None none c least a = exceeds_as index_data_as (exceeds_inside true 8 (record {
+  most = λ f x. omega (arith, both_weight x, field_least x.1 x.3);
 }))
+index_exceeds None (Some y) none c least a = let absent = none refl in absurd (cc)
+index_exceeds (Some z) (Some y) none c least a =
+    exceeds_as index_data_as (added_exceeds (codes "data") c (λ f x. omega (arith, least, a.weighs f x)))

@@ -151,6 +151,12 @@ items_shape false name n bytes s = EntryAt Wide name (sum_of n bytes) NoEntry
 abbrev pub unused_shape : ℕ → ℕ → Shape
 unused_shape n bytes = EntryAt Wide (codes "unused_capacity") (sum_of n bytes) NoEntry
 
+-- So many texts, with buffers of some bytes together, of which so many are used and unused.
+abbrev pub text_shape : ℕ → ℕ → ℕ → ℕ → Shape
+text_shape n capacity used unused = EntryAt Unique (codes "ptr") (sum_times (Some 8) n)
+    (EntryAt Wide (codes "capacity") (sum_of n capacity)
+    (Beside (EntryAt Wide (codes "u8") (sum_of n used) NoEntry) (unused_shape n unused)))
+
 -- So many buffers under a key, with their items inside them, and unused places of some bytes together.
 abbrev pub buffer_shape : Key → ℕ → Shape → ℕ → Shape
 buffer_shape k n items unused = EntryAt Unique k (sum_times (Some 8) n) (Beside items (unused_shape n unused))

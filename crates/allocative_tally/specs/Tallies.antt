@@ -1,18 +1,18 @@
 -- What counting a value does to what was counted before.
-use Rattle.std.specs.Prelude.{◌≡◌, ◌≤◌, ◌<◌, ◌+◌, ◌*◌, ◌^◌, ℕ, Bool, true, false, List, length, Option, None}
+use Rattle.std.specs.Prelude.{◌≡◌, ◌≤◌, ◌<◌, ◌+◌, ◌*◌, ◌^◌, ℕ, Bool, true, false, List, Option, None}
 use Rattle.std.specs.Prelude.{Some, Result, ⊤, codes}
 use Rattle.std.specs.Option.{ForSome}
 use Rattle.std.specs.Iterator.{AlwaysYields}
 use Rattle.allocative_graph.specs.Path.{Key}
 use Rattle.allocative_graph.specs.Forest.{Forest, followed_by}
 use Rattle.allocative_graph.specs.Owned.{direct}
-use Rattle.allocative_graph.specs.Shows.{Showing, Field, each_shows, slice_shows}
+use Rattle.allocative_graph.specs.Shows.{Showing, Field, slice_shows}
 use Rattle.allocative_graph.specs.declared.refusal.Refusal.{Refusal}
 use Rattle.allocative.specs.Bodies.{are_shown_each, cut_shows}
 use Rattle.allocative.specs.Visited.{Entered}
 use Rattle.allocative.specs.declared.visitor.Visitor.{Visitor}
 use Rattle.allocative_tally.specs.Shapes.{Merged, Shape, forest_of, Holds, IsRight, shape_shows, entries, items_shape}
-use Rattle.allocative_tally.specs.Shapes.{buffer_shape, bytes_times, is_there, load, weight, top_bytes}
+use Rattle.allocative_tally.specs.Shapes.{buffer_shape, bytes_times, is_there, load, weight, least_weight, top_bytes}
 use Rattle.allocative_tally.specs.declared.tally.Sum.{Sum}
 use Rattle.allocative_tally.specs.declared.places.Places.{Places}
 
@@ -85,10 +85,10 @@ pub record TalliesOwn (size : Option ℕ) (p : Showing) (n : ℕ) (s : ℕ → S
 pub record CannotTallyOwn (size : Option ℕ) (p : Showing) (n : ℕ) (s : ℕ → Shape) : Type 0 where
   pub next : (k : Key) → Exceeds (Field k size p) (entries k size n (s n))
 
--- Each item has the bytes of a declared size at its top, and too much to count if there is none; so many items have at
--- least their number and bytes, and at most those bytes at the top.
+-- Each item has more to count than the bytes of a declared size, which it has at its top, and too much if there is none;
+-- so many items have at least their number and bytes, and at most those bytes at the top.
 pub record AreFields {A S : Type 0} (size : Option ℕ) (p : A → Showing) (s : S → ℕ → Shape) : Type 0 where
-  pub heavy : (x : A) (f : Forest) → size ≡ None → p x f → 2 ^ 64 ≤ weight f
+  pub least : (x : A) (f : Forest) → p x f → least_weight size ≤ weight f
   pub bytes : (x : A) (z : ℕ) (f : Forest) → size ≡ Some z → p x f → direct f ≡ z
   pub numbers : (t : S) (n : ℕ) → n + bytes_times size n ≤ load (s t n)
   pub most : (t : S) (z n : ℕ) → size ≡ Some z → direct (forest_of (s t n)) ≤ z * n
@@ -97,16 +97,6 @@ pub record AreFields {A S : Type 0} (size : Option ℕ) (p : A → Showing) (s :
 abbrev pub in_slices : {T : Type 0} → Bool → Key → Option ℕ → Bool → (T → Showing) → List T → Showing
 in_slices false name size needs_drop p xs = slice_shows name size needs_drop p xs
 in_slices true name size needs_drop p xs = cut_shows name size needs_drop p xs
-
--- Items of a declared size were counted into the items of slices, which are shown one by one or as one entry: n and m
--- are how many slices there were before and then, i and j how many items.
-pub record TalliesSlice {T : Type 0} (size : Option ℕ) (needs_drop : Bool) (name : Key) (p : T → Showing) (xs : List T)
-    (s t : ℕ → Shape) : Type 0
-  where
-    pub next : (cut : Bool) (z n m i j : ℕ) → size ≡ Some z → 0 < m → m ≤ n + 1 → j ≡ i + length xs
-        → Tallies (Some (z * length xs)) (in_slices cut name size needs_drop p xs)
-        (items_shape (are_shown_each needs_drop size) name n (z * i) (s i))
-        (items_shape (are_shown_each needs_drop size) name m (z * j) (t j))
 
 -- The bytes of n items of a declared size fit a word.
 pub record FitsWord (size : Option ℕ) (n : ℕ) : Type 0 where
@@ -151,24 +141,17 @@ pub record HoldsOfEveryRun {S A B : Type 0} (steps : S → Option A → S → Ty
     (r : List B → Type 0) : Type 0 where
   pub along : (xs : List B) → AlwaysYields steps v s xs → r xs
 
--- A slice cannot be counted: its items are shown one by one, and cannot be.
-pub record CannotTallySlice {T : Type 0} (size : Option ℕ) (needs_drop : Bool) (p : T → Showing) (xs : List T)
-    (s : ℕ → Shape) : Type 0
-  where
-    pub is_each : are_shown_each needs_drop size ≡ true
-    pub items : CannotTally (each_shows p xs) s
-
 -- A buffer with so many items of a declared size was added, and unused places of another, and the bytes of all items
 -- and places fit a word.
 pub record AddsPlaces (item place : Option ℕ) (used spare : ℕ) (old new : Places) : Type 0 where
   pub adds : AddsItems item used old new
   pub spare_room : FitsWord place spare
-  pub unused : new.unused ≡ old.unused + spare_room.bytes * spare
-  pub room : adds.room.bytes * new.items + new.unused < 2 ^ 64
+  pub unused : new.unused ≡ old.unused + bytes_times place spare
+  pub room : bytes_times item new.items + new.unused < 2 ^ 64
 
 -- Such a buffer cannot be added.
 pub data CannotAdd (item place : Option ℕ) (used spare : ℕ) (old : Places) : Type 0 where
   no_room_for_items : CannotAddItems item used old → CannotAdd item place used spare old
   no_room_for_places : ForSome place (λ s. 2 ^ 64 ≤ old.unused + s * spare) → CannotAdd item place used spare old
-  no_room_for_both : {z s : ℕ} → item ≡ Some z → place ≡ Some s
-      → 2 ^ 64 ≤ z * (old.items + used) + (old.unused + s * spare) → CannotAdd item place used spare old
+  no_room_for_both : 2 ^ 64 ≤ bytes_times item (old.items + used) + (old.unused + bytes_times place spare)
+      → CannotAdd item place used spare old

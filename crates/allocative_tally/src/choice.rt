@@ -2,13 +2,13 @@
 #![tactic(auto, using(crate::proofs::Fields::starting))]
 
 ghost use Rattle.std.specs.Prelude.{codes};
-ghost use Rattle.allocative_tally.specs.Whole.{is_whole};
-ghost use Rattle.allocative_tally.specs.Shapes.{Beside, entries};
+ghost use Rattle.allocative_tally.specs.{Beside, entries, is_whole};
 
-use crate::field::{FieldMany, OwnTally, count_own};
-use crate::tally::{CountError, Entries, InlineSum, Sum, Tallied, declared};
+use crate::field::{FieldMany, OwnTally, SizedMany, count_own};
+use crate::tally::{CountError, Entries, Tallied, declared};
 use allocative::{Described, Refusal, Visitor};
 use either::{Either, Left, Right};
+use std::marker::PhantomData;
 
 impl<T: Tallied> Tallied for Option<T> {
     type Tally = OwnTally<T::Tally>;
@@ -24,7 +24,7 @@ impl<T: Tallied> Tallied for Option<T> {
 
     fn show(tally: &Self::Tally, count: usize, visitor: &mut Visitor<'_>) -> Result<(), Refusal> {
         let some = FieldMany::<T>("Some", &tally.values, tally.count);
-        InlineSum("Option", Sum::times(<Option<T>>::size(), count), some).enter(visitor)
+        SizedMany::<Option<T>, _, _>("Option", count, some, PhantomData).enter(visitor)
     }
 
     #[inline(always)]
@@ -63,8 +63,8 @@ impl<T: Tallied, E: Tallied> Tallied for Result<T, E> {
     fn show(tally: &Self::Tally, count: usize, visitor: &mut Visitor<'_>) -> Result<(), Refusal> {
         let ok = FieldMany::<T>("Ok", &tally.first.values, tally.first.count);
         let err = FieldMany::<E>("Err", &tally.second.values, tally.second.count);
-        let size = Sum::times(<Result<T, E>>::size(), count);
-        InlineSum("Result", size, (ok, err)).enter(visitor)
+        let inside = (ok, err);
+        SizedMany::<Result<T, E>, _, _>("Result", count, inside, PhantomData).enter(visitor)
     }
 
     #[inline(always)]
@@ -96,8 +96,8 @@ impl<L: Tallied, R: Tallied> Tallied for Either<L, R> {
     fn show(tally: &Self::Tally, count: usize, visitor: &mut Visitor<'_>) -> Result<(), Refusal> {
         let left = FieldMany::<L>("Left", &tally.first.values, tally.first.count);
         let right = FieldMany::<R>("Right", &tally.second.values, tally.second.count);
-        let size = Sum::times(<Either<L, R>>::size(), count);
-        InlineSum("Either", size, (left, right)).enter(visitor)
+        let inside = (left, right);
+        SizedMany::<Either<L, R>, _, _>("Either", count, inside, PhantomData).enter(visitor)
     }
 
     #[inline(always)]

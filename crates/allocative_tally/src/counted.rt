@@ -8,9 +8,8 @@ ghost use Rattle.allocative_described.specs.Sizes.{size_sum};
 ghost use Rattle.allocative_graph.specs.Forest.{Forest};
 ghost use Rattle.allocative_graph.specs.Shows.{each_shows};
 ghost use Rattle.allocative.specs.Runs.{field_of, pair_shows};
-ghost use Rattle.allocative.specs.Visited.{Entered};
-ghost use Rattle.allocative_tally.specs.Shapes.{Shape, entries, pairs_shape};
-ghost use Rattle.allocative_tally.specs.Tallies.{TalliesFields, TalliesMany, CannotTally, HoldsOfEveryRun, FitsWord};
+ghost use Rattle.allocative_tally.specs.{Shape, entries, pairs_shape, TalliesFields, TalliesMany, CannotTally};
+ghost use Rattle.allocative_tally.specs.{HoldsOfEveryRun, FitsWord};
 
 use crate::tally::{CountError, Tallied, product};
 use allocative::{Allocative, Described, IntoKey, Part, Refusal, Visitor};
@@ -104,8 +103,9 @@ impl<'a, K: Tallied, V: Tallied> CountItem<(&'a K, &'a V), (K::Tally, V::Tally)>
         tally: &mut (K::Tally, V::Tally),
     ) -> Result<(), CountError> {
         let (key, value) = item;
-        key.tally(&mut tally.0)?;
-        value.tally(&mut tally.1)
+        let key = key.tally(&mut tally.0);
+        let value = value.tally(&mut tally.1);
+        key.and(value)
     }
 }
 
@@ -231,26 +231,8 @@ impl<'a, T: Tallied> Part for CountedEach<&'a [T]> {
         let count = self.0.len();
         match count_fitting(Itself, self.0.iter(), T::size(), count, &mut tally) {
             Ok(()) => T::show(&tally, count, visitor),
-            Err(_) => enter_each(self.0, visitor),
+            Err(_) => visitor.visit_each(self.0),
         }
-    }
-}
-
-// What each item shows, one by one. It halves the slice, so its stack does not grow with the number of items.
-fn enter_each<T: Allocative>(items: &[T], visitor: &mut Visitor<'_>) -> Result<(), Refusal>
-    ensures { Entered T.is_strict (each_shows T.may_show items.now) visitor.old visitor.new result }
-{
-    let count = items.len();
-    if count == 0 {
-        return Ok(());
-    }
-    if count == 1 {
-        return items[0].enter(visitor);
-    }
-    let (front, back) = items.split_at(count / 2);
-    match enter_each(front, visitor) {
-        Ok(()) => enter_each(back, visitor),
-        Err(refusal) => Err(refusal),
     }
 }
 

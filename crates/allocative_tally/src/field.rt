@@ -2,13 +2,13 @@
 #![tactic(auto)]
 
 ghost use Rattle.std.specs.Prelude.{◌≡◌, MatchResult};
-ghost use Rattle.allocative_tally.specs.Shapes.{entries};
-ghost use Rattle.allocative_tally.specs.Tallies.{TalliesOwn, CannotTallyOwn};
+ghost use Rattle.allocative_tally.specs.{entries, TalliesOwn, CannotTallyOwn};
 ghost use Rattle.allocative.specs.Shows as shows;
 
 use crate::counted::Counted;
 use crate::tally::{CountError, Entries, InlineSum, Sum, Tallied, added};
 use allocative::{Declared, Described, IntoKey, Part, Refusal, Visitor};
+use std::marker::PhantomData;
 
 /// What so many values show, by their tally.
 #[derive(Drop)]
@@ -32,6 +32,18 @@ impl<'a, T: Tallied> Entries for FieldMany<'a, T> {
     fn enter(self, visitor: &mut Visitor<'_>) -> Result<(), Refusal> {
         let sum = Sum::times(T::size(), self.2);
         InlineSum(self.0, sum, Many::<T>(self.1, self.2)).enter(visitor)
+    }
+}
+
+/// So many entries of a type's declared size under a key, with entries inside them.
+#[derive(Drop)]
+pub struct SizedMany<T, K, P>(pub K, pub usize, pub P, pub PhantomData<T>);
+
+impl<T: Described, K: IntoKey, P: Entries> Entries for SizedMany<T, K, P> {
+    ghost shape = { λ e. entries (K.key e.0) T.size e.1 (P.shape e.2) };
+
+    fn enter(self, visitor: &mut Visitor<'_>) -> Result<(), Refusal> {
+        InlineSum(self.0, Sum::times(T::size(), self.1), self.2).enter(visitor)
     }
 }
 

@@ -2,24 +2,24 @@
 //! of 8 bytes.
 #![tactic(auto)]
 
-ghost use Rattle.std.specs.Prelude.{◌≡◌, ◌&&◌, true, codes, MatchResult, Some, length};
+ghost use Rattle.std.specs.Prelude.{◌≡◌, ◌&&◌, codes, MatchResult, Some, length};
 ghost use Rattle.std.specs.Iterator.{IsFinite};
-ghost use Rattle.allocative_tally.specs.Whole.{is_whole};
 ghost use Rattle.allocative_described.specs.Sizes.{size_sum};
 ghost use Rattle.allocative_graph.specs.Shows.{Inside as shows_inside, each_shows};
 ghost use Rattle.allocative.specs.Runs.{pair_shows};
 ghost use Rattle.allocative.specs.StdShows.{in_any_order};
-ghost use Rattle.allocative_tally.specs.Shapes.{Beside, EntryAt, Wide, Narrow, entries, pairs_shape, data_shape};
-ghost use Rattle.allocative_tally.specs.Shapes.{sum_times};
-ghost use Rattle.allocative_tally.specs.Tallies.{Tallies, Exceeds, AreFields, HoldsOfEveryRun, no_places};
+ghost use Rattle.allocative_tally.specs.{Beside, EntryAt, Wide, Narrow, entries, pairs_shape, data_shape, sum_times};
+ghost use Rattle.allocative_tally.specs.{Exceeds, AreFields, HoldsOfEveryRun, is_whole};
+ghost use Rattle.allocative_tally.specs.Tallies.{Tallies};
 
 use crate::counted::{CountItem, FieldUnder, KeyAndValue, count_fitting, count_run};
-use crate::field::FieldMany;
+use crate::field::{FieldMany, SizedMany};
 use crate::places::Buffers;
 use crate::tally::{CountError, Entries, InlineSum, Sum, Tallied, bytes_of};
 use allocative::{Described, Pairs, Part, Refusal, Visitor};
 use std::collections::{BTreeMap, BTreeSet, HashMap, HashSet};
 use std::hash::Hash;
+use std::marker::PhantomData;
 
 /// The fields of so many pairs, by the tallies of their keys and values.
 #[derive(Drop)]
@@ -48,21 +48,6 @@ pub(crate) fn pair_size<K: Described, V: Described>() -> Option<usize>
 pub struct DataTally<S> {
     pub(crate) small: Buffers<S>,
     pub(crate) large: Buffers<S>,
-}
-
-impl<S: Drop> DataTally<S> {
-    // No entry, by two tallies of nothing.
-    fn none(small: S, large: S) -> DataTally<S>
-        ensures { result ≡ record {
-          small = record { places = no_places; values = small };
-          large = record { places = no_places; values = large };
-        } }
-    {
-        DataTally {
-            small: Buffers::none(small),
-            large: Buffers::none(large),
-        }
-    }
 }
 
 // Counts the entry `data` of so many items of a declared size that an iterator gives. It returns `Err` as
@@ -130,16 +115,17 @@ impl<K: Tallied + Eq + Hash, V: Tallied> Tallied for HashMap<K, V> {
     ghost whole = { is_whole };
 
     fn none_counted() -> Self::Tally {
-        let small = (K::none_counted(), V::none_counted());
-        let large = (K::none_counted(), V::none_counted());
-        DataTally::none(small, large)
+        DataTally {
+            small: Buffers::none((K::none_counted(), V::none_counted())),
+            large: Buffers::none((K::none_counted(), V::none_counted())),
+        }
     }
 
     fn show(tally: &Self::Tally, count: usize, visitor: &mut Visitor<'_>) -> Result<(), Refusal> {
         let small = PairsMany::<K, V>(&tally.small.values, tally.small.places.items);
         let large = PairsMany::<K, V>(&tally.large.values, tally.large.places.items);
         let data = DataMany(tally, small, large);
-        InlineSum("HashMap", Sum::times(Some(48), count), data).enter(visitor)
+        SizedMany::<HashMap<K, V>, _, _>("HashMap", count, data, PhantomData).enter(visitor)
     }
 
     fn tally(&self, tally: &mut Self::Tally) -> Result<(), CountError> {
@@ -162,16 +148,17 @@ impl<K: Tallied + Ord, V: Tallied> Tallied for BTreeMap<K, V> {
     ghost whole = { is_whole };
 
     fn none_counted() -> Self::Tally {
-        let small = (K::none_counted(), V::none_counted());
-        let large = (K::none_counted(), V::none_counted());
-        DataTally::none(small, large)
+        DataTally {
+            small: Buffers::none((K::none_counted(), V::none_counted())),
+            large: Buffers::none((K::none_counted(), V::none_counted())),
+        }
     }
 
     fn show(tally: &Self::Tally, count: usize, visitor: &mut Visitor<'_>) -> Result<(), Refusal> {
         let small = PairsMany::<K, V>(&tally.small.values, tally.small.places.items);
         let large = PairsMany::<K, V>(&tally.large.values, tally.large.places.items);
         let data = DataMany(tally, small, large);
-        InlineSum("BTreeMap", Sum::times(Some(24), count), data).enter(visitor)
+        SizedMany::<BTreeMap<K, V>, _, _>("BTreeMap", count, data, PhantomData).enter(visitor)
     }
 
     fn tally(&self, tally: &mut Self::Tally) -> Result<(), CountError> {
@@ -194,14 +181,17 @@ impl<K: Tallied + Eq + Hash> Tallied for HashSet<K> {
     ghost whole = { is_whole };
 
     fn none_counted() -> Self::Tally {
-        DataTally::none(K::none_counted(), K::none_counted())
+        DataTally {
+            small: Buffers::none(K::none_counted()),
+            large: Buffers::none(K::none_counted()),
+        }
     }
 
     fn show(tally: &Self::Tally, count: usize, visitor: &mut Visitor<'_>) -> Result<(), Refusal> {
         let small = FieldMany::<K>("key", &tally.small.values, tally.small.places.items);
         let large = FieldMany::<K>("key", &tally.large.values, tally.large.places.items);
         let data = DataMany(tally, small, large);
-        InlineSum("HashSet", Sum::times(Some(48), count), data).enter(visitor)
+        SizedMany::<HashSet<K>, _, _>("HashSet", count, data, PhantomData).enter(visitor)
     }
 
     fn tally(&self, tally: &mut Self::Tally) -> Result<(), CountError> {
@@ -218,14 +208,17 @@ impl<K: Tallied + Ord> Tallied for BTreeSet<K> {
     ghost whole = { is_whole };
 
     fn none_counted() -> Self::Tally {
-        DataTally::none(K::none_counted(), K::none_counted())
+        DataTally {
+            small: Buffers::none(K::none_counted()),
+            large: Buffers::none(K::none_counted()),
+        }
     }
 
     fn show(tally: &Self::Tally, count: usize, visitor: &mut Visitor<'_>) -> Result<(), Refusal> {
         let small = FieldMany::<K>("key", &tally.small.values, tally.small.places.items);
         let large = FieldMany::<K>("key", &tally.large.values, tally.large.places.items);
         let data = DataMany(tally, small, large);
-        InlineSum("BTreeSet", Sum::times(Some(24), count), data).enter(visitor)
+        SizedMany::<BTreeSet<K>, _, _>("BTreeSet", count, data, PhantomData).enter(visitor)
     }
 
     fn tally(&self, tally: &mut Self::Tally) -> Result<(), CountError> {

@@ -1,15 +1,14 @@
 //! `IndexMap`, `IndexSet`, `SmallVec` and `Slab`.
 #![tactic(auto)]
 
-ghost use Rattle.std.specs.Prelude.{◌≡◌, codes, MatchResult, Some};
-ghost use Rattle.allocative_tally.specs.Whole.{is_whole};
+ghost use Rattle.std.specs.Prelude.{codes, MatchResult, Some};
 ghost use Rattle.allocative.specs.Bodies.{table_shows};
-ghost use Rattle.allocative_tally.specs.Shapes.{Unique as unique_width, EntryAt, Beside, NoEntry, entries, sum_times};
-ghost use Rattle.allocative_tally.specs.Shapes.{buffer_shape, pairs_shape, table_shape};
-ghost use Rattle.allocative_tally.specs.Tallies.{Tallies, Exceeds, buffer_of, no_places};
+ghost use Rattle.allocative_tally.specs.{Unique as unique_width, EntryAt, Beside, entries, sum_times, buffer_shape};
+ghost use Rattle.allocative_tally.specs.{pairs_shape, table_shape, Exceeds, buffer_of, is_whole};
+ghost use Rattle.allocative_tally.specs.Tallies.{Tallies};
 
 use crate::counted::{FieldUnder, KeyAndValue, count_run};
-use crate::field::{FieldMany, OwnTally};
+use crate::field::{FieldMany, OwnTally, SizedMany};
 use crate::map::{PairsMany, pair_size};
 use crate::places::Buffers;
 use crate::sequence::{BuffersMany, count_buffer};
@@ -19,6 +18,7 @@ use indexmap::{IndexMap, IndexSet};
 use slab::Slab;
 use smallvec::SmallVec;
 use std::hash::Hash;
+use std::marker::PhantomData;
 
 /// Containers in the order of insertion, counted: their items, how many hash tables there are, and the bytes of their
 /// buckets.
@@ -27,23 +27,6 @@ pub struct IndexTally<S> {
     items: Buffers<S>,
     tables: usize,
     buckets: usize,
-}
-
-impl<S: Drop> IndexTally<S> {
-    // No container, by a tally of nothing.
-    fn none(values: S) -> IndexTally<S>
-        ensures { result ≡ record {
-          items = record { places = no_places; values = values };
-          tables = 0;
-          buckets = 0;
-        } }
-    {
-        IndexTally {
-            items: Buffers::none(values),
-            tables: 0,
-            buckets: 0,
-        }
-    }
 }
 
 /// What containers in the order of insertion show inside their entries: by their tally, and the entries of their items.
@@ -95,21 +78,26 @@ impl<K: Tallied + Eq + Hash, V: Tallied> Tallied for IndexMap<K, V> {
     ghost whole = { is_whole };
 
     fn none_counted() -> Self::Tally {
-        IndexTally::none((K::none_counted(), V::none_counted()))
+        IndexTally {
+            items: Buffers::none((K::none_counted(), V::none_counted())),
+            tables: 0,
+            buckets: 0,
+        }
     }
 
     fn show(tally: &Self::Tally, count: usize, visitor: &mut Visitor<'_>) -> Result<(), Refusal> {
         let items = PairsMany::<K, V>(&tally.items.values, tally.items.places.items);
         let inside = IndexMany(tally, items);
-        InlineSum("IndexMap", Sum::times(Some(72), count), inside).enter(visitor)
+        SizedMany::<IndexMap<K, V>, _, _>("IndexMap", count, inside, PhantomData).enter(visitor)
     }
 
     fn tally(&self, tally: &mut Self::Tally) -> Result<(), CountError> {
-        let unused = self.capacity() - self.len();
+        let count = self.len();
+        let unused = self.capacity() - count;
         let sizes = (pair_size::<K, V>(), <(K, V)>::size());
         count_run(KeyAndValue, self.iter(), &mut tally.items.values)?;
-        tally.items.places.add(sizes, self.len(), unused)?;
-        count_table(self.len(), &mut tally.tables, &mut tally.buckets)
+        tally.items.places.add(sizes, count, unused)?;
+        count_table(count, &mut tally.tables, &mut tally.buckets)
     }
 }
 
@@ -124,21 +112,26 @@ impl<T: Tallied + Eq + Hash> Tallied for IndexSet<T> {
     ghost whole = { is_whole };
 
     fn none_counted() -> Self::Tally {
-        IndexTally::none(T::none_counted())
+        IndexTally {
+            items: Buffers::none(T::none_counted()),
+            tables: 0,
+            buckets: 0,
+        }
     }
 
     fn show(tally: &Self::Tally, count: usize, visitor: &mut Visitor<'_>) -> Result<(), Refusal> {
         let items = FieldMany::<T>("value", &tally.items.values, tally.items.places.items);
         let inside = IndexMany(tally, items);
-        InlineSum("IndexSet", Sum::times(Some(72), count), inside).enter(visitor)
+        SizedMany::<IndexSet<T>, _, _>("IndexSet", count, inside, PhantomData).enter(visitor)
     }
 
     fn tally(&self, tally: &mut Self::Tally) -> Result<(), CountError> {
-        let unused = self.capacity() - self.len();
+        let count = self.len();
+        let unused = self.capacity() - count;
         let sizes = (T::size(), T::size());
         count_run(FieldUnder("value"), self.iter(), &mut tally.items.values)?;
-        tally.items.places.add(sizes, self.len(), unused)?;
-        count_table(self.len(), &mut tally.tables, &mut tally.buckets)
+        tally.items.places.add(sizes, count, unused)?;
+        count_table(count, &mut tally.tables, &mut tally.buckets)
     }
 }
 
@@ -206,7 +199,7 @@ impl<T: Tallied> Tallied for Slab<T> {
 
     fn show(tally: &Self::Tally, count: usize, visitor: &mut Visitor<'_>) -> Result<(), Refusal> {
         let buffers = BuffersMany::<T>(tally);
-        InlineSum("Slab", Sum::times(Some(40), count), buffers).enter(visitor)
+        SizedMany::<Slab<T>, _, _>("Slab", count, buffers, PhantomData).enter(visitor)
     }
 
     fn tally(&self, tally: &mut Self::Tally) -> Result<(), CountError> {

@@ -1,10 +1,10 @@
 //! Numbers of buffers and of their items, and the bytes of their unused places.
 #![tactic(auto)]
 
-ghost use Rattle.std.specs.Prelude.{◌≡◌, MatchResult};
-ghost use Rattle.allocative_tally.specs.Tallies.{no_places, AddsPlaces, AddsItems, CannotAdd, CannotAddItems};
+ghost use Rattle.std.specs.Prelude.{◌≡◌, IfOk, MatchResult};
+ghost use Rattle.allocative_tally.specs.{bytes_times, no_places, AddsPlaces, AddsItems, CannotAdd, CannotAddItems};
 
-use crate::tally::{CountError, added, bytes_of, product};
+use crate::tally::{CountError, added, product};
 
 /// How many buffers there are, how many items are in them, and the bytes of their unused places.
 #[derive(Clone, Copy)]
@@ -15,6 +15,21 @@ pub struct Places {
 }
 
 impl Places {
+    // Adds a buffer as `add_full` does. Returns the bytes of all items.
+    #[inline(always)]
+    fn add_items(&mut self, size: Option<usize>, items: usize) -> Result<usize, CountError>
+        ensures adds { MatchResult result (λ _. AddsItems size items self.old self.new)
+            (λ _. CannotAddItems size items self.old) }
+        ensures bytes { IfOk result (λ b. b ≡ bytes_times size self.new.items) }
+    {
+        let buffers = added(self.buffers, 1)?;
+        let items = added(self.items, items)?;
+        let bytes = product(size, items)?;
+        self.buffers = buffers;
+        self.items = items;
+        Ok(bytes)
+    }
+
     /// Adds a buffer of so many items of a declared size, where no place is unused. It returns `Err` exactly if the
     /// size is missing, or a number or the bytes of all items do not fit a word.
     #[inline(always)]
@@ -22,11 +37,7 @@ impl Places {
         ensures { MatchResult result (λ _. AddsItems size items self.old self.new)
             (λ _. CannotAddItems size items self.old) }
     {
-        let buffers = added(self.buffers, 1)?;
-        let items = added(self.items, items)?;
-        product(size, items)?;
-        self.buffers = buffers;
-        self.items = items;
+        self.add_items(size, items)?;
         Ok(())
     }
 
@@ -43,12 +54,11 @@ impl Places {
             (λ _. CannotAdd sizes.0 sizes.1 items unused self.old) }
     {
         let (item, place) = sizes;
-        let before = self.unused;
-        self.add_full(item, items)?;
         let spare = product(place, unused)?;
-        self.unused = added(before, spare)?;
-        let all = bytes_of(item, self.items);
-        added(all, self.unused)?;
+        let spare = added(self.unused, spare)?;
+        let bytes = self.add_items(item, items)?;
+        added(bytes, spare)?;
+        self.unused = spare;
         Ok(())
     }
 }

@@ -4,21 +4,21 @@
 ghost use Rattle.std.specs.Prelude.{◌≡◌, None, Bool, codes, MatchResult, Some, length};
 ghost use Rattle.std.specs.Iterator.{IsFinite};
 ghost use Rattle.std.specs.Map.Iter.{deref};
-ghost use Rattle.allocative_tally.specs.Whole.{is_whole};
 ghost use Rattle.allocative.specs.Bodies.{are_shown_each as is_each, buffer_shows};
-ghost use Rattle.allocative_tally.specs.Shapes.{Unique, Wide, EntryAt, Beside, NoEntry, entries, items_shape};
-ghost use Rattle.allocative_tally.specs.Shapes.{bytes_times, sum_of, sum_times, unused_shape};
-ghost use Rattle.allocative_tally.specs.Tallies.{Tallies, Exceeds, TalliesSlice, CannotTallySlice, HoldsOfEveryRun};
-ghost use Rattle.allocative_tally.specs.Tallies.{buffer_of, in_slices};
+ghost use Rattle.allocative_tally.specs.{Unique, EntryAt, entries, items_shape, bytes_times};
+ghost use Rattle.allocative_tally.specs.{sum_times, text_shape, Exceeds, HoldsOfEveryRun, buffer_of};
+ghost use Rattle.allocative_tally.specs.Tallies.{Tallies};
+ghost use Rattle.allocative_tally.specs.{in_slices, is_whole};
 
 use crate::counted::{FieldUnder, Itself, count_run};
-use crate::field::{FieldMany, Many, OwnTally};
+use crate::field::{FieldMany, Many, OwnTally, SizedMany};
 use crate::places::Buffers;
 use crate::tally::{
     CountError, Entries, InlineSum, Sum, Tallied, UniqueSum, added, bytes_of, declared,
 };
 use allocative::{Described, Refusal, Visitor};
 use std::collections::VecDeque;
+use std::marker::PhantomData;
 
 /// Texts, counted: the bytes of their buffers, and how many of these are used and unused.
 #[derive(Drop)]
@@ -31,9 +31,7 @@ pub struct TextTally {
 impl Tallied for String {
     type Tally = TextTally;
 
-    ghost shape = { λ t n. entries (codes "String") (Some 24) n (EntryAt Unique (codes "ptr") (sum_times (Some 8) n)
-        (EntryAt Wide (codes "capacity") (sum_of n t.capacity)
-        (Beside (EntryAt Wide (codes "u8") (sum_of n t.used) NoEntry) (unused_shape n t.unused)))) };
+    ghost shape = { λ t n. entries (codes "String") (Some 24) n (text_shape n t.capacity t.used t.unused) };
 
     ghost whole = { is_whole };
 
@@ -50,7 +48,7 @@ impl Tallied for String {
         let unused = InlineSum("unused_capacity", Sum::of(count, tally.unused), ());
         let capacity = InlineSum("capacity", Sum::of(count, tally.capacity), (used, unused));
         let pointer = UniqueSum("ptr", Sum::times(Some(8), count), capacity);
-        InlineSum("String", Sum::times(Some(24), count), pointer).enter(visitor)
+        SizedMany::<String, _, _>("String", count, pointer, PhantomData).enter(visitor)
     }
 
     #[inline(always)]
@@ -109,24 +107,6 @@ impl<'a, T: Tallied> Entries for BuffersMany<'a, T> {
     }
 }
 
-// Counts the items that an iterator gives, as those of a slice. It returns `Err` as `Tallied::tally` does.
-#[inline(always)]
-fn count_items<'a, T: Tallied + 'a, I: Iterator<Item = &'a T> + Drop>(
-    items: I,
-    tally: &mut T::Tally,
-) -> Result<(), CountError>
-    requires can { I.can_next items }
-    requires ends { IsFinite (I.remaining items) }
-    ensures { HoldsOfEveryRun I.next_gives items deref (λ xs. MatchResult result
-        (λ _. TalliesSlice T.size T.needs_drop T.name T.may_show xs (T.shape tally.old) (T.shape tally.new))
-        (λ _. CannotTallySlice T.size T.needs_drop T.may_show xs (T.shape tally.old))) }
-{
-    if are_shown_each::<T>() {
-        return count_run(Itself, items, tally);
-    }
-    Ok(())
-}
-
 /// Counts the buffer of so many items, which an iterator gives, with room for so many. There is none if the items have
 /// size 0, or if there is neither an item nor room for one. It returns `Err` as `Tallied::tally` does.
 #[inline(always)]
@@ -157,9 +137,13 @@ pub fn count_buffer<'a, T: Tallied + 'a, I: Iterator<Item = &'a T> + Drop>(
     if count.max(capacity) == 0 {
         return Ok(());
     }
-    count_items(items, &mut tally.values)?;
+    let sizes = (Some(size), Some(size));
     let unused = capacity.saturating_sub(count);
-    tally.places.add((Some(size), Some(size)), count, unused)
+    if are_shown_each::<T>() {
+        count_run(Itself, items, &mut tally.values)?;
+        return tally.places.add(sizes, count, unused);
+    }
+    tally.places.add(sizes, count, unused)
 }
 
 impl<T: Tallied> Tallied for Box<T> {
@@ -177,7 +161,7 @@ impl<T: Tallied> Tallied for Box<T> {
     fn show(tally: &Self::Tally, count: usize, visitor: &mut Visitor<'_>) -> Result<(), Refusal> {
         let values = Many::<T>(&tally.values, tally.places.items);
         let pointer = UniqueSum("ptr", Sum::times(Some(8), tally.places.buffers), values);
-        InlineSum("Box", Sum::times(Some(8), count), pointer).enter(visitor)
+        SizedMany::<Box<T>, _, _>("Box", count, pointer, PhantomData).enter(visitor)
     }
 
     #[inline(always)]
@@ -201,7 +185,7 @@ impl<T: Tallied> Tallied for Vec<T> {
 
     fn show(tally: &Self::Tally, count: usize, visitor: &mut Visitor<'_>) -> Result<(), Refusal> {
         let buffers = BuffersMany::<T>(tally);
-        InlineSum("Vec", Sum::times(Some(24), count), buffers).enter(visitor)
+        SizedMany::<Vec<T>, _, _>("Vec", count, buffers, PhantomData).enter(visitor)
     }
 
     #[inline(always)]
@@ -224,7 +208,7 @@ impl<T: Tallied> Tallied for VecDeque<T> {
 
     fn show(tally: &Self::Tally, count: usize, visitor: &mut Visitor<'_>) -> Result<(), Refusal> {
         let buffers = BuffersMany::<T>(tally);
-        InlineSum("VecDeque", Sum::times(Some(32), count), buffers).enter(visitor)
+        SizedMany::<VecDeque<T>, _, _>("VecDeque", count, buffers, PhantomData).enter(visitor)
     }
 
     #[inline(always)]

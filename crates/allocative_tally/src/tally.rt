@@ -3,9 +3,9 @@
 
 ghost use Rattle.std.specs.Prelude.{◌≡◌, ◌≤◌, ◌+◌, ◌*◌, ◌^◌, ℕ, true, None, IfOk, MatchResult};
 ghost use Rattle.std.specs.Option.{ForSome};
-ghost use Rattle.allocative_tally.specs.Shapes.{Shape, NoEntry, Beside, EntryAt, Wide, Unique as unique_width};
-ghost use Rattle.allocative_tally.specs.Shapes.{IsNothing, shape_shows, bytes_times, sum_of, sum_times};
-ghost use Rattle.allocative_tally.specs.Tallies.{TalliesNext, CannotTally, IsWhole, EntersShape, IsDeclared, FitsWord};
+ghost use Rattle.allocative_tally.specs.{Shape, NoEntry, Beside, EntryAt, Wide, Unique as unique_width, IsNothing};
+ghost use Rattle.allocative_tally.specs.{shape_shows, bytes_times, sum_of, sum_times, TalliesNext, CannotTally};
+ghost use Rattle.allocative_tally.specs.{IsWhole, EntersShape, IsDeclared, FitsWord};
 
 use allocative::{Allocative, Described, Inside, IntoKey, Part, Refusal, Unique, Visitor};
 use thiserror::Error;

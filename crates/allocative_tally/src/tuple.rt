@@ -2,12 +2,12 @@
 #![tactic(auto, using(crate::proofs::Fields::starting))]
 
 ghost use Rattle.std.specs.Prelude.{codes};
-ghost use Rattle.allocative_tally.specs.Whole.{is_whole};
-ghost use Rattle.allocative_tally.specs.Shapes.{Beside, entries};
+ghost use Rattle.allocative_tally.specs.{Beside, entries, is_whole};
 
-use crate::field::FieldMany;
-use crate::tally::{CountError, Entries, InlineSum, Sum, Tallied, declared};
+use crate::field::{FieldMany, SizedMany};
+use crate::tally::{CountError, Entries, Tallied, declared};
 use allocative::{Described, Refusal, Visitor};
+use std::marker::PhantomData;
 
 impl<A: Tallied, B: Tallied> Tallied for (A, B) {
     type Tally = (A::Tally, B::Tally);
@@ -25,15 +25,16 @@ impl<A: Tallied, B: Tallied> Tallied for (A, B) {
     fn show(tally: &Self::Tally, count: usize, visitor: &mut Visitor<'_>) -> Result<(), Refusal> {
         let first = FieldMany::<A>("0", &tally.0, count);
         let second = FieldMany::<B>("1", &tally.1, count);
-        let size = Sum::times(<(A, B)>::size(), count);
-        InlineSum("tuple2", size, (first, second)).enter(visitor)
+        let inside = (first, second);
+        SizedMany::<(A, B), _, _>("tuple2", count, inside, PhantomData).enter(visitor)
     }
 
     #[inline(always)]
     fn tally(&self, tally: &mut Self::Tally) -> Result<(), CountError> {
         declared::<(A, B)>()?;
-        self.0.tally(&mut tally.0)?;
-        self.1.tally(&mut tally.1)
+        let first = self.0.tally(&mut tally.0);
+        let second = self.1.tally(&mut tally.1);
+        first.and(second)
     }
 }
 
@@ -55,16 +56,17 @@ impl<A: Tallied, B: Tallied, C: Tallied> Tallied for (A, B, C) {
         let first = FieldMany::<A>("0", &tally.0, count);
         let second = FieldMany::<B>("1", &tally.1, count);
         let third = FieldMany::<C>("2", &tally.2, count);
-        let size = Sum::times(<(A, B, C)>::size(), count);
-        InlineSum("tuple3", size, (first, (second, third))).enter(visitor)
+        let inside = (first, (second, third));
+        SizedMany::<(A, B, C), _, _>("tuple3", count, inside, PhantomData).enter(visitor)
     }
 
     #[inline(always)]
     fn tally(&self, tally: &mut Self::Tally) -> Result<(), CountError> {
         declared::<(A, B, C)>()?;
-        self.0.tally(&mut tally.0)?;
-        self.1.tally(&mut tally.1)?;
-        self.2.tally(&mut tally.2)
+        let first = self.0.tally(&mut tally.0);
+        let second = self.1.tally(&mut tally.1);
+        let third = self.2.tally(&mut tally.2);
+        first.and(second.and(third))
     }
 }
 
@@ -93,17 +95,18 @@ impl<A: Tallied, B: Tallied, C: Tallied, D: Tallied> Tallied for (A, B, C, D) {
         let second = FieldMany::<B>("1", &tally.1, count);
         let third = FieldMany::<C>("2", &tally.2, count);
         let fourth = FieldMany::<D>("3", &tally.3, count);
-        let size = Sum::times(<(A, B, C, D)>::size(), count);
-        InlineSum("tuple4", size, (first, (second, (third, fourth)))).enter(visitor)
+        let inside = (first, (second, (third, fourth)));
+        SizedMany::<(A, B, C, D), _, _>("tuple4", count, inside, PhantomData).enter(visitor)
     }
 
     #[inline(always)]
     fn tally(&self, tally: &mut Self::Tally) -> Result<(), CountError> {
         declared::<(A, B, C, D)>()?;
-        self.0.tally(&mut tally.0)?;
-        self.1.tally(&mut tally.1)?;
-        self.2.tally(&mut tally.2)?;
-        self.3.tally(&mut tally.3)
+        let first = self.0.tally(&mut tally.0);
+        let second = self.1.tally(&mut tally.1);
+        let third = self.2.tally(&mut tally.2);
+        let fourth = self.3.tally(&mut tally.3);
+        first.and(second.and(third.and(fourth)))
     }
 }
 
@@ -135,17 +138,18 @@ impl<A: Tallied, B: Tallied, C: Tallied, D: Tallied, E: Tallied> Tallied for (A,
         let third = FieldMany::<C>("2", &tally.2, count);
         let fourth = FieldMany::<D>("3", &tally.3, count);
         let fifth = FieldMany::<E>("4", &tally.4, count);
-        let size = Sum::times(<(A, B, C, D, E)>::size(), count);
-        InlineSum("tuple5", size, (first, (second, (third, (fourth, fifth))))).enter(visitor)
+        let inside = (first, (second, (third, (fourth, fifth))));
+        SizedMany::<(A, B, C, D, E), _, _>("tuple5", count, inside, PhantomData).enter(visitor)
     }
 
     #[inline(always)]
     fn tally(&self, tally: &mut Self::Tally) -> Result<(), CountError> {
         declared::<(A, B, C, D, E)>()?;
-        self.0.tally(&mut tally.0)?;
-        self.1.tally(&mut tally.1)?;
-        self.2.tally(&mut tally.2)?;
-        self.3.tally(&mut tally.3)?;
-        self.4.tally(&mut tally.4)
+        let first = self.0.tally(&mut tally.0);
+        let second = self.1.tally(&mut tally.1);
+        let third = self.2.tally(&mut tally.2);
+        let fourth = self.3.tally(&mut tally.3);
+        let fifth = self.4.tally(&mut tally.4);
+        first.and(second.and(third.and(fourth.and(fifth))))
     }
 }

@@ -40,35 +40,29 @@ pub enum Placed<T> {
     ),
 }
 
-/// What happened in a store.
+/// What happened in a store: fields that are shown, passed over, or shown by their size.
 #[derive(Drop)]
 pub enum Event {
     Quiet,
     Note(String),
-    Sale { shelf: u64, prices: Vec<u64> },
+    Marked(
+        // allocative: size 8
+        u64,
+    ),
+    Sale {
+        // allocative: size 16
+        place: (u64, u64),
+        // allocative: skip
+        weight: f64,
+        shelf: u64,
+        prices: Vec<u64>,
+    },
 }
 
 /// What a cart holds, which is always bought.
 #[derive(Drop)]
 pub enum Cart {
-    BoughtItems { count: u64, names: Vec<String> },
-}
-
-/// A parcel: its mark, which is shown by its size, or a name beside fields that are shown so or passed over.
-#[derive(Drop)]
-pub enum Parcel {
-    Empty,
-    Marked(
-        // allocative: size 8
-        u64,
-    ),
-    Named {
-        // allocative: size 16
-        place: (u64, u64),
-        // allocative: skip
-        weight: f64,
-        name: String,
-    },
+    BoughtItems { names: Vec<String> },
 }
 
 /// A value of a document.
@@ -82,10 +76,10 @@ pub enum Json {
     },
 }
 
-/// A rope of other ropes, always with a text.
+/// A rope of other ropes.
 #[derive(Drop)]
 pub enum Rope {
-    Of(Vec<Rope>, String),
+    Of(Vec<Rope>),
 }
 
 /// A job, and the jobs before it.

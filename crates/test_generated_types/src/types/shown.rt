@@ -14,10 +14,12 @@ ghost use Rattle.test_generated_types.specs.declared.types.Trigger.{Trigger-F, o
 
 use super::*;
 use allocative::{
-    Allocative, And, Declared, Described, Field, Inside, Or, Part, Record, Refusal, Visitor, Whole,
+    Allocative, And, Declared, Described, Field, Fixed, Inside, Or, Part, Record, Refusal, Visitor,
+    Whole,
 };
-use allocative_tally::field::{CountedField, FieldMany, OwnTally, count_own};
-use allocative_tally::tally::{CountError, Entries, InlineSum, Sum, Tallied, added, declared};
+use allocative_tally::field::{CountedField, FieldMany, OwnTally, SizedMany, count_own};
+use allocative_tally::tally::{CountError, Entries, Tallied, added, declared};
+use std::marker::PhantomData;
 
 type FoundLayout<const N: usize> = Record<
     And<(u8, (u8, (u8, ([u32; N], (BTreeMap<u64, Vec<Event>>, ()))))), (f64, ((u64, u64), ()))>,
@@ -123,16 +125,15 @@ where
     fn show(tally: &Self::Tally, count: usize, visitor: &mut Visitor<'_>) -> Result<(), Refusal> {
         let values = FieldMany::<HashMap<K, V>>("values", &tally.values, count);
         let last = FieldMany::<V>("last", &tally.last, count);
-        let size = Sum::times(<Table<K, V>>::size(), count);
-        InlineSum("Table", size, (values, last)).enter(visitor)
+        SizedMany::<Table<K, V>, _, _>("Table", count, (values, last), PhantomData).enter(visitor)
     }
 
     #[inline(always)]
     fn tally(&self, tally: &mut Self::Tally) -> Result<(), CountError> {
         declared::<Table<K, V>>()?;
-        Tallied::tally(&self.values, &mut tally.values)?;
-        Tallied::tally(&self.last, &mut tally.last)?;
-        Ok(())
+        let values = Tallied::tally(&self.values, &mut tally.values);
+        let last = Tallied::tally(&self.last, &mut tally.last);
+        values.and(last)
     }
 }
 
@@ -189,9 +190,14 @@ impl<T: Allocative + Described> Allocative for Placed<T> {
     }
 }
 
-type EventLayout = Record<(u8, Or<(String, ()), (u64, (Vec<u64>, ()))>)>;
+type EventLayout = Record<
+    (
+        u8,
+        Or<(String, ()), Or<(u64, ()), ((u64, u64), (f64, (u64, (Vec<u64>, ()))))>>,
+    ),
+>;
 
-type EventSaleFields = Record<(u64, (Vec<u64>, ()))>;
+type EventSaleFields = Record<((u64, u64), (f64, (u64, (Vec<u64>, ()))))>;
 
 impl Described for Event {
     ghost name = { codes "Event" };
@@ -220,14 +226,16 @@ impl Described for Event {
 }
 
 impl Allocative for Event {
-    ghost use Rattle.test_generated_types.specs.declared.types.Event.TheVariants.{Quiet, Note, Sale};
+    ghost use Rattle.test_generated_types.specs.declared.types.Event.TheVariants.{Quiet, Note, Marked, Sale};
 
     ghost may_show = { λ x. shows.Field (codes "Event") ⟦<EventLayout as Described>⟧.size (elim x [
       | Quiet ↦ shows.Nothing
       | Note a ↦ shows.Field (codes "Note") ⟦<String as Described>⟧.size (⟦<String as Allocative>⟧.may_show a)
-      | Sale a b ↦ shows.Field (codes "Sale") ⟦<EventSaleFields as Described>⟧.size (shows.Both
-          (shows.Field (codes "shelf") ⟦<u64 as Described>⟧.size (⟦<u64 as Allocative>⟧.may_show a))
-          (shows.Field (codes "prices") ⟦<Vec<u64> as Described>⟧.size (⟦<Vec<u64> as Allocative>⟧.may_show b)))
+      | Marked a ↦ shows.Inside (codes "Marked") 8 shows.Nothing
+      | Sale a b c d ↦ shows.Field (codes "Sale") ⟦<EventSaleFields as Described>⟧.size (shows.Both
+          (shows.Inside (codes "place") 16 shows.Nothing) (shows.Both
+          (shows.Field (codes "shelf") ⟦<u64 as Described>⟧.size (⟦<u64 as Allocative>⟧.may_show c))
+          (shows.Field (codes "prices") ⟦<Vec<u64> as Described>⟧.size (⟦<Vec<u64> as Allocative>⟧.may_show d))))
     ]) };
 
     ghost is_strict = { true };
@@ -239,10 +247,15 @@ impl Allocative for Event {
                 let a = Field("Note", a);
                 Whole(self, a).enter(visitor)
             }
-            Event::Sale { shelf, prices } => {
+            Event::Marked(_) => {
+                let a = Inside("Marked", 8, ());
+                Whole(self, a).enter(visitor)
+            }
+            Event::Sale { shelf, prices, .. } => {
+                let place = Inside("place", 16, ());
                 let shelf = Field("shelf", shelf);
                 let prices = CountedField("prices", prices);
-                let inside = Declared("Sale", <EventSaleFields>::size(), (shelf, prices));
+                let inside = Declared("Sale", <EventSaleFields>::size(), (place, shelf, prices));
                 Whole(self, inside).enter(visitor)
             }
         }
@@ -253,6 +266,7 @@ impl Allocative for Event {
 #[derive(Drop)]
 pub struct EventTally {
     note_value: OwnTally<<String as Tallied>::Tally>,
+    marked_value: usize,
     sale_count: usize,
     sale_shelf: <u64 as Tallied>::Tally,
     sale_prices: <Vec<u64> as Tallied>::Tally,
@@ -263,9 +277,13 @@ impl Tallied for Event {
 
     ghost shape = { λ t n. entries (codes "Event") ⟦<Event as Described>⟧.size n
         (Beside (entries (codes "Note") ⟦<String as Described>⟧.size t.note_value.count (⟦<String as Tallied>⟧.shape t.note_value.values t.note_value.count))
+        (Beside (entries (codes "Marked") (Some 8) t.marked_value
+        NoEntry)
         (entries (codes "Sale") ⟦<EventSaleFields as Described>⟧.size t.sale_count
+        (Beside (entries (codes "place") (Some 16) t.sale_count
+        NoEntry)
         (Beside (entries (codes "shelf") ⟦<u64 as Described>⟧.size t.sale_count (⟦<u64 as Tallied>⟧.shape t.sale_shelf t.sale_count))
-        (entries (codes "prices") ⟦<Vec<u64> as Described>⟧.size t.sale_count (⟦<Vec<u64> as Tallied>⟧.shape t.sale_prices t.sale_count))))) };
+        (entries (codes "prices") ⟦<Vec<u64> as Described>⟧.size t.sale_count (⟦<Vec<u64> as Tallied>⟧.shape t.sale_prices t.sale_count))))))) };
 
     ghost whole = { is_whole };
 
@@ -275,6 +293,7 @@ impl Tallied for Event {
                 count: 0,
                 values: <String as Tallied>::none_counted(),
             },
+            marked_value: 0,
             sale_count: 0,
             sale_shelf: <u64 as Tallied>::none_counted(),
             sale_prices: <Vec<u64> as Tallied>::none_counted(),
@@ -282,20 +301,23 @@ impl Tallied for Event {
     }
 
     fn show(tally: &Self::Tally, count: usize, visitor: &mut Visitor<'_>) -> Result<(), Refusal> {
-        let note_value = FieldMany::<String>(
-            "Note",
-            &tally.note_value.values,
-            tally.note_value.count,
+        let a = FieldMany::<String>("Note", &tally.note_value.values, tally.note_value.count);
+        let b = SizedMany::<Fixed<8, 1, false>, _, _>(
+            "Marked",
+            tally.marked_value,
+            (),
+            PhantomData,
         );
-        let sale_shelf = FieldMany::<u64>("shelf", &tally.sale_shelf, tally.sale_count);
-        let sale_prices = FieldMany::<Vec<u64>>("prices", &tally.sale_prices, tally.sale_count);
-        let sale_count = InlineSum(
+        let d = SizedMany::<Fixed<16, 1, false>, _, _>("place", tally.sale_count, (), PhantomData);
+        let e = FieldMany::<u64>("shelf", &tally.sale_shelf, tally.sale_count);
+        let f = FieldMany::<Vec<u64>>("prices", &tally.sale_prices, tally.sale_count);
+        let c = SizedMany::<EventSaleFields, _, _>(
             "Sale",
-            Sum::times(<EventSaleFields>::size(), tally.sale_count),
-            (sale_shelf, sale_prices),
+            tally.sale_count,
+            (d, (e, f)),
+            PhantomData,
         );
-        let size = Sum::times(<Event>::size(), count);
-        InlineSum("Event", size, (note_value, sale_count)).enter(visitor)
+        SizedMany::<Event, _, _>("Event", count, (a, (b, c)), PhantomData).enter(visitor)
     }
 
     #[inline(always)]
@@ -303,24 +325,25 @@ impl Tallied for Event {
         declared::<Event>()?;
         match self {
             Event::Quiet => Ok(()),
-            Event::Note(a) => {
-                count_own(&mut tally.note_value, a)?;
+            Event::Note(a) => count_own(&mut tally.note_value, a),
+            Event::Marked(_) => {
+                tally.marked_value = added(tally.marked_value, 1)?;
                 Ok(())
             }
-            Event::Sale { shelf, prices } => {
+            Event::Sale { shelf, prices, .. } => {
                 declared::<EventSaleFields>()?;
                 tally.sale_count = added(tally.sale_count, 1)?;
-                Tallied::tally(shelf, &mut tally.sale_shelf)?;
-                Tallied::tally(prices, &mut tally.sale_prices)?;
-                Ok(())
+                let shelf = Tallied::tally(shelf, &mut tally.sale_shelf);
+                let prices = Tallied::tally(prices, &mut tally.sale_prices);
+                shelf.and(prices)
             }
         }
     }
 }
 
-type CartLayout = Record<(u8, (u64, (Vec<String>, ())))>;
+type CartLayout = Record<(u8, (Vec<String>, ()))>;
 
-type CartBoughtItemsFields = Record<(u64, (Vec<String>, ()))>;
+type CartBoughtItemsFields = Record<(Vec<String>, ())>;
 
 impl Described for Cart {
     ghost name = { codes "Cart" };
@@ -352,23 +375,17 @@ impl Allocative for Cart {
     ghost use Rattle.test_generated_types.specs.declared.types.Cart.TheVariants.{BoughtItems};
 
     ghost may_show = { λ x. shows.Field (codes "Cart") ⟦<CartLayout as Described>⟧.size (elim x [
-      | BoughtItems a b ↦ shows.Field (codes "BoughtItems") ⟦<CartBoughtItemsFields as Described>⟧.size (shows.Both
-          (shows.Field (codes "count") ⟦<u64 as Described>⟧.size (⟦<u64 as Allocative>⟧.may_show a))
-          (shows.Field (codes "names") ⟦<Vec<String> as Described>⟧.size (⟦<Vec<String> as Allocative>⟧.may_show b)))
+      | BoughtItems a ↦ shows.Field (codes "BoughtItems") ⟦<CartBoughtItemsFields as Described>⟧.size
+          (shows.Field (codes "names") ⟦<Vec<String> as Described>⟧.size (⟦<Vec<String> as Allocative>⟧.may_show a))
     ]) };
 
     ghost is_strict = { true };
 
     fn visit(&self, visitor: &mut Visitor<'_>) -> Result<(), Refusal> {
         match self {
-            Cart::BoughtItems { count, names } => {
-                let count = Field("count", count);
+            Cart::BoughtItems { names } => {
                 let names = CountedField("names", names);
-                let inside = Declared(
-                    "BoughtItems",
-                    <CartBoughtItemsFields>::size(),
-                    (count, names),
-                );
+                let inside = Declared("BoughtItems", <CartBoughtItemsFields>::size(), names);
                 Whole(self, inside).enter(visitor)
             }
         }
@@ -378,8 +395,7 @@ impl Allocative for Cart {
 /// Values of `Cart`, counted.
 #[derive(Drop)]
 pub struct CartTally {
-    bought_items_count_: usize,
-    bought_items_count: <u64 as Tallied>::Tally,
+    bought_items_count: usize,
     bought_items_names: <Vec<String> as Tallied>::Tally,
 }
 
@@ -387,171 +403,42 @@ impl Tallied for Cart {
     type Tally = CartTally;
 
     ghost shape = { λ t n. entries (codes "Cart") ⟦<Cart as Described>⟧.size n
-        (entries (codes "BoughtItems") ⟦<CartBoughtItemsFields as Described>⟧.size t.bought_items_count_
-        (Beside (entries (codes "count") ⟦<u64 as Described>⟧.size t.bought_items_count_ (⟦<u64 as Tallied>⟧.shape t.bought_items_count t.bought_items_count_))
-        (entries (codes "names") ⟦<Vec<String> as Described>⟧.size t.bought_items_count_ (⟦<Vec<String> as Tallied>⟧.shape t.bought_items_names t.bought_items_count_)))) };
+        (entries (codes "BoughtItems") ⟦<CartBoughtItemsFields as Described>⟧.size t.bought_items_count
+        (entries (codes "names") ⟦<Vec<String> as Described>⟧.size t.bought_items_count (⟦<Vec<String> as Tallied>⟧.shape t.bought_items_names t.bought_items_count))) };
 
     ghost whole = { is_whole };
 
     fn none_counted() -> Self::Tally {
         CartTally {
-            bought_items_count_: 0,
-            bought_items_count: <u64 as Tallied>::none_counted(),
+            bought_items_count: 0,
             bought_items_names: <Vec<String> as Tallied>::none_counted(),
         }
     }
 
     fn show(tally: &Self::Tally, count: usize, visitor: &mut Visitor<'_>) -> Result<(), Refusal> {
-        let b = FieldMany::<u64>(
-            "count",
-            &tally.bought_items_count,
-            tally.bought_items_count_,
-        );
-        let c = FieldMany::<Vec<String>>(
+        let bought_items_names = FieldMany::<Vec<String>>(
             "names",
             &tally.bought_items_names,
-            tally.bought_items_count_,
+            tally.bought_items_count,
         );
-        let a = InlineSum(
+        let bought_items_count = SizedMany::<CartBoughtItemsFields, _, _>(
             "BoughtItems",
-            Sum::times(<CartBoughtItemsFields>::size(), tally.bought_items_count_),
-            (b, c),
+            tally.bought_items_count,
+            bought_items_names,
+            PhantomData,
         );
-        let size = Sum::times(<Cart>::size(), count);
-        InlineSum("Cart", size, a).enter(visitor)
+        SizedMany::<Cart, _, _>("Cart", count, bought_items_count, PhantomData).enter(visitor)
     }
 
     #[inline(always)]
     fn tally(&self, tally: &mut Self::Tally) -> Result<(), CountError> {
         declared::<Cart>()?;
         match self {
-            Cart::BoughtItems { count, names } => {
+            Cart::BoughtItems { names } => {
                 declared::<CartBoughtItemsFields>()?;
-                tally.bought_items_count_ = added(tally.bought_items_count_, 1)?;
-                Tallied::tally(count, &mut tally.bought_items_count)?;
-                Tallied::tally(names, &mut tally.bought_items_names)?;
-                Ok(())
-            }
-        }
-    }
-}
-
-type ParcelLayout = Record<(u8, Or<(u64, ()), ((u64, u64), (f64, (String, ())))>)>;
-
-type ParcelNamedFields = Record<((u64, u64), (f64, (String, ())))>;
-
-impl Described for Parcel {
-    ghost name = { codes "Parcel" };
-
-    ghost align = { ⟦<ParcelLayout as Described>⟧.align };
-
-    ghost needs_drop = { ⟦<ParcelLayout as Described>⟧.needs_drop };
-
-    ghost size = { ⟦<ParcelLayout as Described>⟧.size };
-
-    fn name() -> &'static str {
-        "Parcel"
-    }
-
-    fn align() -> usize {
-        <ParcelLayout>::align()
-    }
-
-    fn needs_drop() -> bool {
-        <ParcelLayout>::needs_drop()
-    }
-
-    fn size() -> Option<usize> {
-        <ParcelLayout>::size()
-    }
-}
-
-impl Allocative for Parcel {
-    ghost use Rattle.test_generated_types.specs.declared.types.Parcel.TheVariants.{Empty, Marked, Named};
-
-    ghost may_show = { λ x. shows.Field (codes "Parcel") ⟦<ParcelLayout as Described>⟧.size (elim x [
-      | Empty ↦ shows.Nothing
-      | Marked a ↦ shows.Inside (codes "Marked") 8 shows.Nothing
-      | Named a b c ↦ shows.Field (codes "Named") ⟦<ParcelNamedFields as Described>⟧.size (shows.Both
-          (shows.Inside (codes "place") 16 shows.Nothing)
-          (shows.Field (codes "name") ⟦<String as Described>⟧.size (⟦<String as Allocative>⟧.may_show c)))
-    ]) };
-
-    ghost is_strict = { true };
-
-    fn visit(&self, visitor: &mut Visitor<'_>) -> Result<(), Refusal> {
-        match self {
-            Parcel::Empty => Whole(self, ()).enter(visitor),
-            Parcel::Marked(_) => {
-                let a = Inside("Marked", 8, ());
-                Whole(self, a).enter(visitor)
-            }
-            Parcel::Named { name, .. } => {
-                let place = Inside("place", 16, ());
-                let name = Field("name", name);
-                let inside = Declared("Named", <ParcelNamedFields>::size(), (place, name));
-                Whole(self, inside).enter(visitor)
-            }
-        }
-    }
-}
-
-/// Values of `Parcel`, counted.
-#[derive(Drop)]
-pub struct ParcelTally {
-    marked_value: usize,
-    named_count: usize,
-    named_name: <String as Tallied>::Tally,
-}
-
-impl Tallied for Parcel {
-    type Tally = ParcelTally;
-
-    ghost shape = { λ t n. entries (codes "Parcel") ⟦<Parcel as Described>⟧.size n
-        (Beside (entries (codes "Marked") (Some 8) t.marked_value
-        NoEntry)
-        (entries (codes "Named") ⟦<ParcelNamedFields as Described>⟧.size t.named_count
-        (Beside (entries (codes "place") (Some 16) t.named_count
-        NoEntry)
-        (entries (codes "name") ⟦<String as Described>⟧.size t.named_count (⟦<String as Tallied>⟧.shape t.named_name t.named_count))))) };
-
-    ghost whole = { is_whole };
-
-    fn none_counted() -> Self::Tally {
-        ParcelTally {
-            marked_value: 0,
-            named_count: 0,
-            named_name: <String as Tallied>::none_counted(),
-        }
-    }
-
-    fn show(tally: &Self::Tally, count: usize, visitor: &mut Visitor<'_>) -> Result<(), Refusal> {
-        let marked_value = InlineSum("Marked", Sum::times(Some(8), tally.marked_value), ());
-        let named_place = InlineSum("place", Sum::times(Some(16), tally.named_count), ());
-        let named_name = FieldMany::<String>("name", &tally.named_name, tally.named_count);
-        let named_count = InlineSum(
-            "Named",
-            Sum::times(<ParcelNamedFields>::size(), tally.named_count),
-            (named_place, named_name),
-        );
-        let size = Sum::times(<Parcel>::size(), count);
-        InlineSum("Parcel", size, (marked_value, named_count)).enter(visitor)
-    }
-
-    #[inline(always)]
-    fn tally(&self, tally: &mut Self::Tally) -> Result<(), CountError> {
-        declared::<Parcel>()?;
-        match self {
-            Parcel::Empty => Ok(()),
-            Parcel::Marked(_) => {
-                tally.marked_value = added(tally.marked_value, 1)?;
-                Ok(())
-            }
-            Parcel::Named { name, .. } => {
-                declared::<ParcelNamedFields>()?;
-                tally.named_count = added(tally.named_count, 1)?;
-                Tallied::tally(name, &mut tally.named_name)?;
-                Ok(())
+                tally.bought_items_count = added(tally.bought_items_count, 1)?;
+                let names = Tallied::tally(names, &mut tally.bought_items_names);
+                names
             }
         }
     }
@@ -620,9 +507,7 @@ impl Allocative for Json {
     }
 }
 
-type RopeLayout = Record<(u8, (Vec<()>, (String, ())))>;
-
-type RopeOfFields = Record<(Vec<()>, (String, ()))>;
+type RopeLayout = Record<(u8, (Vec<()>, ()))>;
 
 impl Described for Rope {
     ghost name = { codes "Rope" };
@@ -652,20 +537,16 @@ impl Described for Rope {
 
 impl Allocative for Rope {
     ghost may_show = { recursive (opened out-Rope (λ x. field (codes "Rope") ⟦<RopeLayout as Described>⟧.size (elim x [
-      | Rope-F.Of a b ↦ field (codes "Of") ⟦<RopeOfFields as Described>⟧.size (both
-          (field (codes "0") ⟦<Vec<()> as Described>⟧.size (vec_in ⟦<RopeLayout as Described>⟧.size child a))
-          (plain (shows.Field (codes "1") ⟦<String as Described>⟧.size (⟦<String as Allocative>⟧.may_show b))))
+      | Rope-F.Of a ↦ field (codes "Of") ⟦<Vec<()> as Described>⟧.size (vec_in ⟦<RopeLayout as Described>⟧.size child a)
     ]))) };
 
     ghost is_strict = { true };
 
     fn visit(&self, visitor: &mut Visitor<'_>) -> Result<(), Refusal> {
         match self {
-            Rope::Of(a, b) => {
-                let a = Field("0", a);
-                let b = Field("1", b);
-                let inside = Declared("Of", <RopeOfFields>::size(), (a, b));
-                Declared("Rope", <Self as Described>::size(), inside).enter(visitor)
+            Rope::Of(a) => {
+                let a = Field("Of", a);
+                Declared("Rope", <Self as Described>::size(), a).enter(visitor)
             }
         }
     }

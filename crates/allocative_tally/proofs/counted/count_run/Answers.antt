@@ -1,8 +1,7 @@
 -- of count_run: one more item is counted, and the run ends
-use Rattle.std.proofs.Common.{map, refl}
 use Rattle.std.proofs.lemmas.List.{map-append}
-use Rattle.allocative_tally.proofs.Weighing.{stops}
-use Rattle.allocative_tally.proofs.Items.{many_none, many_more, run_as, run_cannot, run_ends}
+use Rattle.std.proofs.Common.{map}
+use Rattle.allocative_tally.proofs.{refl, stops, many_none, many_more, run_as, run_cannot, run_ends}
 use Rattle.allocative_tally.proofs.counted.count_run.Goals as goal
 
 pub loop-item-init : goal.loop-item-init
@@ -18,8 +17,7 @@ pub returns-in_err-count_item : goal.returns-in_err-count_item
 returns-in_err-count_item g c =
     let l = c.loop-item in
     rw (← c.into_iter-item-iterator.ensures.into_iter_gives) (run_as (run_cannot _ l.item-iterator l.yielded l.yielded_by
-    c.in-Some.ensures.steps l.invariant c.in_err-count_item.ensures) (λ xs. stops c.from_residual.result _ _
-    c.from_residual.ensures.0))
+    c.in-Some.ensures.steps l.invariant c.in_err-count_item.ensures) (λ xs. stops _ _ _ c.from_residual.ensures.0))
 
 pub returns : goal.returns
 returns g c =

@@ -1,10 +1,8 @@
 -- of count_buffer: no buffer, or one with its items
-use Rattle.std.proofs.Common.{◌≡◌, ◌∙◌, ◌-◌, length, Some, refl, sym, ap, arith, rules}
-use Rattle.std.proofs.lemmas.Result.{MatchResult-weaker}
 use Rattle.allocative.proofs.Common.{without_room, without_size}
-use Rattle.allocative_tally.proofs.Counting.{tallies_none}
-use Rattle.allocative_tally.proofs.Items.{buffer_counted}
-use Rattle.allocative_tally.proofs.Weighing.{stops, buffer_exceeds, buffer_unsized, places_exceed}
+use Rattle.allocative_tally.proofs.{◌≡◌, ◌∙◌, ◌-◌, length, Some, refl, sym, ap, arith, rules, tallies_none, stops}
+use Rattle.allocative_tally.proofs.{buffer_unsized, slice_each, slice_one, buffer_added, true, exceeds_as}
+use Rattle.allocative_tally.proofs.{exceeds_inside, exceeds_first, each_in, buffer_as}
 use Rattle.allocative_tally.proofs.sequence.count_buffer.Goals as goal
 
 pub returns-in_default : goal.returns-in_default
@@ -21,23 +19,34 @@ returns-then-max-eq0 g c = record {
       (without_room (sym c.size.ensures ∙ c.in-Some.is) (omega arith) (omega arith) refl);
 }
 
-pub returns-in_err-count_items : goal.returns-in_err-count_items
-returns-in_err-count_items g c =
-    let is = sym c.size.ensures ∙ c.in-Some.is in record {
-      along = λ xs y count cut. stops c.from_residual.result _ _ c.from_residual.ensures.0 (rw (count, is)
-          (buffer_exceeds cut c.args.tally.now.places _ _ (omega arith) (omega (arith, count))
-          (rw is at (c.in_err-count_items.ensures.along xs y))));
+pub returns-in_err-count_run : goal.returns-in_err-count_run
+returns-in_err-count_run g c =
+    let is = sym c.size.ensures ∙ c.in-Some.is in
+    let each = rw is at (sym c.are_shown_each.ensures ∙ c.if-are_shown_each.true) in record {
+      along = λ xs y count cut. stops _ _ _ c.from_residual.ensures.0 (rw (count, is)
+          (exceeds_as (buffer_as refl (omega arith) (omega (arith, count))) (exceeds_inside true 8 (exceeds_first
+          (rw each (exceeds_as (each_in cut _ _ _ _ xs each)
+          ((c.in_err-count_run.ensures.along xs y).next c.args.tally.now.places.items)))))));
+    }
+
+pub returns-then-are_shown_each : goal.returns-then-are_shown_each
+returns-then-are_shown_each g c =
+    let is = sym c.size.ensures ∙ c.in-Some.is in
+    let each = rw is at (sym c.are_shown_each.ensures ∙ c.if-are_shown_each.true) in record {
+      along = λ xs y count cut.
+          let unused : c.saturating_sub-unused.result ≡ c.args.capacity - length xs = omega (arith, count) in
+          rw (count, is) (buffer_added cut c.args.capacity _ _ _ _ c.add.result (omega arith) (omega (arith, count))
+          (rw is at g.met.T.Tallied.whole)
+          (slice_each cut _ _ _ xs _ _ each (rw is at (c.in_ok-count_run.ensures.along xs y)))
+          (rw (count, unused) at c.add.ensures));
     }
 
 pub returns : goal.returns
 returns g c =
-    let is = sym c.size.ensures ∙ c.in-Some.is in record {
+    let is = sym c.size.ensures ∙ c.in-Some.is in
+    let one = rw is at (sym c.are_shown_each.ensures ∙ c.if-are_shown_each.false) in record {
       along = λ xs y count cut.
           let unused : c.saturating_sub-unused.result ≡ c.args.capacity - length xs = omega (arith, count) in
-          let items = rw is at (c.in_ok-count_items.ensures.along xs y) in
-          rw (count, is) (MatchResult-weaker c.add.result (rw (count, unused) at c.add.ensures)
-          (λ _ adds. buffer_counted cut _ _ (omega arith) (omega (arith, count)) adds
-          (rw is at (g.met.T.Tallied.whole.most c.args.tally.now.values)) items)
-          (λ _ cannot. places_exceed cut _ _ (omega arith) (omega (arith, count)) cannot
-          (rw is at (g.met.T.Tallied.whole.least c.count_items.new.tally)) items));
+          rw (count, is) (buffer_added cut c.args.capacity _ _ _ _ c.add-2.result (omega arith) (omega (arith, count))
+          (rw is at g.met.T.Tallied.whole) (slice_one cut _ _ _ xs _ _ one) (rw (count, unused) at c.add-2.ensures));
     }

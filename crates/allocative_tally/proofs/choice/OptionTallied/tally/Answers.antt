@@ -1,8 +1,6 @@
 -- of an option's tally: its entry, and inside it the value's if there is one
-use Rattle.std.proofs.lemmas.Result.{MatchResult-weaker}
-use Rattle.allocative_tally.proofs.Weighing.{cannot_case}
-use Rattle.allocative_tally.proofs.Fields.{next_case, nothing_counted, own_counted, holding}
-use Rattle.allocative_tally.proofs.Sizes.{holds_nothing}
+use Rattle.allocative_tally.proofs.{MatchResult-weaker, cannot_case, next_case, nothing_counted, own_counted, holding}
+use Rattle.allocative_tally.proofs.{holds_nothing}
 use Rattle.allocative_tally.proofs.choice.OptionTallied.tally.Goals as goal
 
 pub returns-in-None : goal.returns-in-None

@@ -1,8 +1,6 @@
 -- of the tally of `Result`: the value's entry, and inside it that of its case
-use Rattle.std.proofs.lemmas.Result.{MatchResult-weaker}
-use Rattle.allocative_tally.proofs.Counting.{first_counted, second_counted}
-use Rattle.allocative_tally.proofs.Fields.{next_case, own_counted, holding}
-use Rattle.allocative_tally.proofs.Weighing.{cannot_case, exceeds_left, exceeds_right}
+use Rattle.allocative_tally.proofs.{MatchResult-weaker, first_counted, second_counted, next_case, own_counted, holding}
+use Rattle.allocative_tally.proofs.{cannot_case, exceeds_left, exceeds_right}
 use Rattle.allocative_tally.proofs.choice.ResultTallied.tally.Goals as goal
 
 pub returns-in-Ok : goal.returns-in-Ok

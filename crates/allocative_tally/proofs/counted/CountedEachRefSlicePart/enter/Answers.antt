@@ -1,8 +1,5 @@
 -- of what enters counted items: the tally's shape merges the forests of the items
-use Rattle.std.proofs.Common.{rules}
-use Rattle.std.proofs.lemmas.Iterator.{YieldsList-from_slice}
-use Rattle.allocative_tally.specs.Whole.{as_itself}
-use Rattle.allocative_tally.proofs.Items.{of_every, entered_all}
+use Rattle.allocative_tally.proofs.{rules, YieldsList-from_slice, as_itself, of_every, entered_all}
 use Rattle.allocative_tally.proofs.counted.CountedEachRefSlicePart.enter.Goals as goal
 
 pub returns-in-Ok : goal.returns-in-Ok

@@ -1,5 +1,5 @@
 -- of what enters a counted value: the tally's shape merges the forest of the value
-use Rattle.allocative_tally.proofs.Entering.{entered_counted, counts}
+use Rattle.allocative_tally.proofs.{entered_counted, counts}
 use Rattle.allocative_tally.proofs.counted.CountedPart.enter.Goals as goal
 
 pub returns-in-Ok : goal.returns-in-Ok

@@ -1,7 +1,5 @@
 -- of what counts an item: a field
-use Rattle.std.proofs.lemmas.Result.{MatchResult-weaker}
-use Rattle.allocative_tally.proofs.Fields.{next_field}
-use Rattle.allocative_tally.proofs.Weighing.{cannot_field}
+use Rattle.allocative_tally.proofs.{MatchResult-weaker, next_field, cannot_field}
 use Rattle.allocative_tally.proofs.counted.FieldUnderCountItemRefTally.count_item.Goals as goal
 
 pub returns : goal.returns

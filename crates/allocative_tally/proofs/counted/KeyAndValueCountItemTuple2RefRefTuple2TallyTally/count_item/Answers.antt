@@ -1,11 +1,7 @@
 -- of what counts a pair: two fields
-use Rattle.std.proofs.lemmas.Result.{MatchResult-weaker}
-use Rattle.allocative_tally.proofs.Fields.{next_both, next_field, next_within}
-use Rattle.allocative_tally.proofs.Sizes.{holds_pair}
-use Rattle.allocative_tally.proofs.Weighing.{cannot_field, cannot_second}
+use Rattle.allocative_tally.proofs.{both_count, field_counts, next_within, holds_pair, told_as}
 use Rattle.allocative_tally.proofs.counted.KeyAndValueCountItemTuple2RefRefTuple2TallyTally.count_item.Goals as goal
 
 pub returns : goal.returns
-returns g c = MatchResult-weaker c.tally-2.result c.tally-2.ensures
-    (λ _ last. next_within (holds_pair _ _) (next_both (next_field c.in_ok-tally.ensures) (next_field last)))
-    (λ _ last. cannot_second (cannot_field last))
+returns g c = told_as (both_count c.and.ensures (field_counts _ _ _ _ _ _ c.tally-key.ensures)
+    (field_counts _ _ _ _ _ _ c.tally-value.ensures)) (next_within (holds_pair _ _)) (λ e. e)

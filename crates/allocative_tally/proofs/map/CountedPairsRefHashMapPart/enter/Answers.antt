@@ -1,9 +1,6 @@
 -- of what enters counted pairs: the tally's shape merges the forests of the pairs
-use Rattle.std.proofs.Common.{rules}
-use Rattle.std.proofs.lemmas.Iterator.Consumers.{YieldsList-from_rest}
-use Rattle.allocative_tally.proofs.Fields.{starts_both, starts_entry}
-use Rattle.allocative_tally.proofs.Items.{of_every, entered_all}
-use Rattle.allocative_tally.proofs.Weighing.{order_as}
+use Rattle.allocative_tally.proofs.{rules, YieldsList-from_rest, starts_both, starts_entry, of_every, entered_all}
+use Rattle.allocative_tally.proofs.{order_as}
 use Rattle.allocative_tally.proofs.map.CountedPairsRefHashMapPart.enter.Goals as goal
 
 pub returns-in-Ok : goal.returns-in-Ok

@@ -1,6 +1,5 @@
 -- of what enters entries `data`: both are inline
-use Rattle.std.proofs.Common.{refl}
-use Rattle.allocative_tally.proofs.Entering.{enters_same}
+use Rattle.allocative_tally.proofs.{refl, enters_same}
 use Rattle.allocative_tally.proofs.map.DataManyEntries.enter.Goals as goal
 
 pub returns : goal.returns

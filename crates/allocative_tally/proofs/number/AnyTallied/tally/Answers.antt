@@ -1,7 +1,5 @@
 -- of a leaf's tally: a value is one entry more
-use Rattle.std.proofs.lemmas.Result.{MatchResult-weaker}
-use Rattle.allocative_tally.proofs.Fields.{next_leaf}
-use Rattle.allocative_tally.proofs.Weighing.{leaf_cannot}
+use Rattle.allocative_tally.proofs.{MatchResult-weaker, next_leaf, leaf_cannot}
 use Rattle.allocative_tally.proofs.number.AnyTallied.tally.Goals as goal
 
 pub returns : goal.returns

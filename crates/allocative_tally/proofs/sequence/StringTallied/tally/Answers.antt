@@ -1,6 +1,5 @@
 -- of a text's tally: the text's entries
-use Rattle.std.proofs.Common.{arith}
-use Rattle.allocative_tally.proofs.Items.{text_counted}
+use Rattle.allocative_tally.proofs.{arith, text_counted}
 use Rattle.allocative_tally.proofs.sequence.StringTallied.tally.Goals as goal
 
 pub returns : goal.returns

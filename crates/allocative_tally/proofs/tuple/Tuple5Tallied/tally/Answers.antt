@@ -1,31 +1,11 @@
 -- of a tuple's tally: its entry, and inside it each field
-use Rattle.std.proofs.lemmas.Result.{MatchResult-weaker}
-use Rattle.allocative_tally.proofs.Fields.{next_whole, next_both, next_field, holding_tuples}
-use Rattle.allocative_tally.proofs.Weighing.{cannot_field, cannot_first, cannot_second, stops}
+use Rattle.allocative_tally.proofs.{whole_counts, both_count, field_counts, holding_tuples}
 use Rattle.allocative_tally.proofs.tuple.Tuple5Tallied.tally.Goals as goal
 
-pub returns-in_err-tally : goal.returns-in_err-tally
-returns-in_err-tally g c = stops c.from_residual-in_err-tally.result _ _ c.from_residual-in_err-tally.ensures.0
-    (cannot_field (cannot_first (cannot_field c.in_err-tally.ensures)))
-
-pub returns-in_err-tally-2 : goal.returns-in_err-tally-2
-returns-in_err-tally-2 g c = stops c.from_residual-in_err-tally-2.result _ _ c.from_residual-in_err-tally-2.ensures.0
-    (cannot_field (cannot_second (cannot_first (cannot_field c.in_err-tally-2.ensures))))
-
-pub returns-in_err-tally-3 : goal.returns-in_err-tally-3
-returns-in_err-tally-3 g c = stops c.from_residual-in_err-tally-3.result _ _ c.from_residual-in_err-tally-3.ensures.0
-    (cannot_field (cannot_second (cannot_second (cannot_first (cannot_field c.in_err-tally-3.ensures)))))
-
-pub returns-in_err-tally-4 : goal.returns-in_err-tally-4
-returns-in_err-tally-4 g c = stops c.from_residual-in_err-tally-4.result _ _ c.from_residual-in_err-tally-4.ensures.0
-    (cannot_field (cannot_second (cannot_second (cannot_second (cannot_first (cannot_field
-    c.in_err-tally-4.ensures))))))
-
 pub returns : goal.returns
-returns g c = MatchResult-weaker c.tally-5.result c.tally-5.ensures (λ _ last. next_whole c.in_ok-declared.ensures
-    (next_both (next_field c.in_ok-tally.ensures)
-    (next_both (next_field c.in_ok-tally-2.ensures)
-    (next_both (next_field c.in_ok-tally-3.ensures)
-    (next_both (next_field c.in_ok-tally-4.ensures)
-    (next_field last))))) (search holding_tuples depth 10))
-    (λ _ last. cannot_field (cannot_second (cannot_second (cannot_second (cannot_second (cannot_field last))))))
+returns g c = whole_counts _ c.in_ok-declared.ensures (search holding_tuples depth 10)
+    (both_count c.and-4.ensures (field_counts _ _ _ _ _ _ c.tally-first.ensures)
+    (both_count c.and-3.ensures (field_counts _ _ _ _ _ _ c.tally-second.ensures)
+    (both_count c.and-2.ensures (field_counts _ _ _ _ _ _ c.tally-third.ensures)
+    (both_count c.and.ensures (field_counts _ _ _ _ _ _ c.tally-fourth.ensures)
+    (field_counts _ _ _ _ _ _ c.tally-fifth.ensures)))))

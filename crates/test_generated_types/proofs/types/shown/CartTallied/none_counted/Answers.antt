@@ -5,4 +5,4 @@ use Rattle.test_generated_types.proofs.types.shown.CartTallied.none_counted.Goal
 
 pub returns : goal.returns
 returns c =
-    search (rules, starting) depth 8
+    search (rules, starting) depth 6

@@ -15,6 +15,11 @@ returns-in-Note c =
     visited_at ghosts.may_show c.in-Note.is c.enter-in-Note.ensures strict_same
     (means_field refl refl means_same)
 
+pub returns-in-Marked : goal.returns-in-Marked
+returns-in-Marked c =
+    visited_at ghosts.may_show c.in-Marked.is c.enter-in-Marked.ensures strict_same
+    (means_field refl refl means_same)
+
 pub returns-in-Sale : goal.returns-in-Sale
 returns-in-Sale c =
     visited_at ghosts.may_show c.in-Sale.is c.enter-in-Sale.ensures strict_same

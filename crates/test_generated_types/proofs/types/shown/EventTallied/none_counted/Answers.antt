@@ -5,4 +5,4 @@ use Rattle.test_generated_types.proofs.types.shown.EventTallied.none_counted.Goa
 
 pub returns : goal.returns
 returns c =
-    search (rules, starting) depth 10
+    search (rules, starting) depth 14

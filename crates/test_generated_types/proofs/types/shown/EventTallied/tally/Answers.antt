@@ -1,9 +1,10 @@
 -- Written by bin/implement.
-use Rattle.std.proofs.Common.{arith}
+use Rattle.std.proofs.Common.{arith, false}
 use Rattle.allocative_tally.proofs.Counting.{first_counted, second_counted}
-use Rattle.allocative_tally.proofs.Fields.{case_counted, next_as, next_both, next_case, next_field, nothing_counted, own_counted}
+use Rattle.allocative_tally.proofs.Fields.{both_count, case_counted, field_counts, fixed_counted, next_as, next_case, next_fixed, nothing_counted, own_counted, sure_first, told_as}
 use Rattle.allocative_tally.proofs.Sizes.{holds_bytes}
-use Rattle.allocative_tally.proofs.Weighing.{cannot_case, exceeds_field, exceeds_first, exceeds_full, exceeds_left, exceeds_missing, exceeds_right, exceeds_second, stops}
+use Rattle.allocative_tally.proofs.Weighing.{cannot_case, exceeds_field, exceeds_full, exceeds_left, exceeds_missing, exceeds_right, exceeds_sum, stops}
+use Rattle.std.proofs.lemmas.Result.{MatchResult-weaker}
 use Rattle.allocative_tally.specs.Whole.{as_itself}
 use Rattle.test_generated_types.proofs.types.shown.EventTallied.tally.Goals as goal
 
@@ -14,50 +15,53 @@ returns-in-Quiet c =
     nothing_counted
     (holds_bytes (omega arith)))
 
-pub returns-in_err-count_own-in-Note : goal.returns-in_err-count_own-in-Note
-returns-in_err-count_own-in-Note c =
-    stops c.from_residual-in_err-count_own-in-Note.result _ _ c.from_residual-in_err-count_own-in-Note.ensures.0
-    (rw c.in-Note.is
-    (cannot_case (exceeds_left (c.in_err-count_own-in-Note.ensures.next _))))
-
-pub returns-in_ok-count_own-in-Note : goal.returns-in_ok-count_own-in-Note
-returns-in_ok-count_own-in-Note c =
-    next_as (rw c.in-Note.is as_itself)
+pub returns-in-Note : goal.returns-in-Note
+returns-in-Note c =
+    MatchResult-weaker c.count_own.result c.count_own.ensures
+    (λ _ own. next_as (rw c.in-Note.is as_itself)
     (next_case c.in_ok-declared.ensures
-    (first_counted (own_counted c.in_ok-count_own-in-Note.ensures))
+    (first_counted (own_counted own))
+    (holds_bytes (omega arith))))
+    (λ _ own. rw c.in-Note.is
+    (cannot_case (exceeds_left (own.next _))))
+
+pub returns-in_err-tally-in-Marked : goal.returns-in_err-tally-in-Marked
+returns-in_err-tally-in-Marked c =
+    stops c.from_residual-in_err-tally-in-Marked.result _ _ c.from_residual-in_err-tally-in-Marked.ensures.0
+    (rw c.in-Marked.is
+    (cannot_case (exceeds_right (exceeds_left (exceeds_sum false _ (omega arith))))))
+
+pub returns-in_ok-tally-in-Marked : goal.returns-in_ok-tally-in-Marked
+returns-in_ok-tally-in-Marked c =
+    next_as (rw c.in-Marked.is as_itself)
+    (next_case c.in_ok-declared.ensures
+    (second_counted (first_counted (fixed_counted _ _ (omega arith))))
     (holds_bytes (omega arith)))
 
 pub returns-in_err-tally-in-Sale : goal.returns-in_err-tally-in-Sale
 returns-in_err-tally-in-Sale c =
     stops c.from_residual-in_err-tally-in-Sale.result _ _ c.from_residual-in_err-tally-in-Sale.ensures.0
     (rw c.in-Sale.is
-    (cannot_case (exceeds_right (exceeds_full c.in_err-tally-in-Sale.ensures))))
+    (cannot_case (exceeds_right (exceeds_right (exceeds_full c.in_err-tally-in-Sale.ensures)))))
 
 pub returns-in_err-declared-in-Sale : goal.returns-in_err-declared-in-Sale
 returns-in_err-declared-in-Sale c =
     stops c.from_residual-in_err-declared-in-Sale.result _ _ c.from_residual-in_err-declared-in-Sale.ensures.0
     (rw c.in-Sale.is
-    (cannot_case (exceeds_right (exceeds_missing c.in_err-declared-in-Sale.ensures))))
+    (cannot_case (exceeds_right (exceeds_right (exceeds_missing c.in_err-declared-in-Sale.ensures)))))
 
-pub returns-in_err-tally-in-Sale-2 : goal.returns-in_err-tally-in-Sale-2
-returns-in_err-tally-in-Sale-2 c =
-    stops c.from_residual-in_err-tally-in-Sale-2.result _ _ c.from_residual-in_err-tally-in-Sale-2.ensures.0
-    (rw c.in-Sale.is
-    (cannot_case (exceeds_right (exceeds_field (exceeds_first (exceeds_field (c.in_err-tally-in-Sale-2.ensures.next _)))))))
-
-pub returns-in_err-tally-in-Sale-3 : goal.returns-in_err-tally-in-Sale-3
-returns-in_err-tally-in-Sale-3 c =
-    stops c.from_residual-in_err-tally-in-Sale-3.result _ _ c.from_residual-in_err-tally-in-Sale-3.ensures.0
-    (rw c.in-Sale.is
-    (cannot_case (exceeds_right (exceeds_field (exceeds_second (exceeds_field (c.in_err-tally-in-Sale-3.ensures.next _)))))))
-
-pub returns-in_ok-tally-in-Sale-3 : goal.returns-in_ok-tally-in-Sale-3
-returns-in_ok-tally-in-Sale-3 c =
-    next_as (rw c.in-Sale.is as_itself)
+pub returns-in_ok-tally-in-Sale : goal.returns-in_ok-tally-in-Sale
+returns-in_ok-tally-in-Sale c =
+    told_as (sure_first
+    next_fixed
+    (both_count c.and.ensures
+    (field_counts _ _ _ _ _ _ c.tally-shelf.ensures)
+    (field_counts _ _ _ _ _ _ c.tally-prices.ensures)))
+    (λ told. next_as (rw c.in-Sale.is as_itself)
     (next_case c.in_ok-declared.ensures
-    (second_counted (case_counted c.in_ok-declared-in-Sale.ensures (omega arith)
-    (next_both
-    (next_field c.in_ok-tally-in-Sale-2.ensures)
-    (next_field c.in_ok-tally-in-Sale-3.ensures))
+    (second_counted (second_counted (case_counted c.in_ok-declared-in-Sale.ensures (omega arith)
+    told
+    (holds_bytes (omega arith)))))
     (holds_bytes (omega arith))))
-    (holds_bytes (omega arith)))
+    (λ told. rw c.in-Sale.is
+    (cannot_case (exceeds_right (exceeds_right (exceeds_field (told.next _))))))
