@@ -28,6 +28,11 @@ module _ {K V : Type 0} where
       bytes_of (remove_entry test es) + unwrap_or (option_map (λ (k : Kept V). k.bytes) had) 0 ≡ bytes_of es
   bytes_of-remove_entry test es had is = rw is (sum_by-remove_entry (λ (k : Kept V). k.bytes) test es)
 
+  -- The bytes under a key are part of the bytes of all.
+  pub kept_within : (test : K → Bool) (es : Entries K V) → (lookup test es ≡ lookup test es)
+      × (unwrap_or (option_map (λ (k : Kept V). k.bytes) (lookup test es)) 0 ≤ bytes_of es)
+  kept_within test es = (refl, omega (arith, bytes_of-remove_entry test es (lookup test es) refl))
+
 module _ {K V : Type 0} {size : Option ℕ} {may_show : V → Forest → Type 0} {m : Measure} where
   -- What is left without a key is kept.
   pub without-kept : {es : Entries K V} {n : ℕ} (test : K → Bool) → AreKept size may_show m es n →
@@ -75,4 +80,4 @@ module _ {F K V : Type 0} {size : Option ℕ} {may_show : V → Forest → Type 
       (recent-kept old.bound i.recent (omega (arith, i.fits)) (without-kept (eq key) h)))
 
 -- The lemmas on the entries that a value is put into.
-pub ruleset putting = (bytes_of-remove_entry, put_entries-unbounded)
+pub ruleset putting = (bytes_of-remove_entry, put_entries-unbounded, kept_within)

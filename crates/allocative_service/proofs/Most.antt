@@ -3,11 +3,11 @@ use Rattle.std.proofs.Common.{◌≡◌, ℕ, ◌+◌, ◌<◌, List, [], ◌∷
 use Rattle.std.proofs.Common.{min, sym, ap, ◌∙◌, arith, filter, All, AllPairs, take-append-drop, length-take}
 use Rattle.std.proofs.Common.{get_or-append-add, length-append}
 use Rattle.allocative_service.proofs.Common.{Changed, change_data, is_grown}
-use Rattle.std.specs.List.Sorted.{IsPermutation, IsNonDecreasingBy}
+use Rattle.std.specs.List.Sorted.{IsNonDecreasingBy}
 use Rattle.std.proofs.lemmas.List.{map-append, length-map, get_or-map, get_or_append_left, get_or_default}
-use Rattle.std.proofs.lemmas.List.Sorted.{length_permutation, IsPermutation-map}
+use Rattle.std.proofs.lemmas.List.Sorted.{length_permutation}
 use Rattle.allocative_service.specs.declared.history.changes.Change.{Change}
-use Rattle.allocative_service.specs.Changes.{GrewAsMuch, GrewMost, IsWord, rank}
+use Rattle.allocative_service.specs.Changes.{GrewAsMuch, GrewMost, IsByGrowth, IsWord, rank}
 
 -- What is sorted by rank is sorted by growth.
 pub falls : (xs : List Change) → All IsWord xs → IsNonDecreasingBy (λ d. rank (change_data d)) xs →
@@ -20,19 +20,19 @@ falls (x ∷ xs) w h i j d before lt =
     (omega (arith, h i j x (omega arith) short, w i x low, w j x short))
 
 -- The first n changes of those that grew, sorted by growth, are those that grew most.
-pub grew_first : (n : ℕ) (cs : List Changed) (ps qs : List Change) → map change_data ps ≡ filter is_grown cs →
-    IsPermutation ps qs → AllPairs GrewAsMuch (map change_data qs) → GrewMost n cs (map change_data (take n qs))
-grew_first n cs ps qs is moved sorted =
+pub grew_first : (n : ℕ) (cs : List Changed) (qs : List Change) → IsByGrowth (filter is_grown cs) (map change_data qs) →
+    GrewMost n cs (map change_data (take n qs))
+grew_first n cs qs h =
     let top = map change_data (take n qs) in
     let left = map change_data (drop n qs) in
     let parts : map change_data qs ≡ top ++ left =
     ap (map change_data) (sym (take-append-drop n qs)) ∙ map-append change_data (take n qs) (drop n qs) in
-    let fall : AllPairs GrewAsMuch (top ++ left) = rw (← parts) sorted in
+    let fall : AllPairs GrewAsMuch (top ++ left) = rw (← parts) h.falling in
     record {
       rest = left;
-      chosen = rw (← is, ← parts) (IsPermutation-map change_data ps qs moved);
+      chosen = rw (← parts) h.same;
       enough = length-map (take n qs) change_data ∙ length-take n qs
-          ∙ ap (min n) (length_permutation ps qs moved ∙ sym (length-map ps change_data) ∙ ap length is);
+          ∙ ap (min n) (sym (length-map qs change_data) ∙ length_permutation (filter is_grown cs) (map change_data qs) h.same);
       falling = λ i j d before short.
           let h = rw (get_or_append_left top left d i (omega arith), get_or_append_left top left d j short)
           at (fall i j d before (omega (arith, short, length-append top left))) in

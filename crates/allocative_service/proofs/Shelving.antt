@@ -1,26 +1,32 @@
 -- The bytes of a shelf after a value is kept, changed or removed.
-use Rattle.std.proofs.Common.{◌≡◌, ℕ, ◌+◌, ◌≤◌, Bool, true, false, List, Option, Some, [], ◌∷◌, ap, arith, refl, sym}
+use Rattle.std.proofs.Common.{◌≡◌, ℕ, ◌+◌, ◌≤◌, Bool, List, Option, Some, None, IsSomeAnd, [], ◌∷◌, ap, arith, refl, sym, ◌∙◌}
 use Rattle.allocative_service.proofs.Common.{lookup, lookup_entry, remove_entry, Forest, Kept, Entries}
 use Rattle.allocative_service.proofs.Common.{bytes_of, IsMeasured}
 use Rattle.std.specs.Map.{set_value}
 use Rattle.std.proofs.lemmas.Map.Entries.{sum_by-set_value}
 use Rattle.std.proofs.lemmas.Option.{same_Some}
+use Rattle.std.specs.Option.{option_map}
+use Rattle.lru.proofs.Pairs.{lookup-lookup_entry}
 use Rattle.std.proofs.lemmas.Map.Views.{All-values-set_value}
 use Rattle.allocative_service.specs.declared.measure.Measure.{Measure}
 use Rattle.allocative_service.specs.Entries.{AreKept, IsFigure}
-use Rattle.allocative_service.proofs.Inserting.{bytes_of-remove_entry}
+use Rattle.allocative_service.proofs.Inserting.{bytes_of-remove_entry, kept_within}
+use Rattle.allocative_service.proofs.Accounts.{sum_by-written}
 
 module _ {K X : Type 0} (test : K → Bool) where
   -- What is found under a key is what was written there.
-  pub lookup_entry-set_value : (es : List (K × X)) (had w : X) → lookup test es ≡ Some had →
-      (key : K) × (lookup_entry test es ≡ Some (key, had)) × (lookup_entry test (set_value test es w) ≡ Some (key, w))
-  lookup_entry-set_value [] had w is = absurd cc
-  lookup_entry-set_value (e ∷ es) had w is = (elim (test e.0) as (λ y. test e.0 ≡ y → (key : K) × (lookup_entry test (e ∷ es) ≡ Some (key, had)) × (lookup_entry test (set_value test (e ∷ es) w) ≡ Some (key, w))) [
-    | true ↦ λ t. let is' = rw t at is in (e.0, rw t (ap (λ x. Some (e.0, x)) (same_Some e.1 had is')), rw (t, t) refl)
-    | false ↦ λ t.
-        let deeper = lookup_entry-set_value es had w (rw t at is) in
-        (deeper.0, rw t deeper.1, rw (t, t) deeper.2)
-  ]) refl
+  pub lookup_entry-set_value : (es : List (K × X)) (w : X) →
+      lookup_entry test (set_value test es w) ≡ option_map (λ e. (e.0, w)) (lookup_entry test es)
+  lookup_entry-set_value [] w = refl
+  lookup_entry-set_value (e ∷ es) w = grind (arith, lookup_entry-set_value es w)
+
+  -- An entry is found after its value was written, with the value that was written.
+  pub found_again : (es : List (K × X)) (had w : X) (o : Option (K × X)) → Some had ≡ lookup test es →
+      o ≡ lookup_entry test (set_value test es w) → IsSomeAnd o (λ e. (lookup_entry test es ≡ Some (e.0, had)) × (e.1 ≡ w))
+  found_again es had w o before after = rw (after, lookup_entry-set_value es w) ((elim (lookup_entry test es) as (λ p. option_map (λ e. e.1) p ≡ Some had → IsSomeAnd {T = K × X} (option_map (λ e. (e.0, w)) p) (λ e. (p ≡ Some (e.0, had)) × (e.1 ≡ w))) [
+    | None ↦ λ is. absurd cc
+    | Some h ↦ λ is. (ap (λ x. Some (h.0, x)) (same_Some h.1 had is), refl)
+  ]) (lookup-lookup_entry test es ∙ sym before))
 
   -- Without a key it does not matter what was written there.
   pub remove_entry-set_value : (es : List (K × X)) (w : X) → remove_entry test (set_value test es w) ≡ remove_entry test es
@@ -44,3 +50,6 @@ module _ {K V : Type 0} where
     within = within;
     measured = All-values-set_value test (IsMeasured size may_show m) es w h.measured figure;
   }
+
+-- The lemmas on the entries of a shelf after one of them was changed.
+pub ruleset changing = (bytes_of-remove_entry, kept_within, sum_by-written, remove_entry-set_value)

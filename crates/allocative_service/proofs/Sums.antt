@@ -1,11 +1,12 @@
 -- The sum of an account's entries after each change of them.
-use Rattle.std.proofs.Common.{◌≡◌, ℕ, ◌+◌, ◌≤◌, List, [], ◌∷◌, Some, None, arith, nat_cmp}
+use Rattle.std.proofs.Common.{◌≡◌, ℕ, ◌+◌, ◌≤◌, Bool, List, [], ◌∷◌, None, arith, nat_cmp, refl, true}
 use Rattle.allocative_service.proofs.Common.{is_at, lookup, remove_entry}
 use Rattle.std.specs.BTreeMap.{insert_entry}
 use Rattle.std.specs.Cmp.{nat_cmp_total}
 use Rattle.std.specs.List.Sorted.{IsStrictlySortedBy}
 use Rattle.std.specs.Map.{keys_of, set_value}
-use Rattle.std.specs.Option.{unwrap_or}
+use Rattle.std.specs.Option.{is_some, unwrap_or}
+use Rattle.allocative_service.proofs.Accounts.{sum_by-written}
 use Rattle.std.specs.declared.cmp.Ordering.TheVariants.{Less}
 use Rattle.std.proofs.lemmas.Iterator.Adapters.{option_map_id}
 use Rattle.std.proofs.lemmas.Map.{lookup-none}
@@ -22,38 +23,33 @@ sum_of-insert_entry number bytes entries sorted =
     rw option_map_id at (sum_by-insert_entry (λ n. n) nat_cmp_total entries number bytes sorted)
 
 -- A removal takes the bytes of the entry off the sum.
-pub sum_of-remove_entry : (number : ℕ) (entries : List (ℕ × ℕ)) →
-    sum_of (remove_entry (is_at (nat_cmp number)) entries) + unwrap_or (lookup (is_at (nat_cmp number)) entries) 0
-    ≡ sum_of entries
-sum_of-remove_entry number entries = rw option_map_id at (sum_by-remove_entry (λ n. n) (is_at (nat_cmp number)) entries)
+pub sum_of-remove_entry : (test : ℕ → Bool) (entries : List (ℕ × ℕ)) →
+    sum_of (remove_entry test entries) + unwrap_or (lookup test entries) 0 ≡ sum_of entries
+sum_of-remove_entry test entries = rw option_map_id at (sum_by-remove_entry (λ n. n) test entries)
 
 -- The bytes under a number are part of the sum.
-pub had_within : (number : ℕ) (entries : List (ℕ × ℕ)) →
-    unwrap_or (lookup (is_at (nat_cmp number)) entries) 0 ≤ sum_of entries
-had_within number entries = omega (arith, sum_of-remove_entry number entries)
+pub had_within : (test : ℕ → Bool) (entries : List (ℕ × ℕ)) →
+    (lookup test entries ≡ lookup test entries) × (unwrap_or (lookup test entries) 0 ≤ sum_of entries)
+had_within test entries = (refl, omega (arith, sum_of-remove_entry test entries))
 
--- Writing over the bytes under a number is an insertion, which changes the sum by as much.
-pub overwritten : (number had bytes : ℕ) (entries : List (ℕ × ℕ)) → IsStrictlySortedBy nat_cmp (keys_of entries) →
-    Some had ≡ lookup (is_at (nat_cmp number)) entries
-    → (set_value (is_at (nat_cmp number)) entries bytes ≡ insert_entry nat_cmp entries number bytes) × (had ≤ sum_of entries)
-    × (sum_of (insert_entry nat_cmp entries number bytes) + had ≡ sum_of entries + bytes)
-overwritten number had bytes entries sorted found = (
-  written entries sorted found,
-  rw (← found) at (had_within number entries),
-  rw (← found) at (sum_of-insert_entry number bytes entries sorted),
-)
-  where
-    written : (es : List (ℕ × ℕ)) → IsStrictlySortedBy nat_cmp (keys_of es) → Some had ≡ lookup (is_at (nat_cmp number)) es →
-        set_value (is_at (nat_cmp number)) es bytes ≡ insert_entry nat_cmp es number bytes
-    written [] sorted found = absurd cc
-    written (e ∷ es) sorted found =
-        let rest = written es (sorted_tail nat_cmp e.0 (keys_of es) sorted) in
-        let below : nat_cmp number e.0 ≡ Less → lookup (is_at (nat_cmp number)) (e ∷ es) ≡ None =
-        λ less. lookup-none _ (e ∷ es) (none_below_head nat_cmp_total number e es sorted less) in
-        grind (arith, rest, below)
+-- Writing over the bytes under a number changes the sum by as much.
+pub sum_of-written : (test : ℕ → Bool) (entries : List (ℕ × ℕ)) (bytes : ℕ) → is_some (lookup test entries) ≡ true →
+    sum_of (set_value test entries bytes) + unwrap_or (lookup test entries) 0 ≡ sum_of entries + bytes
+sum_of-written test entries bytes some = rw option_map_id at (sum_by-written (λ n. n) test entries bytes some)
+
+-- Writing over the bytes under a number is an insertion.
+pub overwritten : (number bytes : ℕ) (entries : List (ℕ × ℕ)) → IsStrictlySortedBy nat_cmp (keys_of entries) →
+    is_some (lookup (is_at (nat_cmp number)) entries) ≡ true →
+    set_value (is_at (nat_cmp number)) entries bytes ≡ insert_entry nat_cmp entries number bytes
+overwritten number bytes [] sorted found = absurd cc
+overwritten number bytes (e ∷ es) sorted found =
+    let rest = overwritten number bytes es (sorted_tail nat_cmp e.0 (keys_of es) sorted) in
+    let below : nat_cmp number e.0 ≡ Less → lookup (is_at (nat_cmp number)) (e ∷ es) ≡ None =
+    λ less. lookup-none _ (e ∷ es) (none_below_head nat_cmp_total number e es sorted less) in
+    grind (arith, rest, below)
 
 -- The lemmas on an entry that is put.
-pub ruleset puts = (set_value_same, sum_of-insert_entry, had_within)
+pub ruleset puts = (set_value_same, sum_of-insert_entry, sum_of-written, overwritten, had_within)
 
 -- The lemmas on the sum of an account.
 pub ruleset sums = (sum_of-remove_entry, sum_of-insert_entry, had_within)

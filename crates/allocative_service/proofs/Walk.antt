@@ -3,17 +3,16 @@ use Rattle.std.proofs.Common.{◌≡◌, ℕ, ◌+◌, ◌≤◌, ◌==◌, cond
 use Rattle.std.proofs.Common.{◌++◌, length, length-append, sym, ap, subst, subst₂, ◌∙◌, append_assoc, append-nil, flat_map}
 use Rattle.std.specs.declared.cmp.Ordering.{Ordering}
 use Rattle.allocative_graph.specs.declared.flamegraph.Child.{Child}
-use Rattle.allocative_graph.proofs.Common.{Added, AllAbove, AreChildren, Equal, Graph, Greater, IsTree, Key, Less, Merged, Path}
-use Rattle.allocative_graph.proofs.Common.{MergesFirst, default, entries, entries-node, eq_by_cmp_equiv, exact_bytes, get}
+use Rattle.allocative_graph.proofs.Common.{AllAbove, AreChildren, Equal, Graph, Greater, IsTree, Key, Less, Merged, Path}
+use Rattle.allocative_graph.proofs.Common.{MergesFirst, default, entries, entries-node, eq_by_cmp_equiv, exact_bytes}
 use Rattle.allocative_graph.proofs.Common.{flat_map-append, key_cmp, len, len-child, nat_list_cmp_total, node}
 use Rattle.allocative_graph.proofs.Common.{rows_of, rows_of_child, size_at, size_under, sum_of, tied_itself, under_rows}
 use Rattle.allocative_graph.proofs.Common.{unwrap_or}
 use Rattle.allocative_graph.proofs.Children.{above_all, first_below, get-root, get-under, key_turn, lacks-above}
 use Rattle.allocative_graph.proofs.Children.{merged_same, merges_all, merges_then, next_equal, next_greater, next_less}
-use Rattle.allocative_graph.proofs.Children.{no_children, node_nil, part_of_sum, size_under-lacks}
-use Rattle.allocative_graph.proofs.Graphs.{has-sum_of, size_at-default, size_at-sum_of, sum_of-commutes, sum_of-default}
-use Rattle.allocative_graph.proofs.Graphs.{total-sum_of}
-use Rattle.allocative_graph.proofs.Nodes.{added_node, added_sum, rows_of_node}
+use Rattle.allocative_graph.proofs.Children.{no_children, node_nil, size_under-lacks}
+use Rattle.allocative_graph.proofs.Graphs.{size_at-default, sum_of-commutes, sum_of-default}
+use Rattle.allocative_graph.proofs.Nodes.{added_node, added_sum, added_trees, rows_of_node}
 use Rattle.allocative_service.specs.Changes.{Changed}
 use Rattle.allocative_service.specs.Walk.{Next, change_behind, changes_behind, next_by, next_of}
 
@@ -84,16 +83,9 @@ in_order c d cs ds a b Less e =
 in_order c d cs ds a b Greater e =
     in_second d ds (c ∷ cs) b.trees.0 (above_all d.key c cs (key_turn c.key d.key e) a) (next_greater refl a b (ap Some e))
 in_order c d cs ds a b Equal e =
-    let g = c.graph in
-    let h = d.graph in
-    let added : Added true g h (sum_of g h) = record {
-      tree = record { root = grind (arith, has-sum_of g h [], a.trees.0.root); closed = λ p k e. grind (arith, has-sum_of g h p, has-sum_of g h (p ++ k ∷ []), a.trees.0.closed p k, b.trees.0.closed p k, e) };
-      part = λ p. part_of_sum (get g p) (get h p) (get (sum_of g h) p) (size_at-sum_of g h p, has-sum_of g h p);
-      sum = λ all p. (size_at-sum_of g h p, has-sum_of g h p);
-      at_most = omega (arith, total-sum_of g h);
-    } in
-    let theirs = subst (λ k. Takes k (d ∷ ds) (h, ds)) (sym (exact_bytes c.key d.key e)) (takes_first d ds) in
-    (sum_of g h, (refl, next_equal refl refl a b (ap Some e) added, takes_first c cs, theirs))
+    let theirs = subst (λ k. Takes k (d ∷ ds) (d.graph, ds)) (sym (exact_bytes c.key d.key e)) (takes_first d ds) in
+    let added = added_trees c.graph d.graph a.trees.0 b.trees.0 in
+    (sum_of c.graph d.graph, (refl, next_equal refl refl a b (ap Some e) added, takes_first c cs, theirs))
 
 next_step : (cs ds : List Child) → AreChildren cs → AreChildren ds → IfSome (next_of cs ds) (Step cs ds)
 next_step [] [] a b = tt

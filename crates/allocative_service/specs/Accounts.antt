@@ -9,7 +9,7 @@ use Rattle.allocative_service.specs.declared.ledger.Standing.{Standing}
 use Rattle.allocative_service.specs.declared.ledger.rejection.Rejection.{Rejection}
 use Rattle.allocative_service.specs.declared.ledger.rejection.Rejection.TheVariants.{TooLarge}
 use Rattle.allocative_service.specs.declared.measure.Measure.{Measure}
-use Rattle.allocative_service.specs.AccountData.{AccountData, all_bytes, bytes_at, most_of, sum_of, without, Puts}
+use Rattle.allocative_service.specs.AccountData.{AccountData, all_bytes, bytes_at, most_of, sum_of, with_bytes, without}
 use Rattle.allocative_service.specs.Rejected.{RejectsAdded, RejectsRoom}
 
 -- All accounts, each with its tenant's name.
@@ -52,41 +52,38 @@ SameTerms old new = (measure_of new ≡ measure_of old) × (limit_of new ≡ lim
 abbrev pub IsUnchanged : Ledger → Ledger → Type 0
 IsUnchanged old new = (accounts_of new ≡ accounts_of old) × SameTerms old new × (overgrown_of new ≡ overgrown_of old)
 
--- The tenant now has this account, or none. The accounts of all other tenants, the measure and the limit of the
--- ledger are unchanged, and what growth exceeded it by.
-pub record ChangesAccount (tenant : List ℕ) (now : Option AccountData) (old new : Ledger) : Type 0 where
+-- The tenant now has this account, or none, and growth exceeded the limit of the ledger by so much. The accounts of all
+-- other tenants, the measure and the limit of the ledger are unchanged.
+pub record ChangesWith (overgrown : ℕ) (tenant : List ℕ) (now : Option AccountData) (old new : Ledger) : Type 0 where
   pub changed : account_of tenant new ≡ now
   pub others : (other : List ℕ) → other ≢ tenant → account_of other new ≡ account_of other old
   pub terms : SameTerms old new
-  pub overgrown : overgrown_of new ≡ overgrown_of old
+  pub overgrown_is : overgrown_of new ≡ overgrown
 
--- The tenant's account is now what f makes of it, and no other changes.
-pub record MapsAccount (tenant : List ℕ) (f : AccountData → AccountData) (old new : Ledger) : Type 0 where
-  pub before : AccountData
-  pub account : account_of tenant old ≡ Some before
-  pub change : ChangesAccount tenant (Some (f before)) old new
+-- The tenant now has this account, or none. The accounts of all other tenants, the measure and the limit of the
+-- ledger are unchanged, and what growth exceeded it by.
+abbrev pub ChangesAccount : List ℕ → Option AccountData → Ledger → Ledger → Type 0
+ChangesAccount tenant now old = ChangesWith (overgrown_of old) tenant now old
+
+-- The tenant has an account, which is now what f makes of it, and no other changes.
+abbrev pub MapsAccount : List ℕ → (AccountData → AccountData) → Ledger → Ledger → Type 0
+MapsAccount tenant f old new =
+    IsSomeAnd (account_of tenant old) (λ before. ChangesAccount tenant (Some (f before)) old new)
 
 -- In the tenant's account, the number now has these bytes in place of `had`, and all bytes of that account together
 -- are `total`. The accounts of all other tenants, the measure and the limit of the ledger are unchanged, and growth
 -- exceeded it by at least what all accounts together now do.
-pub record Stores (tenant : List ℕ) (number bytes : ℕ) (had : Option ℕ) (old new : Ledger) (total : ℕ) : Type 0 where
-  pub before : AccountData
-  pub after : AccountData
-  pub account : account_of tenant old ≡ Some before
-  pub puts : Puts number bytes had before after total
-  pub changed : account_of tenant new ≡ Some after
-  pub others : (other : List ℕ) → other ≢ tenant → account_of other new ≡ account_of other old
-  pub terms : SameTerms old new
-  pub all_is : total_of new + unwrap_or had 0 ≡ total_of old + bytes
-  pub overgrown : overgrown_of new ≡ max (overgrown_of old) (total_of new - limit_of old)
+abbrev pub Stores : List ℕ → ℕ → ℕ → Option ℕ → Ledger → Ledger → ℕ → Type 0
+Stores tenant number bytes had old new total = IsSomeAnd (account_of tenant old) (λ before. (bytes_at number before ≡ had)
+    × (total + unwrap_or had 0 ≡ sum_of before.entries + bytes)
+    × ChangesWith (max (overgrown_of old) (total_of new - limit_of old)) tenant
+    (Some (with_bytes number bytes total before)) old new) × (total_of new + unwrap_or had 0 ≡ total_of old + bytes)
 
 -- In the tenant's account, the number now has these bytes in place of `had`, and all bytes of that account together
 -- are `total`, within what `most` allows the account. All accounts together are within `all_most`.
-pub record EntersWithin (most : AccountData → ℕ) (all_most : ℕ) (tenant : List ℕ) (number bytes : ℕ) (had : Option ℕ)
-    (old new : Ledger) (total : ℕ) : Type 0 where
-  pub stores : Stores tenant number bytes had old new total
-  pub within : total ≤ most stores.before
-  pub all_within : total_of new ≤ all_most
+abbrev pub EntersWithin : (AccountData → ℕ) → ℕ → List ℕ → ℕ → ℕ → Option ℕ → Ledger → Ledger → ℕ → Type 0
+EntersWithin most all_most tenant number bytes had old new total = Stores tenant number bytes had old new total
+    × IsSomeAnd (account_of tenant old) (λ h. total ≤ most h) × (total_of new ≤ all_most)
 
 -- In the tenant's account, the number now has these bytes in place of `had`, and all bytes of that account together
 -- are `total`, within its limit. All accounts together are within the limit of the ledger.
@@ -103,8 +100,7 @@ Lowers tenant number bytes had old = EntersWithin most_of (all_most_of old) tena
 abbrev pub StoresBy : Option ℕ → List ℕ → ℕ → ℕ → Option ℕ → Ledger → Ledger → ℕ → Type 0
 StoresBy (Some most) tenant number bytes had old new total =
     EntersWithin (λ h. h.limit) most tenant number bytes had old new total
-StoresBy None tenant number bytes had old new total =
-    (s : Stores tenant number bytes had old new total) × (sum_of s.before.entries ≤ most_of s.before)
+StoresBy None tenant number bytes had old new total = Stores tenant number bytes had old new total
 
 -- The standing has the bytes of the tenant's account, what of them exceeds its limit, and what of the bytes of all
 -- accounts exceeds the limit of the ledger.
@@ -115,13 +111,10 @@ StandsAt tenant l s =
 
 -- The number had these bytes in the tenant's account, and its entry is gone. The sum of the account, and that of all
 -- accounts, is less by exactly these bytes.
-pub record Releases (tenant : List ℕ) (number : ℕ) (old new : Ledger) (bytes : ℕ) : Type 0 where
-  pub before : AccountData
-  pub account : account_of tenant old ≡ Some before
-  pub had_bytes : bytes_at number before ≡ Some bytes
-  pub sum_is : sum_of (without number before).entries + bytes ≡ sum_of before.entries
-  pub change : ChangesAccount tenant (Some (without number before)) old new
-  pub all_is : total_of new + bytes ≡ total_of old
+abbrev pub Releases : List ℕ → ℕ → Ledger → Ledger → ℕ → Type 0
+Releases tenant number old new bytes = IsSomeAnd (account_of tenant old) (λ before. (bytes_at number before ≡ Some bytes)
+    × (sum_of (without number before).entries + bytes ≡ sum_of before.entries)
+    × ChangesAccount tenant (Some (without number before)) old new) × (total_of new + bytes ≡ total_of old)
 
 -- Replacing the `had` bytes of one entry of this account by `bytes` is rejected. The bytes and the limit of all accounts
 -- are the ledger's.

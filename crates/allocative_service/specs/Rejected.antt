@@ -42,11 +42,16 @@ pub record HasRoom (all : ℕ) (most : Option ℕ) (sum limit had bytes : ℕ) :
   pub within : OnSome most (sum + bytes ≤ limit + had)
   pub all_within : IfSome most (λ m. all + bytes ≤ m + had)
 
+-- Keeping `bytes` in place of the `had` bytes of one entry is rejected: so are the bytes, or there is room for them and
+-- memory runs out.
+abbrev pub RejectsKept : ℕ → ℕ → ℕ → ℕ → ℕ → ℕ → Rejection → Type 0
+RejectsKept all most sum limit had bytes r = RejectsRoom all (Some most) sum limit had bytes r
+    ⊎ ((r ≡ NotKept) × HasRoom all (Some most) sum limit had bytes)
+
 -- A new entry of an account is rejected, where all accounts have `all` bytes and may have `most`: so are its bytes, or
 -- there is room for them and memory runs out.
 abbrev pub RejectsAdded : ℕ → ℕ → ℕ → AccountData → Rejection → Type 0
-RejectsAdded all most bytes h r = RejectsRoom all (Some most) (sum_of h.entries) h.limit 0 bytes r
-    ⊎ ((r ≡ NotKept) × HasRoom all (Some most) (sum_of h.entries) h.limit 0 bytes)
+RejectsAdded all most bytes h = RejectsKept all most (sum_of h.entries) h.limit 0 bytes
 
 -- Taking `less` bytes off the `had` bytes of an entry is rejected: there are fewer, as the rejection says.
 abbrev pub RejectsCredit : ℕ → ℕ → AccountData → Rejection → Type 0

@@ -1,5 +1,5 @@
 -- The model of a shelf, and what its calls do.
-use Rattle.std.specs.Prelude.{◌≡◌, ◌⊎◌, ℕ, ◌+◌, ◌-◌, ◌^◌, ◌<◌, ◌≤◌, Bool, Option, Some, ◌∷◌, max}
+use Rattle.std.specs.Prelude.{◌≡◌, ◌⊎◌, ℕ, ◌+◌, ◌-◌, ◌^◌, ◌<◌, Bool, Option, Some, ◌∷◌, max, option_map, unwrap_or}
 use Rattle.std.specs.Map.{lookup, lookup_entry, remove_entry, set_value}
 use Rattle.allocative.specs.Forest.{Forest}
 use Rattle.allocative_service.specs.Measured.{MayRefuseMeasure}
@@ -8,8 +8,9 @@ use Rattle.allocative_service.specs.declared.cache.Kept.{Kept}
 use Rattle.allocative_service.specs.declared.measure.Measure.{Measure}
 use Rattle.allocative_service.specs.declared.cache.error.Refused.{Refused}
 use Rattle.allocative_service.specs.declared.ledger.rejection.Rejection.{Rejection}
-use Rattle.allocative_service.specs.declared.ledger.rejection.Rejection.TheVariants.{LedgerFull, NotKept, NotMeasured}
-use Rattle.allocative_service.specs.declared.ledger.rejection.Rejection.TheVariants.{OverBudget, TooLarge}
+use Rattle.allocative_service.specs.declared.ledger.rejection.Rejection.TheVariants.{NotMeasured, TooLarge}
+use Rattle.allocative_service.specs.Rejected.{HasRoom, RejectsKept}
+use Rattle.allocative.specs.Refusal.{Refusal}
 
 -- The model of a shelf: its entries, the limit on their bytes, by how many bytes at most growth exceeded that since it
 -- was set, and which bytes are counted.
@@ -35,23 +36,14 @@ shelf_without test s = shelf_with (remove_entry test s.entries) s
 abbrev pub shelf_grown : {K V : Type 0} → Entries K V → Shelved K V → Shelved K V
 shelf_grown es s = shelved es s.limit (max s.overgrown (bytes_of es - s.limit)) s.measure
 
--- The bytes of all entries, if that of the key that passes the test has so many.
-abbrev pub total_with : {K V : Type 0} → (K → Bool) → ℕ → Shelved K V → ℕ
-total_with test bytes s = bytes + bytes_of (remove_entry test s.entries)
+-- The bytes of the value under the key that passes the test, or 0.
+abbrev pub bytes_under : {K V : Type 0} → (K → Bool) → Shelved K V → ℕ
+bytes_under test s = unwrap_or (option_map (λ k. k.bytes) (lookup test s.entries)) 0
 
--- The most bytes that a value under the key that passes the test may have so that those of all values fit a word, where
--- the values of all other shelves have `rest`.
+-- The most bytes that a value under the key that passes the test may have so that those of all values of all shelves,
+-- which are `all`, still fit a word.
 abbrev pub word_room : {K V : Type 0} → (K → Bool) → ℕ → Shelved K V → ℕ
-word_room test rest s = 2 ^ 64 - 1 - (rest + bytes_of (remove_entry test s.entries))
-
--- Why the values of a shelf may not have `total` bytes, where those of all other shelves have `rest`, by the first of
--- these that holds: `total` exceeds `limit`, all of them exceed `most`. If none holds, memory runs out.
-abbrev pub RefusesTotal : ℕ → ℕ → ℕ → ℕ → Rejection → Type 0
-RefusesTotal limit rest most total (OverBudget b l) = (b ≡ total) × (l ≡ limit) × (limit < total)
-RefusesTotal limit rest most total (LedgerFull b l) =
-    (total ≤ limit) × (b ≡ rest + total) × (l ≡ most) × (most < rest + total)
-RefusesTotal limit rest most total NotKept = (total ≤ limit) × (rest + total ≤ most)
-RefusesTotal limit rest most total _ = ⊥
+word_room test all s = 2 ^ 64 - 1 - (all - bytes_under test s)
 
 module _ {V : Type 0} (size : Option ℕ) (may_show : V → Forest → Type 0) where
   -- Why the bytes of v are not entered, where there is this room for them: v could not be measured, as the measure says,
@@ -66,21 +58,20 @@ module _ {V : Type 0} (size : Option ℕ) (may_show : V → Forest → Type 0) w
     abbrev pub IsKept : Shelved K V → Type 0
     IsKept s = AreKept size may_show s.measure s.entries (s.limit + s.overgrown)
 
-    -- Why a shelf refuses v under the key that passes the test, where the values of all other shelves have `rest` bytes
-    -- and all may have `most`: v could not be measured, a figure of it, with the bytes of all other values, does not fit
-    -- a word, or there is no room for it.
+    -- Why a shelf refuses v under the key that passes the test, where the values of all shelves have `all` bytes and may
+    -- have `most`: v could not be measured, or a figure of it is not kept in place of what the key has.
     abbrev pub RefusesKept : Bool → (K → Bool) → ℕ → ℕ → V → Shelved K V → Rejection → Type 0
-    RefusesKept is_strict test rest most v s r = RefusesFigure is_strict s.measure (word_room test rest s) v r
-        ⊎ ((n : ℕ) × IsFigure size may_show s.measure v n × (n ≤ word_room test rest s)
-        × RefusesTotal s.limit rest most (total_with test n s) r)
+    RefusesKept is_strict test all most v s r =
+        ((e : Refusal) × (r ≡ NotMeasured e) × MayRefuseMeasure s.measure is_strict size (may_show v) e)
+        ⊎ ((n : ℕ) × IsFigure size may_show s.measure v n
+        × RejectsKept all most (bytes_of s.entries) s.limit (bytes_under test s) n r)
 
-    -- The key now has v with a figure of v, as the first entry, and the others are as they were. All values have at most
-    -- the limit, and with `rest` bytes of other shelves at most `most`.
-    pub record PutsOnShelf (eq : K → K → Bool) (rest most : ℕ) (key : K) (v : V) (old new : Shelved K V) : Type 0 where
+    -- The key now has v with a figure of v, as the first entry, and the others are as they were. There was room for it in
+    -- place of what the key had, where the values of all shelves had `all` bytes and may have `most`.
+    pub record PutsOnShelf (eq : K → K → Bool) (all most : ℕ) (key : K) (v : V) (old new : Shelved K V) : Type 0 where
       pub bytes : ℕ
       pub figure : IsFigure size may_show old.measure v bytes
-      pub within : total_with (eq key) bytes old ≤ old.limit
-      pub all_within : rest + total_with (eq key) bytes old ≤ most
+      pub room : HasRoom all (Some most) (bytes_of old.entries) old.limit (bytes_under (eq key) old) bytes
       pub is : new ≡ shelf_with ((stored_key eq key old.entries, kept v bytes) ∷ remove_entry (eq key) old.entries) old
 
     -- The value of the key that passes the test was changed as `changed` says, in its place, and has a figure of what it
@@ -97,5 +88,5 @@ module _ {V : Type 0} (size : Option ℕ) (may_show : V → Forest → Type 0) w
     -- The value of the key that passes the test was changed as `changed` says, and is refused: it could not be measured,
     -- or a figure of it, with the bytes of all other values, does not fit a word. The refusal has the key and the value.
     abbrev pub RefusesChanged : Bool → (K → Bool) → (V → V → Type 0) → ℕ → Shelved K V → Refused K V Rejection → Type 0
-    RefusesChanged is_strict test changed rest s r = (had : Kept V) × (lookup_entry test s.entries ≡ Some (r.key, had))
-        × changed had.value r.value × RefusesFigure is_strict s.measure (word_room test rest s) r.value r.error
+    RefusesChanged is_strict test changed all s r = (had : Kept V) × (lookup_entry test s.entries ≡ Some (r.key, had))
+        × changed had.value r.value × RefusesFigure is_strict s.measure (word_room test all s) r.value r.error

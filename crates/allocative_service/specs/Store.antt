@@ -1,5 +1,5 @@
 -- The model of a store, and what its calls do.
-use Rattle.std.specs.Prelude.{◌≡◌, ℕ, ◌+◌, ◌-◌, ◌^◌, ◌<◌, ◌≤◌, Bool, List, Option, Some, None, [], String, max, string_bytes, sum_by, IsSomeAnd}
+use Rattle.std.specs.Prelude.{◌≡◌, ℕ, ◌+◌, ◌-◌, ◌^◌, ◌<◌, ◌≤◌, Bool, List, Option, None, [], String, max, string_bytes, sum_by, IsSomeAnd}
 use Rattle.std.specs.BTreeMap.{insert_entry, is_at}
 use Rattle.std.specs.Cmp.Lexicographic.{slice_cmp}
 use Rattle.std.specs.Global.{Global}
@@ -41,10 +41,6 @@ module _ {K V : Type 0} where
   abbrev pub shelf_of : List ℕ → Stored K V → Option (Shelved K V)
   shelf_of tenant s = lookup (is_tenant tenant) s.shelves
 
-  -- The bytes of all values but those of this shelf.
-  abbrev pub rest_of : Stored K V → Shelved K V → ℕ
-  rest_of s h = all_kept s.shelves - bytes_of h.entries
-
   -- The bytes are exactly those of all values, and at most the limit, unless growth exceeded that.
   pub record IsTotal (bytes : ℕ) (s : Stored K V) : Type 0 where
     pub sum : bytes ≡ all_kept s.shelves
@@ -53,14 +49,10 @@ module _ {K V : Type 0} where
 
   -- The tenant's shelf is replaced by one of which P holds with the one before it. Nothing else changes. If the bytes of
   -- all values exceed the limit, growth exceeded it by at least as much.
-  pub record Replaces (tenant : List ℕ) (P : Shelved K V → Shelved K V → Type 0) (old new : Stored K V) : Type 0 where
-    pub before : Shelved K V
-    pub after : Shelved K V
-    pub had : shelf_of tenant old ≡ Some before
-    pub changes : P before after
-    pub overgrown : ℕ
-    pub grown : overgrown ≡ max old.overgrown (all_kept new.shelves - old.limit)
-    pub is : new ≡ stored (set_value (is_tenant tenant) old.shelves after) old.limit overgrown old.measure
+  abbrev pub Replaces : List ℕ → (Shelved K V → Shelved K V → Type 0) → Stored K V → Stored K V → Type 0
+  Replaces tenant P old new = IsSomeAnd (shelf_of tenant old) (λ before. IsSomeAnd (shelf_of tenant new) (λ after.
+      P before after × (new ≡ stored (set_value (is_tenant tenant) old.shelves after) old.limit
+      (max old.overgrown (all_kept new.shelves - old.limit)) old.measure)))
 
   -- The standing has the bytes of the tenant's values, what of them exceeds its limit, and what of the bytes of all
   -- values exceeds the limit of the store.
@@ -71,8 +63,6 @@ module _ {K V : Type 0} where
 
   -- The tenant has a new shelf with no value, this limit and the measure of the store, where it had none. Nothing else
   -- changes.
-  pub record Opens (tenant : List ℕ) (limit : ℕ) (old new : Stored K V) : Type 0 where
-    pub had : shelf_of tenant old ≡ None
-    pub name : String Global
-    pub named : string_bytes name ≡ tenant
-    pub is : new ≡ with_shelves (insert_entry string_cmp old.shelves name (shelved [] limit 0 old.measure)) old
+  abbrev pub Opens : List ℕ → ℕ → Stored K V → Stored K V → Type 0
+  Opens tenant limit old new = (shelf_of tenant old ≡ None) × (name : String Global) × (string_bytes name ≡ tenant)
+      × (new ≡ with_shelves (insert_entry string_cmp old.shelves name (shelved [] limit 0 old.measure)) old)

@@ -46,7 +46,7 @@ pub struct Ledger {
 
 impl Ledger {
     ghost use Rattle.allocative_service.specs.Accounts.{account_of, accounts_of, all_most_of, entry_of, limit_of, measure_of, overgrown_of, total_of, ChangesAccount, Enters, IsUnchanged, Lowers, MapsAccount, RejectsGrowth, RejectsNewBytes, RejectsPut, Releases, StandsAt, Stores, StoresBy};
-    ghost use Rattle.allocative_service.specs.AccountData.{IsLargest, IsSummed, bytes_at, new_account, sum_of, with_limit, with_peak_reset, with_soft_limit};
+    ghost use Rattle.allocative_service.specs.AccountData.{IsLargest, IsSummed, bytes_at, most_of, new_account, sum_of, with_limit, with_peak_reset, with_soft_limit};
     ghost use Rattle.allocative_service.specs.Measured.{Declares};
     ghost use Rattle.allocative_service.specs.Rejected.{IsLedgerFull, RejectsBy, RejectsChange, RejectsCredit, RejectsIn, RejectsLimit, RejectsMeasured, RejectsNew, RejectsOpening};
 
@@ -106,6 +106,7 @@ impl Ledger {
     ///
     /// The error is `HasAccount` exactly if the tenant has one, and otherwise `NotKept` if memory runs out. After an
     /// error all accounts are unchanged.
+    #[tactic(auto, using(crate::proofs::Accounts::opening))]
     pub fn open(&mut self, tenant: &str, budget: Budget) -> Result<(), Rejection>
         ensures opened { OnOk result
             (ChangesAccount tenant.now (Some (new_account budget.limit)) self.old self.new) }
@@ -128,6 +129,7 @@ impl Ledger {
     }
 
     /// Removes the account of a tenant and returns it. If there is none, it returns None and nothing changes.
+    #[tactic(auto, using(crate::proofs::Accounts::accounts))]
     pub fn close(&mut self, tenant: &str) -> Option<Account>
         ensures value { result ≡ account_of tenant.now self.old }
         ensures closed { OnSome result (ChangesAccount tenant.now None self.old self.new) }
@@ -144,6 +146,7 @@ impl Ledger {
     ///
     /// The error is `NoAccount` exactly if the tenant has no account, and otherwise `OverBudget` exactly if the bytes
     /// of all its entries exceed the new limit. After an error all accounts are unchanged.
+    #[tactic(auto, using(crate::proofs::Accounts::accounts))]
     pub fn set_budget(&mut self, tenant: &str, budget: Budget) -> Result<(), Rejection>
         ensures set { OnOk result
             (MapsAccount tenant.now (with_limit budget.limit) self.old self.new) }
@@ -159,6 +162,7 @@ impl Ledger {
 
     /// Replaces the soft limit of a tenant, which refuses nothing: `is_over` says if the tenant has more bytes. It
     /// returns None if the tenant has no account, and then nothing changes.
+    #[tactic(auto, using(crate::proofs::Accounts::accounts))]
     pub fn set_soft_limit(&mut self, tenant: &str, bytes: usize) -> Option<()>
         ensures set { OnSome result
             (MapsAccount tenant.now (with_soft_limit bytes) self.old self.new) }
@@ -225,6 +229,7 @@ impl Ledger {
 
     /// Lowers the peak of a tenant to its bytes, and returns the former peak. If the tenant has no account, it returns
     /// None and nothing changes.
+    #[tactic(auto, using(crate::proofs::Accounts::accounts))]
     pub fn reset_peak(&mut self, tenant: &str) -> Option<usize>
         ensures value { result ≡ option_map (λ h. h.peak) (account_of tenant.now self.old) }
         ensures reset { OnSome result (MapsAccount tenant.now with_peak_reset self.old self.new) }
@@ -385,6 +390,7 @@ impl Ledger {
 
     /// Removes the tenant's entry under the number. It returns the bytes of the entry. If there is none, it returns
     /// None and nothing changes.
+    #[tactic(auto, using(crate::proofs::Accounts::accounts))]
     pub fn release(&mut self, tenant: &str, number: u64) -> Option<usize>
         ensures value { result ≡ entry_of tenant.now number self.old }
         ensures released { IfSome result (Releases tenant.now number self.old self.new) }
@@ -401,6 +407,7 @@ impl Ledger {
     ///
     /// The error is `NoAccount` if the tenant has no account, and otherwise that of `Account::put_with`. After an error
     /// all accounts are unchanged.
+    #[tactic(auto, using(crate::proofs::Accounts::accounts))]
     fn put_with<F: FnOnce(Option<usize>) -> Result<usize, Rejection>>(
         &mut self,
         tenant: &str,
@@ -414,6 +421,8 @@ impl Ledger {
             × StoresBy most tenant.now number bytes (entry_of tenant.now number self.old) self.old self.new s.bytes) }
         ensures standing { IfOk result (StandsAt tenant.now self.new) }
         ensures part { unwrap_or (entry_of tenant.now number self.old) 0 ≤ total_of self.old }
+        ensures within { OnOk result
+            (IsSomeAnd (account_of tenant.now self.old) (λ h. sum_of h.entries ≤ most_of h)) }
         ensures rejected { IfErr result (RejectsIn (λ h. RejectsBy (total_of self.old) most (F.post bytes_of)
             (bytes_at number h) (sum_of h.entries) h.limit) (account_of tenant.now self.old)) }
         ensures unchanged { OnErr result (IsUnchanged self.old self.new) }

@@ -1,12 +1,12 @@
 //! The values of one tenant of a store, kept with their bytes. Contracts see a shelf as its `entries`, the one put last
 //! first, its `limit`, how far growth exceeded that, and its `measure`.
-ghost use Rattle.std.specs.Prelude.{◌≡◌, ◌+◌, ◌-◌, ◌^◌, ◌<◌, ◌≤◌, [], length, max, OnOk, OnErr, IfOk, IfErr, IfNone, MatchBool, None, option_copied};
+ghost use Rattle.std.specs.Prelude.{◌≡◌, ◌+◌, ◌-◌, ◌^◌, ◌<◌, ◌≤◌, [], length, max, OnOk, OnErr, IfOk, IfErr, IfNone, MatchBool, None, Some, option_copied};
 ghost use Rattle.std.specs.List.{IsDistinct};
 ghost use Rattle.std.specs.Map.{lookup, remove_entry, keys_of};
 ghost use Rattle.std.specs.Map.Iter.{ShowsInOrder, deref_pair};
 ghost use Rattle.allocative_service.specs.Entries.{bytes_of, entry_at, value_at, IsFigure, ChangesTo};
-ghost use Rattle.allocative_service.specs.Rejected.{IsOverBudget};
-ghost use Rattle.allocative_service.specs.Shelf.{shelved, shelf_without, total_with, IsKept, PutsOnShelf, KeepsChanged, RefusesChanged, RefusesFigure, RefusesKept};
+ghost use Rattle.allocative_service.specs.Rejected.{HasRoom, IsOverBudget};
+ghost use Rattle.allocative_service.specs.Shelf.{bytes_under, shelved, shelf_without, IsKept, PutsOnShelf, KeepsChanged, RefusesChanged, RefusesFigure, RefusesKept};
 
 use crate::cache::error::Refused;
 use crate::cache::{Kept, put};
@@ -30,7 +30,7 @@ pub struct Shelf<K: Eq + Hash, V: Allocative + Described> {
     measure: Measure,
     entries: LruCache<K, Kept<V>>,
     bytes: usize,
-    limit: usize,
+    budget: Budget,
     /// By how many bytes at most growth exceeded the limit since it was set.
     overgrown: usize,
 }
@@ -42,10 +42,10 @@ impl<K: Eq + Hash, V: Allocative + Described> Model for Shelf<K, V> {
 
     ghost Value = { Shelved K V };
 
-    ghost view = { λ s. shelved s.entries.entries s.limit s.overgrown s.measure };
+    ghost view = { λ s. shelved s.entries.entries s.budget.limit s.overgrown s.measure };
 
     ghost invariant = { λ s. (s.entries.cap ≡ 2 ^ 64 - 1) × (s.bytes ≡ bytes_of s.entries.entries)
-        × IsKept V.size V.may_show (shelved s.entries.entries s.limit s.overgrown s.measure) };
+        × IsKept V.size V.may_show (shelved s.entries.entries s.budget.limit s.overgrown s.measure) };
 }
 
 /// The bytes of a value, if they are at most `room`. The error is `NotMeasured` if `Measure::size_of` returns an error,
@@ -78,37 +78,38 @@ impl<K: Eq + Hash + Drop, V: Allocative + Described> Shelf<K, V> {
             measure,
             entries,
             bytes: 0,
-            limit: budget.limit,
+            budget,
             overgrown: 0,
         })
     }
 
-    /// Measures the value and keeps it under the key, where the values of all other shelves have `rest` bytes, and all
-    /// may have `most`. It returns the value that was there before.
+    /// Measures the value and keeps it under the key, where the values of all shelves have `all` bytes together, and may
+    /// have `most`. It returns the value that was there before.
     ///
     /// The error is `NotMeasured` if `Measure::size_of` returns an error, otherwise `TooLarge` if the bytes of all values
     /// of all shelves do not fit a word, otherwise `OverBudget` if those of this shelf exceed its limit, otherwise
     /// `LedgerFull` if those of all exceed `most`, and otherwise `NotKept` if memory runs out. The key and the value come
     /// with the error, and the shelf is unchanged.
+    #[tactic(auto, using(crate::proofs::Inserting::putting))]
     pub(crate) fn put(
         &mut self,
         key: K,
         value: V,
-        rest: usize,
+        all: usize,
         most: usize,
     ) -> Result<Option<V>, NotKept<K, V>>
-        requires { rest + bytes_of self.old.entries < 2 ^ 64 }
+        requires { bytes_of self.old.entries ≤ all }
         ensures ok { OnOk result
-            (PutsOnShelf V.size V.may_show K.eq rest most key value self.old self.new) }
+            (PutsOnShelf V.size V.may_show K.eq all most key value self.old self.new) }
         ensures had { IfOk result (λ had. had ≡ value_at (K.eq key) self.old.entries) }
         ensures refused { IfErr result
-            (λ r. RefusesKept V.size V.may_show V.is_strict (K.eq key) rest most value self.old r.error) }
+            (λ r. RefusesKept V.size V.may_show V.is_strict (K.eq key) all most value self.old r.error) }
         ensures returned { IfErr result (λ r. (r.key ≡ key) × (r.value ≡ value)) }
         ensures err { OnErr result (self.new ≡ self.old) }
-        ensures within { rest + bytes_of self.new.entries ≤ max most (rest + bytes_of self.old.entries) }
+        ensures within { all + bytes_of self.new.entries ≤ max most all + bytes_of self.old.entries }
         ensures kept { IsKept V.size V.may_show self.new }
     {
-        let (error, key, value) = match self.figure_of(&key, &value, rest, most) {
+        let (error, key, value) = match self.figure_of(&key, &value, all, most) {
             Ok(bytes) => match put(&mut self.entries, key, Kept { value, bytes }) {
                 Ok((had, replaced)) => {
                     self.bytes = self.bytes - replaced + bytes;
@@ -123,90 +124,80 @@ impl<K: Eq + Hash + Drop, V: Allocative + Described> Shelf<K, V> {
 
     /// The bytes of a value, if there is room for it under the key. The errors are those of `put` but `NotKept`.
     #[tactic(auto, using(crate::proofs::Inserting::putting))]
-    fn figure_of(&self, key: &K, value: &V, rest: usize, most: usize) -> Result<usize, Rejection>
-        requires { rest + bytes_of self.now.entries < 2 ^ 64 }
+    fn figure_of(&self, key: &K, value: &V, all: usize, most: usize) -> Result<usize, Rejection>
+        requires { bytes_of self.now.entries ≤ all }
         ensures figure { IfOk result (IsFigure V.size V.may_show self.now.measure value.now) }
-        ensures within { IfOk result (λ bytes. total_with (K.eq key.now) bytes self.now ≤ self.now.limit) }
-        ensures all_within { IfOk result (λ bytes. rest + total_with (K.eq key.now) bytes self.now ≤ most) }
+        ensures room { IfOk result (HasRoom all (Some most) (bytes_of self.now.entries) self.now.limit
+            (bytes_under (K.eq key.now) self.now)) }
+        ensures all_within { IfOk result (λ bytes. all + bytes_of (remove_entry (K.eq key.now) self.now.entries) + bytes
+            ≤ most + bytes_of self.now.entries) }
         ensures refused { IfErr result
-            (RefusesKept V.size V.may_show V.is_strict (K.eq key.now) rest most value.now self.now) }
+            (RefusesKept V.size V.may_show V.is_strict (K.eq key.now) all most value.now self.now) }
     {
         let bytes = self.measure.size_of(self.alloc, value)?;
+        let sum = self.bytes;
         // The key is looked up only if there is no room beside what it has.
-        if let Some(all) = (rest + self.bytes).checked_add(bytes)
-            && all <= most
-            && all - rest <= self.limit
+        if self
+            .budget
+            .check_room(sum, all, Some(most), 0, bytes)
+            .is_err()
         {
-            return Ok(bytes);
-        }
-        let (own, limit) = (self.bytes_without(key), self.limit);
-        if bytes > usize::MAX - rest - own {
-            return Err(Rejection::TooLarge);
-        }
-        let total = own + bytes;
-        let all = rest + total;
-        if total > limit {
-            return Err(Rejection::OverBudget {
-                bytes: total,
-                limit,
-            });
-        }
-        if all > most {
-            return Err(Rejection::LedgerFull {
-                bytes: all,
-                limit: most,
-            });
+            let had = self.bytes_under(key);
+            self.budget.check_room(sum, all, Some(most), had, bytes)?;
         }
         Ok(bytes)
     }
 
-    /// The bytes of all values but that under the key.
+    /// The bytes of the value under the key, or 0.
     #[tactic(auto, using(crate::proofs::Inserting::putting))]
-    fn bytes_without(&self, key: &K) -> usize
-        ensures without { result ≡ bytes_of (remove_entry (K.eq key.now) self.now.entries) }
-        ensures part { result ≤ bytes_of self.now.entries }
+    fn bytes_under(&self, key: &K) -> usize
+        ensures under { result ≡ bytes_under (K.eq key.now) self.now }
+        ensures part { bytes_of (remove_entry (K.eq key.now) self.now.entries) + result ≡ bytes_of self.now.entries }
     {
         match self.entries.peek(key) {
-            Some(kept) => self.bytes - kept.bytes,
-            None => self.bytes,
+            Some(kept) => kept.bytes,
+            None => 0,
         }
     }
 
     /// Changes the value under the key in its place, measures it again and enters its growth, also beyond the limit,
-    /// where the values of all other shelves have `rest` bytes. It returns whether the shelf has the key. If it does not,
+    /// where the values of all shelves have `all` bytes together. It returns whether the shelf has the key. If it does not,
     /// nothing changes.
     ///
     /// The error is `NotMeasured` if `Measure::size_of` returns an error, and otherwise `TooLarge` if the bytes of all
     /// values of all shelves do not fit a word. After an error the key and the value are no longer on the shelf, and come
     /// with the error.
+    #[tactic(auto, using(crate::proofs::Shelving::changing))]
     pub(crate) fn change<C: FnOnce(&mut V)>(
         &mut self,
         key: &K,
         change: C,
-        rest: usize,
+        all: usize,
     ) -> Result<bool, NotKept<K, V>>
         requires called { C.IsAlwaysCallable change }
-        requires fits { rest + bytes_of self.old.entries < 2 ^ 64 }
+        requires part { bytes_of self.old.entries ≤ all }
         ensures ok { IfOk result (λ there. MatchBool there
             (KeepsChanged V.size V.may_show (K.eq key.now) (ChangesTo C.FnOnce change) self.old self.new)
             ((lookup (K.eq key.now) self.old.entries ≡ None) × (self.new ≡ self.old))) }
         ensures refused { IfErr result (RefusesChanged V.size V.may_show V.is_strict (K.eq key.now)
-            (ChangesTo C.FnOnce change) rest self.old) }
+            (ChangesTo C.FnOnce change) all self.old) }
         ensures err { OnErr result (self.new ≡ shelf_without (K.eq key.now) self.old) }
-        ensures fits { rest + bytes_of self.new.entries < 2 ^ 64 }
+        ensures fits { all + bytes_of self.new.entries < 2 ^ 64 + bytes_of self.old.entries }
         ensures kept { IsKept V.size V.may_show self.new }
     {
         let Some(kept) = self.entries.peek_mut(key) else {
             return Ok(false);
         };
         let others = self.bytes - kept.bytes;
-        let room = usize::MAX - rest - others;
+        let room = usize::MAX - (all - kept.bytes);
         change(&mut kept.value);
         let error = match figure_within(self.alloc, self.measure, &kept.value, room) {
             Ok(bytes) => {
                 kept.bytes = bytes;
                 self.bytes = others + bytes;
-                self.overgrown = self.overgrown.max(self.bytes.saturating_sub(self.limit));
+                self.overgrown = self
+                    .overgrown
+                    .max(self.bytes.saturating_sub(self.budget.limit));
                 return Ok(true);
             }
             Err(error) => error,
@@ -245,7 +236,7 @@ impl<K: Eq + Hash + Drop, V: Allocative + Described> Shelf<K, V> {
         ensures unchanged { OnErr result (self.new ≡ self.old) }
     {
         budget.check(self.bytes)?;
-        self.limit = budget.limit;
+        self.budget = budget;
         self.overgrown = 0;
         Ok(())
     }
@@ -286,13 +277,13 @@ impl<K: Eq + Hash + Drop, V: Allocative + Described> Shelf<K, V> {
     pub fn limit(&self) -> usize
         ensures { result ≡ self.now.limit }
     {
-        self.limit
+        self.budget.limit
     }
 
     /// By how many bytes all values together exceed the limit, or 0.
     pub fn excess(&self) -> usize
         ensures { result ≡ bytes_of self.now.entries - self.now.limit }
     {
-        self.bytes.saturating_sub(self.limit)
+        self.bytes.saturating_sub(self.budget.limit)
     }
 }

@@ -6,7 +6,7 @@ ghost use Rattle.std.specs.Option.{option_and_then};
 ghost use Rattle.allocative_service.specs.Entries.{bytes_of, entry_at, value_at, ChangesTo};
 ghost use Rattle.allocative_service.specs.Rejected.{IsLedgerFull, IsOverBudget, RejectsIn, RejectsOpening};
 ghost use Rattle.allocative_service.specs.Shelf.{shelved, shelf_without, PutsOnShelf, KeepsChanged, RefusesChanged, RefusesKept};
-ghost use Rattle.allocative_service.specs.Store.{all_kept, is_tenant, rest_of, shelf_of, stored, with_shelves, IsTotal, Opens, Replaces, StoreStands};
+ghost use Rattle.allocative_service.specs.Store.{all_kept, is_tenant, shelf_of, stored, with_shelves, IsTotal, Opens, Replaces, StoreStands};
 
 use crate::cache::error::Refused;
 use crate::ledger::{Budget, Rejection, Standing};
@@ -90,6 +90,7 @@ impl<K: Eq + Hash + Drop, V: Allocative + Described> Store<K, V> {
     ///
     /// The error is `HasAccount` exactly if the tenant has one, and otherwise `NotKept` if memory runs out. After an
     /// error the store is unchanged.
+    #[tactic(auto, using(crate::proofs::Accounts::opening))]
     pub fn open(&mut self, tenant: &str, budget: Budget) -> Result<(), Rejection>
         ensures opened { OnOk result (Opens tenant.now budget.limit self.old self.new) }
         ensures rejected { IfErr result (RejectsOpening (shelf_of tenant.now self.old)) }
@@ -111,6 +112,7 @@ impl<K: Eq + Hash + Drop, V: Allocative + Described> Store<K, V> {
     }
 
     /// Closes the account of a tenant and returns its values. If there is none, it returns None and nothing changes.
+    #[tactic(auto, using(crate::proofs::Storing::shelves))]
     pub fn close(&mut self, tenant: &str) -> Option<Shelf<K, V>>
         ensures value { result ≡ shelf_of tenant.now self.old }
         ensures closed { self.new ≡ with_shelves (remove_entry (is_tenant tenant.now) self.old.shelves) self.old }
@@ -126,6 +128,7 @@ impl<K: Eq + Hash + Drop, V: Allocative + Described> Store<K, V> {
     ///
     /// The error is `NoAccount` exactly if the tenant has no account, and otherwise `OverBudget` exactly if the bytes
     /// of all its values exceed the new limit. After an error the store is unchanged.
+    #[tactic(auto, using(crate::proofs::Storing::shelves))]
     pub fn set_budget(&mut self, tenant: &str, budget: Budget) -> Result<(), Rejection>
         ensures set { OnOk result (Replaces tenant.now
             (λ h now. now ≡ shelved h.entries budget.limit 0 h.measure) self.old self.new) }
@@ -165,13 +168,14 @@ impl<K: Eq + Hash + Drop, V: Allocative + Described> Store<K, V> {
     /// - otherwise `NotKept` if memory runs out.
     ///
     /// The key and the value come with the error, and the store is unchanged.
+    #[tactic(auto, using(crate::proofs::Storing::shelves))]
     pub fn put(&mut self, tenant: &str, key: K, value: V) -> Result<Option<V>, NotKept<K, V>>
         ensures ok { OnOk result (Replaces tenant.now
-            (λ h. PutsOnShelf V.size V.may_show K.eq (rest_of self.old h) self.old.limit key value h) self.old self.new) }
+            (PutsOnShelf V.size V.may_show K.eq (all_kept self.old.shelves) self.old.limit key value) self.old self.new) }
         ensures had { IfOk result (λ had. had
             ≡ option_and_then (λ h. value_at (K.eq key) h.entries) (shelf_of tenant.now self.old)) }
         ensures refused { IfErr result (λ r. RejectsIn
-            (λ h. RefusesKept V.size V.may_show V.is_strict (K.eq key) (rest_of self.old h) self.old.limit value h)
+            (RefusesKept V.size V.may_show V.is_strict (K.eq key) (all_kept self.old.shelves) self.old.limit value)
             (shelf_of tenant.now self.old) r.error) }
         ensures returned { IfErr result (λ r. (r.key ≡ key) × (r.value ≡ value)) }
         ensures err { OnErr result (self.new ≡ self.old) }
@@ -184,7 +188,7 @@ impl<K: Eq + Hash + Drop, V: Allocative + Described> Store<K, V> {
             });
         };
         let rest = self.bytes - shelf.bytes();
-        let kept = shelf.put(key, value, rest, self.limit);
+        let kept = shelf.put(key, value, self.bytes, self.limit);
         self.bytes = rest + shelf.bytes();
         kept
     }
@@ -199,6 +203,7 @@ impl<K: Eq + Hash + Drop, V: Allocative + Described> Store<K, V> {
     /// The error is `NotMeasured` if `Measure::size_of` returns an error, and otherwise `TooLarge` if the bytes of all
     /// values together do not fit a word. After an error the key and the value are no longer in the store, and come with
     /// the error.
+    #[tactic(auto, using(crate::proofs::Storing::shelves))]
     pub fn change<C: FnOnce(&mut V)>(
         &mut self,
         tenant: &str,
@@ -214,7 +219,7 @@ impl<K: Eq + Hash + Drop, V: Allocative + Described> Store<K, V> {
             × (self.new ≡ self.old))) }
         ensures refused { IfErr result (λ r. MatchOption (shelf_of tenant.now self.old) ⊥
             (λ h. RefusesChanged V.size V.may_show V.is_strict (K.eq key.now) (ChangesTo C.FnOnce change)
-            (rest_of self.old h) h r)) }
+            (all_kept self.old.shelves) h r)) }
         ensures err { OnErr result (Replaces tenant.now
             (λ h now. now ≡ shelf_without (K.eq key.now) h) self.old self.new) }
     {
@@ -222,23 +227,26 @@ impl<K: Eq + Hash + Drop, V: Allocative + Described> Store<K, V> {
             return Ok(None);
         };
         let rest = self.bytes - shelf.bytes();
-        let changed = shelf.change(key, change, rest);
+        let changed = shelf.change(key, change, self.bytes);
         let (bytes, excess) = (shelf.bytes(), shelf.excess());
         self.bytes = rest + bytes;
         let ledger_excess = self.bytes.saturating_sub(self.limit);
         self.overgrown = self.overgrown.max(ledger_excess);
-        if changed? {
-            return Ok(Some(Standing {
-                bytes,
-                excess,
-                ledger_excess,
-            }));
+        match changed {
+            Err(refused) => return Err(refused),
+            Ok(false) => return Ok(None),
+            Ok(true) => (),
         }
-        Ok(None)
+        Ok(Some(Standing {
+            bytes,
+            excess,
+            ledger_excess,
+        }))
     }
 
     /// Removes the tenant's value under the key, and returns it with its key. If there is none, it returns None and
     /// nothing changes.
+    #[tactic(auto, using(crate::proofs::Storing::shelves))]
     pub fn remove(&mut self, tenant: &str, key: &K) -> Option<(K, V)>
         ensures value { result
             ≡ option_and_then (λ h. entry_at (K.eq key.now) h.entries) (shelf_of tenant.now self.old) }

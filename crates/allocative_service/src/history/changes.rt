@@ -1,7 +1,7 @@
 //! The differences between two profiles, path by path.
-ghost use Rattle.std.specs.Prelude.{◌≡◌, ◌+◌, ◌-◌, ◌↔◌, All, AllPairs, IfOk, IsErrOf, IsPermutation, OnOk};
+ghost use Rattle.std.specs.Prelude.{◌≡◌, ◌+◌, ◌-◌, ◌↔◌, cond, filter, IfOk, IsErrOf};
 ghost use Rattle.allocative.specs.Graph.{ExceedWord};
-ghost use Rattle.allocative_service.specs.Changes.{change_data, data_of, kind_of, growth, rank, shrinkage, changes_of, GrewAsMuch, GrewMost, HasEach, IsByGrowth, IsWord};
+ghost use Rattle.allocative_service.specs.Changes.{change_data, data_of, kind_of, growth, rank, shrinkage, changes_of, is_grown, GrewMost, HasEach, IsByGrowth};
 
 use crate::history::walk::push_changes;
 use allocative::{FlameGraph, Refusal};
@@ -105,13 +105,7 @@ pub fn compare(
 pub fn grew_most(alloc: Global, changes: &[Change], count: usize) -> Result<Vec<Change>, AllocError>
     ensures { IfOk result (λ top. GrewMost count (data_of changes.now) (data_of top.items)) }
 {
-    let mut grown = Vec::new(alloc);
-    for change in changes {
-        if change.earlier < change.later {
-            grown.push(change.copy()?)?;
-        }
-    }
-    sort_by_growth(&mut grown)?;
+    let mut grown = sorted(alloc, changes, true)?;
     grown.truncate(count);
     Ok(grown)
 }
@@ -120,24 +114,24 @@ pub fn grew_most(alloc: Global, changes: &[Change], count: usize) -> Result<Vec<
 pub fn by_growth(alloc: Global, changes: &[Change]) -> Result<Vec<Change>, AllocError>
     ensures { IfOk result (λ list. IsByGrowth (data_of changes.now) (data_of list.items)) }
 {
-    let mut list = Vec::new(alloc);
-    for change in changes {
-        list.push(change.copy()?)?;
-    }
-    sort_by_growth(&mut list)?;
-    Ok(list)
+    sorted(alloc, changes, false)
 }
 
-/// Sorts changes by growth, the greatest first.
-fn sort_by_growth(changes: &mut Vec<Change>) -> Result<(), AllocError>
-    requires { All IsWord changes.old.items }
-    ensures same { OnOk result (IsPermutation changes.old.items changes.new.items) }
-    ensures falling { OnOk result (AllPairs GrewAsMuch (data_of changes.new.items)) }
+/// The changes, or only those that grew, by growth, the greatest first.
+fn sorted(alloc: Global, changes: &[Change], only_grown: bool) -> Result<Vec<Change>, AllocError>
+    ensures { IfOk result (λ list.
+        IsByGrowth (cond only_grown (filter is_grown (data_of changes.now)) (data_of changes.now)) (data_of list.items)) }
 {
-    changes.sort_by_key(
+    let mut list = Vec::new(alloc);
+    for change in changes {
+        if !only_grown || change.earlier < change.later {
+            list.push(change.copy()?)?;
+        }
+    }
+    list.sort_by_key(
         |change: &Change| -> u128
             ensures { result ≡ rank (change_data change.entry.now) }
         { (usize::MAX - change.later) as u128 + change.earlier as u128 },
     )?;
-    Ok(())
+    Ok(list)
 }

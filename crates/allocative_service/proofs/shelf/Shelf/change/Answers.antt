@@ -1,22 +1,13 @@
--- of Shelf::change: a difference, invariants, and what it ensures after a change and after a refusal
-use Rattle.std.proofs.Common.{◌≡◌, ◌∙◌, ℕ, ◌+◌, ◌-◌, ◌^◌, Some, ap, arith, max, rules, subst, sym}
+-- of Shelf::change: invariants, and what it ensures after a change and after a refusal
+use Rattle.std.proofs.Common.{◌≡◌, ◌∙◌, ℕ, ◌-◌, None, Some, ap, arith, max, rules, sym}
 use Rattle.std.specs.Map.{set_value}
-use Rattle.allocative_service.proofs.Common.{remove_entry, bytes_of}
-use Rattle.allocative_service.proofs.Accounts.{OnErr-always}
-use Rattle.std.proofs.lemmas.Option.{some_pair_parts}
+use Rattle.allocative_service.proofs.Common.{bytes_of}
 use Rattle.allocative_service.proofs.Inserting.{bytes_of-remove_entry, without-kept}
-use Rattle.allocative_service.proofs.Shelving.{changed-kept, lookup_entry-set_value, remove_entry-set_value, written_bytes}
+use Rattle.allocative_service.proofs.Shelving.{changed-kept, found_again, remove_entry-set_value, written_bytes}
 use Rattle.allocative_service.specs.Entries.{kept}
-use Rattle.allocative_service.specs.Shelf.{RefusesFigure, shelved}
+use Rattle.allocative_service.specs.Shelf.{shelved}
 use Rattle.allocative_service.proofs.shelf.Shelf.change.Goals.{in-Some-pop_entry, in-None}
 use Rattle.allocative_service.proofs.shelf.Shelf.change.Goals as goal
-
--- The bytes of an entry are part of the sum.
-pub overflow_sub-others : goal.overflow_sub-others
-overflow_sub-others g c =
-    let part = bytes_of-remove_entry (g.K.PartialEq.eq c.args.key.now) c.self.inside.entries.entries
-    (Some c.in-Some.kept.now) c.in-Some.ensures.value in
-    omega (arith, part, c.self.invariant.1)
 
 -- The value is changed in its place.
 pub returns-in-Ok-clause-ok : goal.returns-in-Ok-clause-ok
@@ -25,7 +16,7 @@ returns-in-Ok-clause-ok g c =
     let test = g.K.PartialEq.eq c.args.key.now in
     let w = kept c.change.new.arg2 c.in-Ok.bytes in
     let sums = written_bytes test es c.in-Some.kept.now w c.in-Some.ensures.value in
-    let over : c.max-self-inside.result ≡ max c.self.inside.overgrown (bytes_of (set_value test es w) - c.self.inside.limit) =
+    let over : c.max-self-inside.result ≡ max c.self.inside.overgrown (bytes_of (set_value test es w) - c.self.inside.budget.limit) =
     omega (arith, sums, c.self.invariant.1) in
     rw (← c.self.view_is) (record {
       had = c.in-Some.kept.now;
@@ -34,7 +25,7 @@ returns-in-Ok-clause-ok g c =
       found = sym c.in-Some.ensures.value;
       changes = search rules;
       figure = c.in-Ok.ensures.figure;
-      is = ap (λ (o : ℕ). shelved (set_value test es w) c.self.inside.limit o c.self.inside.measure) over;
+      is = ap (λ (o : ℕ). shelved (set_value test es w) c.self.inside.budget.limit o c.self.inside.measure) over;
     })
 
 -- The changed value has its figure, and the others have theirs.
@@ -48,14 +39,6 @@ invariant_of-self-in-Ok g c =
       omega (arith, sums, c.self.invariant.1),
       changed-kept test w _ c.in-Ok.ensures.figure (omega (arith, sums, c.self.invariant.1)) c.self.invariant.2,
     )
-
--- All bytes still fit a word.
-pub returns-in-Ok-clause-fits : goal.returns-in-Ok-clause-fits
-returns-in-Ok-clause-fits g c =
-    let sums = written_bytes (g.K.PartialEq.eq c.args.key.now) c.self.inside.entries.entries c.in-Some.kept.now
-    (kept c.change.new.arg2 c.in-Ok.bytes) c.in-Some.ensures.value in
-    let fits = rw (← c.self.view_is) at c.requires.fits in
-    omega (arith, sums, fits, c.in-Ok.ensures.within, c.self.invariant.1)
 
 -- Each value has its figure when it returns.
 pub returns-in-Ok-clause-kept : goal.returns-in-Ok-clause-kept
@@ -75,14 +58,10 @@ invariant_of-self-2 g c =
 
 -- A value that was found is found again.
 pub returns-clause-ok : goal.returns-clause-ok
-returns-clause-ok g c =
-    let had = c.in-Some.kept.now in
-    let l = lookup_entry-set_value (g.K.PartialEq.eq c.args.key.now) c.self.inside.entries.entries had
-    (kept c.change.new.arg2 had.bytes) (sym c.in-Some.ensures.value) in
-    elim c.match-pop_entry.branch [
-      | in-Some-pop_entry b ↦ rw b.result-is tt
-      | in-None b ↦ let no = sym b.in-None.is ∙ c.pop_entry.ensures.value ∙ l.2 in absurd cc
-    ]
+returns-clause-ok g c = elim c.match-pop_entry.branch [
+  | in-Some-pop_entry b ↦ rw b.result-is tt
+  | in-None b ↦ absurd (found_again (g.K.PartialEq.eq c.args.key.now) c.self.inside.entries.entries c.in-Some.kept.now (kept c.change.new.arg2 c.in-Some.kept.now.bytes) None c.in-Some.ensures.value (sym b.in-None.is ∙ c.pop_entry.ensures.value))
+]
 
 -- The refusal has the key and the changed value.
 pub returns-clause-refused : goal.returns-clause-refused
@@ -90,34 +69,12 @@ returns-clause-refused g c =
     let es = c.self.inside.entries.entries in
     let test = g.K.PartialEq.eq c.args.key.now in
     let had = c.in-Some.kept.now in
-    let l = lookup_entry-set_value test es had (kept c.change.new.arg2 had.bytes) (sym c.in-Some.ensures.value) in
-    let part = bytes_of-remove_entry test es (Some had) c.in-Some.ensures.value in
-    let room : 2 ^ 64 - 1 - c.args.rest - (c.self.inside.bytes - had.bytes)
-    ≡ 2 ^ 64 - 1 - (c.args.rest + bytes_of (remove_entry test es)) = omega (arith, part, c.self.invariant.1) in
-    let refused = subst (λ (n : ℕ). RefusesFigure g.V.Described.size g.V.Allocative.may_show g.V.Allocative.is_strict
-    c.self.inside.measure n c.change.new.arg2 c.in-Err.error) room c.in-Err.ensures.refused in
     elim c.match-pop_entry.branch [
       | in-Some-pop_entry b ↦
-          let s = some_pair_parts _ _ _ _ (b.in-Some-pop_entry.ensures.value ∙ l.2) in
-          rw (b.result-is, ← c.self.view_is) (had, l.1 ∙ ap (λ k. Some (k, had)) (sym s.0), rw s.1 (search rules), rw s.1 refused)
-      | in-None b ↦ let no = sym b.in-None.is ∙ c.pop_entry.ensures.value ∙ l.2 in absurd cc
+          let before = found_again test es had (kept c.change.new.arg2 had.bytes) _ c.in-Some.ensures.value b.in-Some-pop_entry.ensures.value in
+          rw (b.result-is, ← c.self.view_is) (had, before.0, rw before.1 (search rules), rw (before.1, ← c.in-Some.ensures.value) c.in-Err.ensures.refused)
+      | in-None b ↦ rw b.result-is tt
     ]
-
--- The others are as they were.
-pub returns-clause-err : goal.returns-clause-err
-returns-clause-err g c =
-    let is = rw remove_entry-set_value at c.pop_entry.ensures.entries in
-    rw (← c.self.view_is) (OnErr-always c.match-pop_entry.result
-    (ap (λ m. shelved m.entries c.self.inside.limit c.self.inside.overgrown c.self.inside.measure) is))
-
--- All bytes still fit a word.
-pub returns-clause-fits : goal.returns-clause-fits
-returns-clause-fits g c =
-    let part = bytes_of-remove_entry (g.K.PartialEq.eq c.args.key.now) c.self.inside.entries.entries
-    (Some c.in-Some.kept.now) c.in-Some.ensures.value in
-    let is = rw remove_entry-set_value at c.pop_entry.ensures.entries in
-    let fits = rw (← c.self.view_is) at c.requires.fits in
-    rw is (omega (arith, part, fits))
 
 -- Each value has its figure when it returns.
 pub returns-clause-kept : goal.returns-clause-kept
