@@ -6,14 +6,16 @@ use Rattle.std.proofs.Common.{append-nil, take-append-drop}
 use Rattle.allocative_json.proofs.Common.{drop_more, length-map, fold-map, Graph, default, add_self, total, sum_of_all}
 use Rattle.allocative_json.proofs.Common.{Child, total-add_at, total-default, total-all, view, Value, Fault, fault_of}
 use Rattle.allocative_json.proofs.Common.{StopsReading, bytes_alone, all_fields, is_blank, filled, lines_in, texts_of}
-use Rattle.allocative_json.proofs.Common.{AreDocuments, AppendsDocument, RefusesDocument, RefusesGraph, RefusesText}
-use Rattle.allocative_json.proofs.Common.{RefusesFields, MayEndFields}
+use Rattle.allocative_json.proofs.Common.{AreDocuments, AppendsDocument, RefusesDocument, RefusesGraph}
+use Rattle.allocative_json.proofs.Common.{RefusesFields, MayEndFields, IfErr-weaker, IfOk-weaker}
+use Rattle.allocative_json.specs.Fields.{AreFields, AreFieldsFor}
+use Rattle.std.proofs.Common.{String, Global, string_bytes, IfOk}
 use Rattle.std.proofs.lemmas.List.Elements.{filter-append}
 use Rattle.std.proofs.lemmas.List.Splits.{length-slice_split}
 use Rattle.std.proofs.lemmas.List.Sums.{sum_by_more_le, count_by-le-length}
 use Rattle.std.proofs.lemmas.Slice.Zip.{all_zipped_more}
 use Rattle.allocative_graph.specs.declared.refusal.Refusal.{Refusal}
-use Rattle.allocative_json.specs.declared.fault.Fault.TheVariants.{Memory, TooLarge, Reading}
+use Rattle.allocative_json.specs.declared.fault.Fault.TheVariants.{Memory, Reading}
 use Rattle.allocative_json.specs.declared.fields.FieldsFault.{FieldsFault}
 use Rattle.allocative_json.specs.declared.fields.FieldsFault.TheVariants.{NotJson, Other}
 use Rattle.allocative_json.specs.Roots.{IsDocument}
@@ -43,25 +45,28 @@ more_within {X} f start xs i x within here =
     omega (arith, same, total-all start (map f (take i xs)), total-all start (map f xs), fold-map (λ n (c : Child). n + total c.graph) f 0 (take i xs), fold-map (λ n (c : Child). n + total c.graph) f 0 xs, sum_by_more_le bytes xs i x within)
 
 -- ---- refusals
--- What refuses a graph refuses one with as many bytes.
-pub refused_more : (g h : Graph) (r : Refusal) → total g ≤ total h → RefusesGraph g r → RefusesGraph h r
-refused_more g h refused.Memory within e = tt
-refused_more g h refused.TooLarge within e = omega (arith, e)
-refused_more g h refused.Open within e = absurd e
+-- A refusal of a graph is one of a graph with as many bytes.
+pub refused_more : {T : Type 0} (y : T) (g h : Graph) (x : Result T Refusal) (r : Refusal) → IsErrAnd x (λ q. q ≡ r) →
+    total g ≤ total h → RefusesGraph g r → MatchResult x (λ made. made ≡ y) (RefusesGraph h)
+refused_more y g h (Ok z) r is within e = absurd is
+refused_more y g h (Err q) refused.Memory is within e = subst (RefusesGraph h) (sym is) tt
+refused_more y g h (Err q) refused.TooLarge is within e =
+    let exceeds : 2 ^ 64 ≤ total h = omega (arith, e) in subst (RefusesGraph h) (sym is) exceeds
+refused_more y g h (Err q) refused.Open is within e = absurd e
 
--- A sum of graphs is refused.
-pub refused_sum : {T : Type 0} (r : Refusal) (h : Graph) (bytes : ℕ) →
-    (◌≡◌ {A = Result T Refusal} (Err r) (Err refused.TooLarge) → 2 ^ 64 ≤ bytes) →
-    (◌≡◌ {A = Result T Refusal} (Err r) (Err refused.Open) → ⊥) → bytes ≤ total h → RefusesGraph h r
-refused_sum refused.Memory h bytes large never within = tt
-refused_sum refused.TooLarge h bytes large never within = omega (arith, large refl)
-refused_sum refused.Open h bytes large never within = absurd (never refl)
+-- A refusal to add bytes is one of a graph that has them.
+pub refused_sum : {S T : Type 0} (y : T) (h : Graph) (bytes : ℕ) (x : Result T Refusal) (r : Refusal) →
+    IsErrAnd x (λ q. q ≡ r) → (◌≡◌ {A = Result S Refusal} (Err r) (Err refused.TooLarge) → 2 ^ 64 ≤ bytes) →
+    (◌≡◌ {A = Result S Refusal} (Err r) (Err refused.Open) → ⊥) → bytes ≤ total h →
+    MatchResult x (λ made. made ≡ y) (RefusesGraph h)
+refused_sum y h bytes (Ok z) r is large never within = absurd is
+refused_sum y h bytes (Err q) refused.Memory is large never within = subst (RefusesGraph h) (sym is) tt
+refused_sum y h bytes (Err q) refused.TooLarge is large never within =
+    let exceeds : 2 ^ 64 ≤ total h = omega (arith, large refl) in subst (RefusesGraph h) (sym is) exceeds
+refused_sum y h bytes (Err q) refused.Open is large never within = absurd (never refl)
 
--- A refusal is passed on.
-pub passed_on : {T : Type 0} (y : T) (g : Graph) (x : Result T Refusal) (r : Refusal) → IsErrAnd x (λ q. q ≡ r) →
-    RefusesGraph g r → MatchResult x (λ made. made ≡ y) (RefusesGraph g)
-passed_on y g (Ok z) r is h = absurd is
-passed_on y g (Err q) r is h = subst (RefusesGraph g) (sym is) h
+-- The lemmas by which a graph is refused.
+pub ruleset refusing = (refused_more, refused_sum, start_within, total-bytes_alone, total-add_self, total-all)
 
 -- ---- documents
 -- A blank line leaves the documents as they are.
@@ -127,29 +132,19 @@ pub given_line : (given : Option ℕ) (n line : ℕ) → line ≡ unwrap_or give
 given_line None n line e = tt
 given_line (Some k) n line e = e
 
--- A refusal of a graph is one of its text.
-pub refused_text : {T : Type 0} (P : T → Type 0) (g : Graph) (refusal : Refusal) (r : Result T Fault) →
-    IsErrAnd r (λ f. f ≡ fault_of refusal) → RefusesGraph g refusal → MatchResult r P (RefusesText g)
-refused_text P g refusal (Ok x) e h = absurd e
-refused_text P g refused.Memory (Err f) e h = subst (RefusesText g) (sym e) tt
-refused_text P g refused.TooLarge (Err f) e h = subst (RefusesText g) (sym e) h
-refused_text P g refused.Open (Err f) e h = absurd h
-
--- The lemmas by which documents are read, and their text is made.
-pub ruleset reading = (some_text, given_line, one_document, stops_whole, refused_text)
+-- The lemmas by which documents are read.
+pub ruleset reading = (some_text, given_line, one_document, stops_whole)
 
 -- ---- a run
--- If the text of the documents is refused, there is no text of the fields.
-pub refused_fields : {T : Type 0} (by_lines : Bool) (input : List ℕ) (vs : List Value) (cause : Fault)
-    (r : Result T FieldsFault) → AreDocuments (texts_of by_lines input) vs → IsErrAnd r (λ f. f ≡ Other cause) →
-    RefusesText (all_fields vs) cause → IfErr r (RefusesFields by_lines input)
-refused_fields by_lines input vs cause (Ok x) d e h = tt
-refused_fields true input vs Memory (Err f) d e h = subst (RefusesFields true input) (sym e) tt
-refused_fields false input [] Memory (Err f) d e h = absurd d
-refused_fields false input (v ∷ vs) Memory (Err f) d e h =
-    subst (RefusesFields false input) (sym e) (some_text input (view v) d.0)
-refused_fields by_lines input vs TooLarge (Err f) d e h = subst (RefusesFields by_lines input) (sym e) (vs, d, h)
-refused_fields by_lines input vs cause (Err f) d e h = absurd h
+-- If the graph of the documents is refused, there is no text of the fields.
+pub refused_fields : (by_lines : Bool) (input : List ℕ) (vs : List Value) (r : Refusal) (f : Fault) → f ≡ fault_of r →
+    AreDocuments (texts_of by_lines input) vs → RefusesGraph (all_fields vs) r → RefusesFields by_lines input (Other f)
+refused_fields true input vs refused.Memory f e d h = rw e tt
+refused_fields false input [] refused.Memory f e d h = absurd d
+refused_fields false input (v ∷ vs) refused.Memory f e d h = rw e (some_text input (view v) d.0)
+refused_fields true input vs refused.TooLarge f e d h = rw e (vs, d, h)
+refused_fields false input vs refused.TooLarge f e d h = rw e (vs, d, h)
+refused_fields by_lines input vs refused.Open f e d h = absurd h
 
 -- A fault of reading may end a run.
 reading_stops : (by_lines : Bool) (known : Option (List ℕ)) (f : Fault) → StopsReading known f →
@@ -169,3 +164,19 @@ stops_reading asked by_lines known f (Ok x) is e h = tt
 stops_reading asked by_lines known f (Err g) is e h =
     subst₂ (λ (o : Option Bool) (k : FieldsFault). MayEndFields o known k) (sym is) (sym e)
     (reading_stops by_lines known f h)
+
+-- A fault of the fields of the input that was read ends a run.
+pub refused_for : {T : Type 0} (asked : Option Bool) (by_lines : Bool) (known : Option (List ℕ)) (input : List ℕ)
+    (r : Result T FieldsFault) → asked ≡ Some by_lines → IfSome known (λ bytes. input ≡ bytes) →
+    IfErr r (RefusesFields by_lines input) → IfErr r (MayEndFields asked known)
+refused_for asked by_lines known input r is read e = rw is (IfErr-weaker r _ _ (λ f h. inr (input, read, h)) e)
+
+-- The text of the fields of the input that was read is one for the reader's bytes.
+pub fields_for : (asked : Option Bool) (by_lines : Bool) (known : Option (List ℕ)) (input : List ℕ)
+    (r : Result (String Global) FieldsFault) → asked ≡ Some by_lines → IfSome known (λ bytes. input ≡ bytes) →
+    IfOk r (λ made. AreFields by_lines input (string_bytes made)) → IfOk r (λ made. AreFieldsFor asked known (string_bytes made))
+fields_for asked by_lines known input r is read e = IfOk-weaker r _ _
+    (λ made h. record { by_lines = by_lines; is_asked = is; input = input; is_read = read; fields = h }) e
+
+-- The lemmas by which the text of the fields and its faults are those of a run.
+pub ruleset run_of_fields = (stops_reading, refused_for, fields_for)

@@ -1,40 +1,34 @@
 -- The lines of a text, and the last key of a line, as `split_once` and `rsplit_once` find them.
 use Rattle.std.proofs.Common.{◌≡◌, ℕ, ◌+◌, ◌<◌, ◌≤◌, List, [], ◌∷◌, ◌++◌, length, take, drop, Option, None, Some, refl}
-use Rattle.std.proofs.Common.{ap, sym, ◌∙◌, arith, append_assoc, append-nil, Bor, MatchOption, ne_eqb, take-append-drop}
+use Rattle.std.proofs.Common.{ap, sym, subst, ◌∙◌, arith, append_assoc, append-nil, Bor, MatchOption, ne_eqb, take-append-drop}
 use Rattle.allocative_json.proofs.Common.{after_last, kept_lines, Lacks, lines_from, before_last, kept_line}
 use Rattle.allocative_graph.proofs.ReadBack.{after_lacking, after_skip, before_read, lacks_from, line_read, none_before}
 use Rattle.std.specs.Str.Pattern.{RFindsChar}
 use Rattle.std.proofs.lemmas.Str.Pattern.{NoCharPasses-char, drop_at_char, IsSplitOnceResult, split_parts}
 
 -- ---- the last key
--- The text after the last c is read.
-after_read : (c : ℕ) (acc x d : List ℕ) → Lacks c d → after_last c acc (x ++ c ∷ d) ≡ d
-after_read c acc x d h = after_skip c acc x d ∙ after_lacking c [] d h
-
 -- What `rsplit_once` returns at an ASCII character.
 abbrev pub IsRsplit : ℕ → List ℕ → Option (Bor (List ℕ) × Bor (List ℕ)) → Type 0
 IsRsplit c bs r = MatchOption r (RFindsChar c bs None)
     (λ x. (i : ℕ) × (j : ℕ) × RFindsChar c bs (Some (i, j)) × (x.0.now ≡ take i bs) × (x.1.now ≡ drop j bs) × (i ≤ j)
     × (length x.0.now ≡ i) × (length x.1.now + j ≡ length bs))
 
--- The two parts of a split, of which the second lacks c.
-rsplit_parts : (c : ℕ) (bs : List ℕ) (r : Option (Bor (List ℕ) × Bor (List ℕ))) → IsRsplit c bs r → c < 128
-    → MatchOption r (Lacks c bs) (λ x. (bs ≡ x.0.now ++ c ∷ x.1.now) × Lacks c x.1.now)
-rsplit_parts c bs None h low = lacks_from c bs (λ i. NoCharPasses-char c bs i h low)
-rsplit_parts c bs (Some x) (i, j, finds, front, back, ordered, one, other) low = (
-  rw (front, back) (sym (ap (λ l. take i bs ++ l) (sym (drop_at_char c bs i j finds.1 low)) ∙ take-append-drop i bs)),
-  rw back (lacks_from c (drop j bs) (λ k. NoCharPasses-char c (drop j bs) k finds.0 low)),
-)
-
 -- The text before the last c, and that after it, in one line.
 pub rsplit_read : (c : ℕ) (bs : List ℕ) (r : Option (Bor (List ℕ) × Bor (List ℕ))) → IsRsplit c bs r → c < 128
     → MatchOption r ((before_last c [] [] bs ≡ []) × (after_last c [] bs ≡ bs))
     (λ x. (before_last c [] [] bs ≡ x.0.now) × (after_last c [] bs ≡ x.1.now))
 rsplit_read c bs None h low =
-    (none_before c [] [] bs (rsplit_parts c bs None h low), after_lacking c [] bs (rsplit_parts c bs None h low))
-rsplit_read c bs (Some x) h low =
-    let p = rsplit_parts c bs (Some x) h low in
-    (ap (before_last c [] []) p.0 ∙ before_read c [] [] x.0.now x.1.now p.1, ap (after_last c []) p.0 ∙ after_read c [] x.0.now x.1.now p.1)
+    let lacks : Lacks c bs = lacks_from c bs (λ i. NoCharPasses-char c bs i h low) in
+    (none_before c [] [] bs lacks, after_lacking c [] bs lacks)
+rsplit_read c bs (Some (x, y)) (i, j, finds, front, back, ordered, one, other) low =
+    let parts : bs ≡ x.now ++ c ∷ y.now =
+    sym (ap (λ l. take i bs ++ l) (sym (drop_at_char c bs i j finds.1 low)) ∙ take-append-drop i bs)
+    ∙ (λ k. sym front k ++ c ∷ sym back k) in
+    let lacks : Lacks c y.now =
+    subst (Lacks c) (sym back) (lacks_from c (drop j bs) (λ k. NoCharPasses-char c (drop j bs) k finds.0 low)) in (
+      ap (before_last c [] []) parts ∙ before_read c [] [] x.now y.now lacks,
+      ap (after_last c []) parts ∙ after_skip c [] x.now y.now ∙ after_lacking c [] y.now lacks,
+    )
 
 -- ---- the lines
 -- Bytes without a line feed are no line.

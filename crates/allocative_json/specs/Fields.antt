@@ -17,7 +17,6 @@ use Rattle.allocative_graph.specs.Rows.{sum_of_all}
 use Rattle.allocative_graph.specs.declared.flamegraph.Child.{Child}
 use Rattle.allocative_graph.specs.declared.refusal.Refusal.{Refusal}
 use Rattle.allocative_io.specs.Streams.{AppendsBeginning}
-use Rattle.allocative_json.specs.declared.fault.Fault.{Fault}
 use Rattle.allocative_json.specs.declared.fault.Fault.TheVariants.{Memory, TooLarge, Reading, Writing}
 use Rattle.allocative_json.specs.declared.fields.FieldsFault.{FieldsFault}
 use Rattle.allocative_json.specs.declared.fields.FieldsFault.TheVariants.{NotJson, Other}
@@ -97,12 +96,6 @@ RefusesGraph g refused.Open = ⊥
 abbrev pub Makes : Graph → Result Graph Refusal → Type 0
 Makes g r = MatchResult r (λ made. made ≡ g) (RefusesGraph g)
 
--- Why the text of a graph is not made: memory runs out, or its bytes exceed a word.
-abbrev pub RefusesText : Graph → Fault → Type 0
-RefusesText g Memory = ⊤
-RefusesText g TooLarge = 2 ^ 64 ≤ total g
-RefusesText g f = ⊥
-
 -- ---- what is read
 -- Whether a line is white space alone.
 abbrev pub is_blank : List ℕ → Bool
@@ -165,8 +158,9 @@ RefusesFields false input (NotJson line column said) = (d : Data) → ¬ IsDocum
 RefusesFields true input (NotJson line column said) = IsFirstFault input line
 RefusesFields false input (Other Memory) = 0 < length input
 RefusesFields true input (Other Memory) = ⊤
-RefusesFields by_lines input (Other f) =
-    (vs : List Value) × AreDocuments (texts_of by_lines input) vs × RefusesText (all_fields vs) f
+RefusesFields by_lines input (Other TooLarge) =
+    (vs : List Value) × AreDocuments (texts_of by_lines input) vs × (2 ^ 64 ≤ total (all_fields vs))
+RefusesFields by_lines input (Other f) = ⊥
 
 -- ---- a run
 -- Whether documents are lines: asked for by the word `--lines`. No other word, and no second one, is accepted.

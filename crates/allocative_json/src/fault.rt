@@ -1,6 +1,8 @@
 //! Why a run fails.
-ghost use Rattle.std.specs.Prelude.{◌≡◌};
-ghost use Rattle.allocative_json.specs.Fault.{status_of, message_of};
+ghost use Rattle.std.specs.Prelude.{◌≡◌, Some};
+ghost use Rattle.serde_json.specs.Errors.{IsMemory};
+ghost use Rattle.allocative_json.specs.Fault.{status_of, message_of, fault_of};
+ghost use Rattle.allocative_json.specs.declared.fault.Fault.TheVariants.{Memory, NotJson};
 
 use allocative::Refusal;
 use std::alloc::{AllocError, AllocFailed};
@@ -63,9 +65,6 @@ impl Fault {
 }
 
 impl fmt::Display for Fault {
-    ghost use Rattle.std.specs.Prelude.{Some};
-    ghost use Rattle.allocative_json.specs.Fault.{message_of};
-
     ghost output = { λ f. Some (message_of f) };
 
     fn fmt<W: fmt::Write>(&self, f: &mut fmt::Formatter<W>) -> fmt::Result {
@@ -74,9 +73,6 @@ impl fmt::Display for Fault {
 }
 
 impl From<Refusal> for Fault {
-    ghost use Rattle.std.specs.Prelude.{◌≡◌};
-    ghost use Rattle.allocative_json.specs.Fault.{fault_of};
-
     ghost from_gives = { λ r f. f ≡ fault_of r };
 
     fn from(refusal: Refusal) -> Fault {
@@ -89,10 +85,6 @@ impl From<Refusal> for Fault {
 }
 
 impl From<serde_json::Error> for Fault {
-    ghost use Rattle.std.specs.Prelude.{◌≡◌};
-    ghost use Rattle.serde_json.specs.Errors.{IsMemory};
-    ghost use Rattle.allocative_json.specs.declared.fault.Fault.TheVariants.{Memory, NotJson};
-
     ghost from_gives = { λ e f. (IsMemory e → f ≡ Memory) × (¬ IsMemory e → f ≡ NotJson) };
 
     fn from(error: serde_json::Error) -> Fault {
@@ -105,9 +97,6 @@ impl From<serde_json::Error> for Fault {
 }
 
 impl From<AllocError> for Fault {
-    ghost use Rattle.std.specs.Prelude.{◌≡◌};
-    ghost use Rattle.allocative_json.specs.declared.fault.Fault.TheVariants.{Memory};
-
     ghost from_gives = { λ _ f. f ≡ Memory };
 
     fn from(_refused: AllocError) -> Fault {
@@ -116,9 +105,6 @@ impl From<AllocError> for Fault {
 }
 
 impl<T: Drop> From<AllocFailed<T>> for Fault {
-    ghost use Rattle.std.specs.Prelude.{◌≡◌};
-    ghost use Rattle.allocative_json.specs.declared.fault.Fault.TheVariants.{Memory};
-
     ghost from_gives = { λ _ f. f ≡ Memory };
 
     fn from(_refused: AllocFailed<T>) -> Fault {

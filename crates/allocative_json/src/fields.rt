@@ -2,7 +2,8 @@
 ghost use Rattle.std.specs.Prelude.{◌≡◌, ◌++◌, true, IfOk, IfErr, OnOk, MatchResult, map, length, codes, string_bytes, vec_capacity};
 ghost use Rattle.allocative_graph.specs.Graph.{text};
 ghost use Rattle.allocative_graph.specs.Rows.{sum_of_all};
-ghost use Rattle.allocative_json.specs.Fields.{escaped_char, escaped, bytes_alone, array_bytes, value_below, member_below, member_of, fields_of, all_fields, is_blank, texts_of, AreDocuments, AppendsDocument, RefusesDocument, RefusesGraph, RefusesText, Makes, AreFields, RefusesFields};
+ghost use Rattle.allocative_json.specs.Fields.{escaped_char, escaped, bytes_alone, array_bytes, value_below, member_below, member_of, fields_of, all_fields, is_blank, texts_of, AreDocuments, AppendsDocument, RefusesDocument, RefusesGraph, Makes, AreFields, RefusesFields};
+ghost use Rattle.allocative_json.specs.declared.fields.FieldsFault.TheVariants.{Other};
 
 use crate::fault::Fault;
 use allocative::{Child, FlameGraph, Key, Refusal};
@@ -20,9 +21,6 @@ pub enum FieldsFault {
 }
 
 impl From<Fault> for FieldsFault {
-    ghost use Rattle.std.specs.Prelude.{◌≡◌};
-    ghost use Rattle.allocative_json.specs.declared.fields.FieldsFault.TheVariants.{Other};
-
     ghost from_gives = { λ f g. g ≡ Other f };
 
     fn from(fault: Fault) -> FieldsFault {
@@ -68,6 +66,7 @@ fn key_of(alloc: Global, name: &'static str) -> Result<Key, AllocError>
 }
 
 // A graph whose root alone has bytes.
+#[tactic(auto, using(crate::proofs::FieldsLemmas::refusing))]
 fn bytes_alone(alloc: Global, size: usize) -> Result<FlameGraph, Refusal>
     ensures { Makes (bytes_alone size) result }
 {
@@ -76,19 +75,8 @@ fn bytes_alone(alloc: Global, size: usize) -> Result<FlameGraph, Refusal>
     Ok(graph)
 }
 
-// The bytes of an array without those of its items: 32 for itself, and 32 for each unused place.
-fn array_alone(alloc: Global, items: &Vec<Value>) -> Result<FlameGraph, Refusal>
-    ensures { Makes
-        (bytes_alone (array_bytes (length items.now.items) (vec_capacity items.now))) result }
-{
-    let places = 1 + (items.capacity() - items.len());
-    match places.checked_mul(32) {
-        Some(size) => bytes_alone(alloc, size),
-        None => Err(Refusal::TooLarge),
-    }
-}
-
 // A member of this name, whose value has this graph.
+#[tactic(auto, using(crate::proofs::FieldsLemmas::refusing))]
 fn member_of(alloc: Global, name: &'static String, value: FlameGraph) -> Result<Child, Refusal>
     ensures { MatchResult result (λ child. child ≡ member_below (name.now, value))
         (RefusesGraph (member_below (name.now, value)).graph) }
@@ -112,22 +100,42 @@ fn graph_of(alloc: Global, value: &'static Value) -> Result<FlameGraph, Refusal>
     }
 }
 
-// The fields of an array: all items together under `[]`.
+// A graph with some values added to it, all together under a key.
 #[cycle(fields)]
+fn add_below(
+    alloc: Global,
+    key: &'static str,
+    values: &'static Vec<Value>,
+    start: FlameGraph,
+) -> Result<FlameGraph, Refusal>
+    ensures { Makes (sum_of_all start (map (value_below key.now) values.now.items)) result }
+{
+    let mut graph = start;
+    for value in values {
+        graph.add_child(Key::new(key), graph_of(alloc, value)?)?;
+    }
+    Ok(graph)
+}
+
+// The fields of an array, which has 32 bytes and as many for each unused place: all items together under `[]`.
+#[cycle(fields)]
+#[tactic(auto, using(crate::proofs::FieldsLemmas::refusing))]
 fn graph_of_items(alloc: Global, items: &'static Vec<Value>) -> Result<FlameGraph, Refusal>
     ensures { Makes (sum_of_all
         (bytes_alone (array_bytes (length items.now.items) (vec_capacity items.now)))
         (map (value_below (codes "[]")) items.now.items)) result }
 {
-    let mut graph = array_alone(alloc, items)?;
-    for item in items {
-        graph.add_child(Key::new("[]"), graph_of(alloc, item)?)?;
-    }
-    Ok(graph)
+    let places = 1 + (items.capacity() - items.len());
+    let Some(size) = places.checked_mul(32) else {
+        return Err(Refusal::TooLarge);
+    };
+    let start = bytes_alone(alloc, size)?;
+    add_below(alloc, "[]", items, start)
 }
 
 // The fields of an object: each member under its name.
 #[cycle(fields)]
+#[tactic(auto, using(crate::proofs::FieldsLemmas::refusing))]
 fn graph_of_members(
     alloc: Global,
     members: &'static Map<String, Value>,
@@ -144,26 +152,13 @@ fn graph_of_members(
     Ok(graph)
 }
 
-// The graph of some documents, each of which stands under `$`.
-fn graph_of_documents(alloc: Global, documents: &'static Vec<Value>) -> Result<FlameGraph, Refusal>
-    ensures { Makes (all_fields documents.now.items) result }
-{
-    let mut graph = FlameGraph::default(alloc);
-    for document in documents {
-        graph.add_child(Key::new("$"), graph_of(alloc, document)?)?;
-    }
-    Ok(graph)
-}
-
 // The text of the fields of some documents, each of which stands under `$`.
-#[tactic(auto, using(crate::proofs::FieldsLemmas::reading))]
-fn text_of(alloc: Global, documents: Vec<Value>) -> Result<String, Fault>
+fn text_of(alloc: Global, documents: Vec<Value>) -> Result<String, Refusal>
     ensures { MatchResult result (λ made. string_bytes made ≡ text (all_fields documents.items))
-        (RefusesText (all_fields documents.items)) }
+        (RefusesGraph (all_fields documents.items)) }
 {
     let documents: &'static Vec<Value> = Box::leak(Box::new(alloc, documents)?);
-    let graph = graph_of_documents(alloc, documents)?;
-    Ok(graph.write()?)
+    add_below(alloc, "$", documents, FlameGraph::default(alloc))?.write()
 }
 
 // What an error says before its place.
@@ -260,5 +255,8 @@ pub fn fields_json(alloc: Global, input: &[u8], by_lines: bool) -> Result<String
     ensures err { IfErr result (RefusesFields by_lines input.now) }
 {
     let documents = documents_of(alloc, input, by_lines)?;
-    Ok(text_of(alloc, documents)?)
+    match text_of(alloc, documents) {
+        Ok(text) => Ok(text),
+        Err(refusal) => Err(FieldsFault::Other(Fault::from(refusal))),
+    }
 }

@@ -4,7 +4,7 @@ ghost use Rattle.std.specs.List.{list_all};
 ghost use Rattle.std.specs.Ordering.{int_cmp};
 ghost use Rattle.std.specs.BTreeSet.{IsOrdered};
 ghost use Rattle.serde_json.specs.View.{view, items_view, members_view};
-ghost use Rattle.allocative_json.specs.Roots.{is_whole, is_whole_number, numbers_of, items_numbers, members_numbers, AddsNumbers, IsIndexOf, AreRoots, RefusesInput};
+ghost use Rattle.allocative_json.specs.Roots.{is_whole, is_whole_number, numbers_of, items_numbers, members_numbers, AddsNumbers, AreRoots, RefusesInput};
 
 use crate::fault::Fault;
 use serde_json::{Map, Value};

@@ -8,7 +8,7 @@ ghost use Rattle.allocative_json.specs.Run.{StopsReading, IsReportFor, IsWritten
 
 use crate::fault::Fault;
 use crate::fields::{FieldsFault, fields_json};
-use crate::profile::{Report, report_by_registry, report_of};
+use crate::profile::{Report, Roots, report_by_registry, report_of};
 use crate::roots::read_roots;
 use crate::words::{Words, read_words};
 use allocative_io::{ReadError, read_input, write_line, write_text};
@@ -49,16 +49,18 @@ fn profile_as_asked(alloc: Global, asked: Words, input: &[u8]) -> Result<Report,
     ensures err { IfErr result (RefusesReport input.now asked.index) }
 {
     let (document, numbers) = read_roots(alloc, input, asked.index)?;
+    let roots = Roots { document, numbers };
     if asked.registry {
-        return report_by_registry(alloc, document, numbers, asked.exact);
+        return report_by_registry(alloc, roots, asked.exact);
     }
-    let made = report_of(alloc, &document, &numbers, asked.exact);
+    let made = report_of(alloc, &roots, asked.exact);
     // The process is about to end, which frees the document faster than a drop of each value.
-    mem::forget((document, numbers));
+    mem::forget(roots);
     made
 }
 
 // Parses the words, reads the input, and makes its report.
+#[tactic(auto, using(crate::proofs::Reports::report_for))]
 fn make_report<R: Read>(alloc: Global, words: &[String], input: &mut R) -> Result<Report, Fault>
     ensures ok { IfOk result (IsReportFor (words_of words.now) (R.remaining input.old)) }
     ensures err { IfErr result (MayEndRun (words_of words.now) (R.remaining input.old)) }
@@ -137,6 +139,7 @@ fn lines_asked(words: &[String]) -> Option<bool>
 }
 
 // Parses the words, reads the input, and makes the text of its fields.
+#[tactic(auto, using(crate::proofs::FieldsLemmas::run_of_fields))]
 fn make_fields<R: Read>(
     alloc: Global,
     words: &[String],

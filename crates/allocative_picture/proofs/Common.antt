@@ -21,11 +21,11 @@ pub use Rattle.allocative_graph.specs.declared.flamegraph.Child.{Child}
 pub use Rattle.allocative_graph.specs.declared.flamegraph.Row.{Row}
 pub use Rattle.allocative_picture.specs.Boxes.{is_drawn, edge, element}
 pub use Rattle.allocative_picture.specs.Frames.{before_in, FrameData, frame_of, frames_from, frame_from, mark_with}
-pub use Rattle.allocative_picture.specs.Frames.{mark_by, mark_in, warned_mark, frame_data, shown_key}
-pub use Rattle.allocative_picture.specs.Picture.{levels, warning_lines, warning_line, all_of}
-pub use Rattle.allocative_picture.specs.Table.{IsWord, table_line, HasNoLess, lightness}
+pub use Rattle.allocative_picture.specs.Frames.{mark_by, mark_in, warned_mark, frame_data}
+pub use Rattle.allocative_picture.specs.Picture.{levels, warning_lines, all_of}
+pub use Rattle.allocative_picture.specs.Table.{table_line, HasNoLess}
 pub use Rattle.std.proofs.lemmas.List.{take-map, drop-map, take_rest, get_or-map}
 pub use Rattle.std.proofs.lemmas.List.Elements.{filter-append, all_zip_more}
-pub use Rattle.std.proofs.lemmas.List.Sorted.{IsPermutation-map, All-permutation, IsNonDecreasingBy-from_sort_by_key}
-pub use Rattle.std.proofs.lemmas.List.Sums.{sum_by-le-sum_by, get_or-le-sum_by, sum_by_more_le, sum_by_more}
+pub use Rattle.std.proofs.lemmas.List.Sorted.{IsPermutation-map}
+pub use Rattle.std.proofs.lemmas.List.Sums.{sum_by-le-sum_by, sum_by_more_le, sum_by_more}
 pub use Rattle.std.proofs.lemmas.List.Sums.{sum_by-take-le}

@@ -6,10 +6,10 @@ use Rattle.allocative_picture.proofs.Common.{ordering_then, ordering_reverse, en
 use Rattle.allocative_picture.proofs.Common.{before_in, entries_sorted, is_sorted, below_all, is_same_path, Graph}
 use Rattle.allocative_picture.proofs.Common.{FrameData, is_drawn, sum_by-cons, sum_by-le-sum_by, nat_list_cmp_total}
 use Rattle.allocative_picture.proofs.Common.{Key, begins, edge, element, contains_key, get-entries, find, on_test}
-use Rattle.allocative_picture.proofs.Common.{same_path}
+use Rattle.allocative_picture.proofs.Common.{same_path, total_at}
 use Rattle.allocative_graph.proofs.Graphs.{total_at-sum_of}
 use Rattle.std.proofs.Math.Nat.{mul-div_cancel_left, div-zero}
-use Rattle.allocative_picture.specs.Laws.{InsideLaw, ApartLaw, WithinLaw, boxes}
+use Rattle.allocative_picture.specs.Laws.{boxes}
 use Rattle.allocative_picture.proofs.Placing.{less_than, in_order}
 
 -- The bytes of a path and of all paths below it, among some entries.
@@ -109,28 +109,36 @@ edges-le : (all a b : ℕ) → a ≤ b → edge all a ≤ edge all b
 edges-le zero a b h = omega (arith, div-zero (a * 1000000), div-zero (b * 1000000))
 edges-le (suc n) a b h = edge-le (suc n) a b (omega arith) h
 
--- A box is within the box of its parent.
-pub is_inside : InsideLaw
-is_inside M g p k = record {
-  starts = edges-le (total g) _ _ (sum_by-le-sum_by (lowers p) (lowers (p ++ k ∷ [])) (entries g)
-      (λ e. longer e.1 e.0 p (k ∷ [])));
-  ends = edges-le (total g) _ _ (
-      let le = sum_by-le-sum_by (reaches (p ++ k ∷ [])) (reaches p) (entries g) (λ e. inner e.1 e.0 p (k ∷ [])) in
-      omega (arith, le, reached p (entries g), reached (p ++ k ∷ []) (entries g))
-      );
-}
+-- A box does not begin before that of its parent.
+pub starts_inside : (g : Graph) (p : Path) (k : Key) →
+    edge (total g) (before_in (entries g) p) ≤ edge (total g) (before_in (entries g) (p ++ k ∷ []))
+starts_inside g p k = edges-le (total g) _ _ (sum_by-le-sum_by (lowers p) (lowers (p ++ k ∷ [])) (entries g)
+    (λ e. longer e.1 e.0 p (k ∷ [])))
 
--- Boxes with one parent are beside one another, in the order of their keys.
-pub is_apart : ApartLaw
-is_apart M g p k l h = edges-le (total g)
-    _ _ (rw (reached (p ++ k ∷ []) (entries g))
+-- A box does not end behind that of its parent.
+pub ends_inside : (g : Graph) (p : Path) (k : Key) →
+    edge (total g) (before_in (entries g) (p ++ k ∷ []) + total_at g (p ++ k ∷ [])) ≤
+    edge (total g) (before_in (entries g) p + total_at g p)
+ends_inside g p k =
+    let le = sum_by-le-sum_by (reaches (p ++ k ∷ [])) (reaches p) (entries g) (λ e. inner e.1 e.0 p (k ∷ [])) in
+    edges-le (total g) _ _ (omega (arith, le, reached p (entries g), reached (p ++ k ∷ []) (entries g)))
+
+-- A box ends at or before the beginning of those beside it with greater keys.
+pub is_apart : (g : Graph) (p : Path) (k l : Key) → key_cmp k l ≡ Less →
+    edge (total g) (before_in (entries g) (p ++ k ∷ []) + total_at g (p ++ k ∷ [])) ≤
+    edge (total g) (before_in (entries g) (p ++ l ∷ []))
+is_apart g p k l h = edges-le (total g) _ _ (rw (reached (p ++ k ∷ []) (entries g))
     (sum_by-le-sum_by (reaches (p ++ k ∷ [])) (lowers (p ++ l ∷ [])) (entries g) (λ e. beside e.1 e.0 p k l h)))
 
--- No box extends past the right edge.
-pub is_within : WithinLaw
-is_within M g p some =
+-- No box ends past the right edge.
+pub is_within : (g : Graph) (p : Path) → 0 < total g →
+    edge (total g) (before_in (entries g) p + total_at g p) ≤ 1000000
+is_within g p some =
     let le = sum_by-le-sum_by (reaches p) (λ e. e.1) (entries g) (λ e. once e.1 e.0 p) in
     omega (arith, mul-div_cancel_left 1000000 some, edges-le (total g) (before_in (entries g) p + whole_in (entries g) p) (total g) (omega (arith, le, reached p (entries g))))
+
+-- The places of boxes.
+pub ruleset placing = (starts_inside, ends_inside, is_apart, is_within)
 
 -- The law of a change is that of the totals of a sum.
 pub ruleset changing = (total_at-sum_of)

@@ -1,13 +1,14 @@
 -- Views keep the total, and what is at a last key.
-use Rattle.std.proofs.Common.{◌≡◌, ℕ, zero, suc, ◌+◌, ◌<◌, ◌≤◌, ◌^◌, All, inl, inr, cond, List, [], ◌∷◌, ◌++◌, take}
+use Rattle.std.proofs.Common.{◌≡◌, ℕ, zero, suc, ◌+◌, ◌<◌, ◌≤◌, ◌^◌, AllPairs, inl, inr, false, nat_cmp, is_lt, cond, List, [], ◌∷◌, ◌++◌, take}
 use Rattle.std.proofs.Common.{length, get_or, flat_map, map, take_all, sum_by, codes, refl, sym, ap, ◌-◌, ◌∙◌, arith}
 use Rattle.std.proofs.Common.{is_eq, Ordering, Less, Equal, Greater, IsPermutation}
 use Rattle.allocative_picture.proofs.Common.{entries, Child, Path, Graph, total, total_of, is_same_path, key_cmp}
 use Rattle.allocative_picture.proofs.Common.{ordering_then, graph_of_path, map_push, take-map, take_more, fold-map}
-use Rattle.allocative_picture.proofs.Common.{fold-append, get_or-le-sum_by, sum_by_more_le, sum_by-IsPermutation, Key}
+use Rattle.allocative_picture.proofs.Common.{fold-append, sum_by_more_le, sum_by-IsPermutation, Key}
 use Rattle.allocative_picture.proofs.Common.{default, size_at, sum_of, under, sum_of_all, ends_in, Figures, figures}
 use Rattle.allocative_picture.proofs.Common.{row_figures, Row, total_of-cons, IsPermutation-map, total-node, total-path}
-use Rattle.allocative_picture.proofs.Common.{size_at-path, IsWord, table_line}
+use Rattle.allocative_picture.proofs.Common.{size_at-path, table_line, HasNoLess, get_or-map, length-map}
+use Rattle.std.proofs.lemmas.Map.Keys.{ge_from_not_lt}
 use Rattle.allocative_graph.proofs.Graphs.{added_up, added_up-permuted, total-default, total-added_up, size_at-added_up}
 use Rattle.allocative_graph.proofs.Graphs.{total-all, size_at-default, total-sum_of, total-under}
 use Rattle.allocative_picture.specs.Views.{bytes_alone, last_of, by_last_key, bytes_ending_in, joined, GuidesChild}
@@ -55,38 +56,11 @@ pub joined_more : (cs : List Child) (i : ℕ) (c : Child) → i < length cs → 
 joined_more cs i c within at = rw (take_more cs i c within, ← at)
     (sym (fold-append (λ (g : Graph) (x : Child). sum_of g x.graph) default (take i cs) (c ∷ [])))
 
--- What is below no key adds to the root.
-pub outline-root : (d n : ℕ) (u g h : Graph) → d < 1 → h ≡ bytes_alone (total g) → IsOutline d n u g h
-unfolding IsOutline
-outline-root d n u g h low is = let e : d ≡ 0 = omega arith in rw e is
-
--- The children are one child.
-pub outline-joined : (d l n : ℕ) (u g o h : Graph) (us cs : List Child) → 1 ≤ d → l ≡ d - 1 → HasChildren u us →
-    HasChildren g cs → n < length us → IsOutline l n (joined us) (joined cs) o
-    → h ≡ sum_of (bytes_alone (size_at g [])) (under (codes "{}") o) → IsOutline d n u g h
-unfolding IsOutline
-outline-joined d l n u g o h us cs some less a b more sub is =
-    let e : d ≡ suc l = omega arith in rw e (us, cs, a, b, inl (more, o, sub, is))
-
--- Each child is outlined.
-pub outline-each : (d l n : ℕ) (u g h : Graph) (us cs ds : List Child) → 1 ≤ d → l ≡ d - 1 → HasChildren u us →
-    HasChildren g cs → length us ≤ n
-    → InStep (λ c o. (x : Graph) × GuidesChild u c x × IsOutline l n x c.graph o) cs ds
-    → h ≡ sum_of_all (bytes_alone (size_at g [])) ds → IsOutline d n u g h
-unfolding IsOutline
-outline-each d l n u g h us cs ds some less a b few step is =
-    let e : d ≡ suc l = omega arith in rw e (us, cs, a, b, inr (few, ds, step, is))
-
 -- The own bytes of the rows of a graph are all its bytes.
 rows-bytes : (g : Graph) (rs : List Row) → map row_figures rs ≡ figures g → sum_by (λ r. r.self_size) rs ≡ total g
 rows-bytes g rs are = sym (fold-map (λ n (f : Figures). n + f.self_size) row_figures 0 rs)
     ∙ ap (sum_by (λ (f : Figures). f.self_size)) are
     ∙ fold-map (λ n (f : Figures). n + f.self_size) _ 0 (entries g)
-
--- The own bytes of each row fit a word, since those of the graph do.
-pub rows-fit : (g : Graph) (rs : List Row) → map row_figures rs ≡ figures g → total g < 2 ^ 64 → All IsWord rs
-rows-fit g rs are fits = λ k d within.
-    omega (arith, rows-bytes g rs are, get_or-le-sum_by (λ (r : Row). r.self_size) rs k d within)
 
 -- One child more is added.
 pub all-push : (g : Graph) (ds : List Child) (d : Child) →
@@ -146,6 +120,16 @@ rows-added g rs sorted items i h is all same order are =
     is ∙ ap added_rows (take_all i items all ∙ same)
     ∙ added_up-permuted last_bytes default (map row_figures rs) (map row_figures sorted) (IsPermutation-map row_figures rs sorted order)
     ∙ ap (added_up last_bytes default) are ∙ fold-map (λ (h : Graph) (f : Figures). sum_of h (last_bytes f)) _ default (entries g)
+
+-- Of rows that are sorted, the heaviest first, none has less than a later one.
+pub falls : (rs : List Row) → ((i j : ℕ) (r : Row) → i ≤ j → j < length rs
+    → is_lt (nat_cmp (get_or rs i r).self_size (get_or rs j r).self_size) ≡ false) →
+    AllPairs HasNoLess (map row_figures rs)
+falls [] h i j d before within = absurd (omega arith)
+falls (r ∷ rs) h i j d before within =
+    let short : j < length (r ∷ rs) = omega (arith, within, length-map (r ∷ rs) row_figures) in
+    rw (get_or-map row_figures (r ∷ rs) i r d (omega arith), get_or-map row_figures (r ∷ rs) j r d short)
+    (ge_from_not_lt _ _ (h i j r (omega arith) short))
 
 -- After the last row the lines of all are written.
 pub table-is : (all t n i : ℕ) (sorted items : List Row) (made : List ℕ) →

@@ -1,7 +1,6 @@
 -- The heaviest paths of a graph as a text.
-use Rattle.std.specs.Prelude.{◌≡◌, ℕ, ◌-◌, ◌^◌, ◌<◌, ◌≤◌, ◌==◌, cond, List, [], ◌∷◌, ◌++◌, flat_map, codes, decimal}
+use Rattle.std.specs.Prelude.{◌≡◌, ℕ, ◌≤◌, ◌==◌, cond, List, [], ◌∷◌, ◌++◌, flat_map, codes, decimal}
 use Rattle.std.specs.Prelude.{take, AllPairs, IsPermutation}
-use Rattle.allocative_graph.specs.declared.flamegraph.Row.{Row}
 use Rattle.allocative_graph.specs.Graph.{Graph, joined, total}
 use Rattle.allocative_graph.specs.Rows.{Figures, figures}
 use Rattle.allocative_picture.specs.Boxes.{edge, percent_text}
@@ -9,14 +8,6 @@ use Rattle.allocative_picture.specs.Boxes.{edge, percent_text}
 -- The first path has no fewer bytes of its own than the second.
 abbrev pub HasNoLess : Figures → Figures → Type 0
 HasNoLess f g = g.self_size ≤ f.self_size
-
--- A number that is the less the more bytes of its own a path has.
-abbrev pub lightness : Figures → ℕ
-lightness f = 2 ^ 64 - 1 - f.self_size
-
--- The own bytes of a row fit a word.
-abbrev pub IsWord : Row → Type 0
-IsWord r = r.self_size < 2 ^ 64
 
 -- The line of a path with bytes of its own: their share of all in percent, a tab, the bytes, a tab, the keys joined by
 -- `;`, and a line feed.

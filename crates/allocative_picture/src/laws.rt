@@ -3,11 +3,13 @@ ghost use Rattle.allocative_picture.specs.Laws.{InsideLaw, ApartLaw, ShareLaw, W
 ghost use Rattle.allocative_picture.specs.Escape.{EscapeLaw};
 
 /// The box of a path lies within the box of its parent, the path without its last key.
+#[tactic(auto, using(crate::proofs::Geometry::placing))]
 pub fn inside_law()
     ensures { InsideLaw }
 {}
 
 /// Boxes with one parent lie beside one another, in the order of their keys.
+#[tactic(auto, using(crate::proofs::Geometry::placing))]
 pub fn apart_law()
     ensures { ApartLaw }
 {}
@@ -18,6 +20,7 @@ pub fn share_law()
 {}
 
 /// No box extends past the right edge of the picture.
+#[tactic(auto, using(crate::proofs::Geometry::placing))]
 pub fn within_law()
     ensures { WithinLaw }
 {}

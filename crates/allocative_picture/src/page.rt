@@ -205,8 +205,10 @@ pub(crate) fn push_warnings(
     ensures { OnOk result
         (AppendsText text.old text.new (warning_lines top (map warning_of warned.now))) }
 {
-    for (index, one) in warned.iter().enumerate() {
-        push_warning(alloc, top + 16 * index as u128, one, text)?;
+    let mut y = top;
+    for one in warned {
+        push_warning(alloc, y, one, text)?;
+        y += 16;
     }
     Ok(())
 }

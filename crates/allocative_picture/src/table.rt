@@ -1,27 +1,13 @@
 //! The heaviest paths of a flame graph as a text.
-ghost use Rattle.std.specs.Prelude.{◌≡◌, All, AllPairs, IsPermutation, IfOk, OnOk, map, string_bytes};
+ghost use Rattle.std.specs.Prelude.{IfOk, OnOk, string_bytes};
 ghost use Rattle.allocative_graph.specs.Format.{AppendsText};
 ghost use Rattle.allocative_graph.specs.Rows.{row_figures};
-ghost use Rattle.allocative_picture.specs.Table.{HasNoLess, IsTable, IsWord, lightness, table_line};
+ghost use Rattle.allocative_picture.specs.Table.{IsTable, table_line};
 
 use crate::boxes::edge;
 use crate::figures::Percent;
 use allocative_graph::flamegraph::{FlameGraph, Row, push_path};
 use std::alloc::{AllocError, Global};
-
-/// Sorts rows by their own bytes, the heaviest first.
-fn sort_by_weight(rows: &mut Vec<Row>) -> Result<(), AllocError>
-    requires { All IsWord rows.old.items }
-    ensures same { OnOk result (IsPermutation rows.old.items rows.new.items) }
-    ensures falling { OnOk result (AllPairs HasNoLess (map row_figures rows.new.items)) }
-{
-    rows.sort_by_key(
-        |row: &Row| -> usize
-            ensures { result ≡ lightness (row_figures row.entry.now) }
-        { usize::MAX - row.self_size },
-    )?;
-    Ok(())
-}
 
 /// Appends the line of a row, if it has bytes of its own.
 fn push_row(all: u128, row: &Row, text: &mut String) -> Result<(), AllocError>
@@ -48,7 +34,7 @@ pub fn table(alloc: Global, graph: &FlameGraph, most: usize) -> Result<String, A
     let Ok(mut rows) = graph.rows() else {
         return Err(AllocError);
     };
-    sort_by_weight(&mut rows)?;
+    rows.sort_by(|a: &Row, b: &Row| b.self_size.cmp(&a.self_size))?;
     rows.truncate(most);
     let all = all as u128;
     let mut text = String::new(alloc);

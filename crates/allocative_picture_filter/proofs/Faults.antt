@@ -1,7 +1,6 @@
 -- Faults and their status.
-use Rattle.std.proofs.Common.{◌≡◌, inl, inr, ℕ, ◌^◌, ◌<◌, ◌≤◌, ◌==◌, ◌&&◌, Bool, true, false, IsTrue, List, [], ◌∷◌}
-use Rattle.std.proofs.Common.{Option, None, Some, Ok, Err, Result, refl, arith, IfSome, IfErr, IsErrOf}
-use Rattle.std.proofs.Common.{IsErrAnd}
+use Rattle.std.proofs.Common.{◌≡◌, inl, inr, ℕ, ◌^◌, ◌≤◌, List, [], ◌∷◌, Option, None, Some, Ok, Err, Result, refl}
+use Rattle.std.proofs.Common.{IfSome, IfErr, IsErrOf, IsErrAnd}
 use Rattle.allocative_picture_filter.proofs.Common.{Graph, Fault, Text, Memory, Arguments, Writing, StopsAsking}
 use Rattle.allocative_picture_filter.proofs.Common.{fault_of}
 use Rattle.allocative_picture_filter.specs.Run.{Sourced, StopsAddingUp, StopsJoining, Stops}
@@ -50,12 +49,5 @@ pub holds-of : {T : Type 0} (r : Result T Fault) (P : Fault → Type 0) (f : Fau
 holds-of (Ok x) P f is h = tt
 holds-of (Err e) P f is h = rw is h
 
--- A profile is refused if it is asked not to be empty and has 0 bytes.
-pub is-empty : (b : Bool) (n : ℕ) → (b && (n == 0)) ≡ true → IsTrue b × (n ≡ 0)
-is-empty true n h = (cc, grind arith)
-is-empty false n h = absurd (cc)
-
--- A profile that is not refused has bytes, if it is asked not to be empty.
-pub has-bytes : (b : Bool) (n : ℕ) → (b && (n == 0)) ≡ false → IsTrue b → 0 < n
-has-bytes true n h t = grind arith
-has-bytes false n h t = absurd (cc)
+-- The lemmas by which a run is stopped by its first fault.
+pub ruleset stopping = (holds-of, of_each, because)

@@ -1,9 +1,10 @@
 -- The graphs of some texts, one added after another, and what stops that.
 use Rattle.std.proofs.Common.{◌≡◌, ℕ, zero, suc, ◌+◌, ◌<◌, ◌≤◌, ◌⊎◌, inl, inr, Bool, true, false, cond}
 use Rattle.std.proofs.Common.{List, [], ◌∷◌, ◌++◌, map, take, length, get_or, refl, sym, ap, subst, arith}
-use Rattle.std.proofs.Common.{MatchBool, nat_lt}
+use Rattle.std.proofs.Common.{MatchBool, nat_lt, take_all}
 use Rattle.allocative_picture_filter.proofs.Common.{Graph, default, Fault, Memory, Text, map-append, take_more}
-use Rattle.allocative_picture_filter.proofs.Common.{Input, IsReadingOf, text}
+use Rattle.allocative_picture_filter.proofs.Common.{Input, IsReadingOf, text, IfSome_then}
+use Rattle.allocative_picture_filter.proofs.Faults.{holds-of, of_each}
 use Rattle.allocative_picture.specs.declared.options.Options.{Options}
 use Rattle.allocative_picture_filter.specs.Run.{Sourced, sourced, AddUp, StopsAddingUp, without_mark, Adds, AddUpOnto}
 use Rattle.allocative_picture_filter.specs.Run.{StopsAdding, StopsProfile, IsShown, IsOptions, Writes}
@@ -37,7 +38,7 @@ stops-at b (y ∷ xs) (suc i) d g f within (next, adds, up) h =
     inr (next, adds, stops-at next xs i d g f (omega arith) up h)
 
 -- What stops the first texts stops them all.
-stops-before : (b : Graph) (ts us : List Sourced) (f : Fault) → StopsAddingUp b ts f → StopsAddingUp b (ts ++ us) f
+pub stops-before : (b : Graph) (ts us : List Sourced) (f : Fault) → StopsAddingUp b ts f → StopsAddingUp b (ts ++ us) f
 stops-before b [] us f h = absurd h
 stops-before b (t ∷ ts) us f (inl h) = inl h
 stops-before b (t ∷ ts) us f (inr (next, adds, h)) = inr (next, adds, stops-before next ts us f h)
@@ -49,12 +50,6 @@ stops-last b [] u g f up h = inl (subst (λ (x : Graph). StopsAdding x u f) up h
 stops-last b (t ∷ ts) u g f (next, adds, up) h = inr (next, adds, stops-last next ts u g f up h)
 
 -- ---- with the input and without
--- What stops the files stops the profile.
-pub stops-files : (xs : List Text) (b : Bool) (known : List ℕ) (f : Fault) → StopsAddingUp default (map sourced xs) f →
-    StopsProfile xs b known f
-stops-files xs b known f h = inl (stops-before default (map sourced xs) (cond b ((Input, without_mark known) ∷ []) []) f
-    h)
-
 -- What stops the input, once the files are added, stops the profile.
 pub stops-input : (xs : List Text) (b : Bool) (known : List ℕ) (g : Graph) (f : Fault) → b ≡ true →
     AddUp (map sourced xs) g → StopsAdding g (Input, without_mark known) f → StopsProfile xs b known f
@@ -66,6 +61,9 @@ pub stops-unread : (xs : List Text) (b : Bool) (known : List ℕ) (g : Graph) (f
     AddUp (map sourced xs) g → (f ≡ Memory) ⊎ IsReadingOf Input f → StopsProfile xs b known f
 stops-unread xs b known g f e up (inl m) = stops-input xs b known g f e up (inl (rw m tt))
 stops-unread xs b known g f e up (inr r) = inr (g, up, e, r)
+
+-- The lemmas by which texts are added up.
+pub ruleset adding = (add-more, add-push, take_all, IfSome_then, holds-of, of_each, stops-before)
 
 -- ---- what is written
 -- What is shown of a graph, from its outline.

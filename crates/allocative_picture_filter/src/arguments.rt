@@ -225,6 +225,7 @@ fn discord_of(as_text: bool, top: u32, before: &[&str]) -> Option<&'static str>
 }
 
 // What is asked for.
+#[tactic(auto, using(crate::proofs::Faults::stopping))]
 fn asked_by<'a>(alloc: Global, matches: &ArgMatches<'a>) -> Result<Arguments<'a>, Fault<'a>>
     ensures ok { IfOk result (IsAsked (rows_of (found_of matches.now))) }
     ensures err { IfErr result (StopsAsking (IsWrong (rows_of (found_of matches.now)))) }

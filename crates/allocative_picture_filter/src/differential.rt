@@ -1,14 +1,8 @@
 //! Texts in the differential form, whose lines have two counts.
 ghost use Rattle.std.specs.Prelude.{◌↔◌, IsTrue};
-ghost use Rattle.std.specs.Str.Parse.{IsNumeral};
 ghost use Rattle.allocative_picture_filter.specs.Differential.{HasTwoCounts, IsDifferential};
 
-// Whether a text is one decimal digit or more, and nothing else.
-fn is_numeral(text: &str) -> bool
-    ensures { IsTrue result ↔ IsNumeral 10 text.now }
-{
-    !text.is_empty() && text.as_bytes().iter().all(|b| b.is_ascii_digit())
-}
+use allocative_graph::read::is_numeral;
 
 // Whether a line ends in two counts.
 fn has_two_counts(line: &str) -> bool

@@ -2,13 +2,14 @@
 ghost use Rattle.std.specs.Prelude.{◌≡◌, [], ◌∷◌, OnOk, IfErr};
 ghost use Rattle.std.specs.Io.KnownBytes.{Appends};
 ghost use Rattle.allocative_io.specs.Streams.{AppendsBeginning};
-ghost use Rattle.allocative_picture_filter.specs.Fault.{cause_of, fault_line, line_saying, name_of, status_of, what_is_wrong};
+ghost use Rattle.allocative_picture_filter.specs.Fault.{cause_of, fault_line, fault_of, line_saying, name_of, status_of, what_is_wrong};
+ghost use Rattle.allocative_picture_filter.specs.declared.fault.Fault.TheVariants.{Memory};
 
 use allocative_graph::read::LineFault;
 use allocative_graph::refusal::Refusal;
 use allocative_io::write_line;
 use itoa::Buffer;
-use std::alloc::{AllocError, AllocFailed};
+use std::alloc::AllocError;
 use std::io::{self, ErrorKind, Write};
 
 /// Where a text comes from.
@@ -135,36 +136,19 @@ pub fn report_fault<E: Write>(errors: &mut E, fault: &Fault<'_>) -> io::Result<(
             say(errors, "line ", number, " of ", text, what_is_wrong(*wrong))
         }
         Fault::NotText(source) => {
-            say(
-                errors,
-                name_of(*source, "a text"),
-                " is not UTF-8",
-                "",
-                "",
-                "",
-            )
+            let text = name_of(*source, "a text");
+            say(errors, text, " is not UTF-8", "", "", "")
         }
         Fault::TwoCounts(source) => {
-            say(
-                errors,
-                "each line of ",
-                name_of(*source, "the input"),
-                " has two counts: give the earlier stacks by --before",
-                "",
-                "",
-            )
+            let text = name_of(*source, "the input");
+            let counts = " has two counts: give the earlier stacks by --before";
+            say(errors, "each line of ", text, counts, "", "")
         }
         Fault::TooLarge => say(errors, "sizes do not fit", "", "", "", ""),
         Fault::Arguments(reason) => say(errors, reason.as_str(), "", "", "", ""),
         Fault::Reading(source, kind) => {
-            say(
-                errors,
-                "cannot read ",
-                name_of(*source, "input"),
-                cause(*kind),
-                "",
-                "",
-            )
+            let text = name_of(*source, "input");
+            say(errors, "cannot read ", text, cause(*kind), "", "")
         }
         Fault::Writing => say(errors, "cannot write output", "", "", "", ""),
         Fault::Empty => say(errors, "the profile has 0 bytes", "", "", "", ""),
@@ -188,9 +172,6 @@ pub fn report<E: Write>(ended: Result<(), Fault<'_>>, errors: &mut E) -> u8
 }
 
 impl From<AllocError> for Fault<'_> {
-    ghost use Rattle.std.specs.Prelude.{◌≡◌};
-    ghost use Rattle.allocative_picture_filter.specs.declared.fault.Fault.TheVariants.{Memory};
-
     ghost from_gives = { λ _ f. f ≡ Memory };
 
     fn from(_refused: AllocError) -> Self {
@@ -198,22 +179,8 @@ impl From<AllocError> for Fault<'_> {
     }
 }
 
-impl<T: Drop> From<AllocFailed<T>> for Fault<'_> {
-    ghost use Rattle.std.specs.Prelude.{◌≡◌};
-    ghost use Rattle.allocative_picture_filter.specs.declared.fault.Fault.TheVariants.{Memory};
-
-    ghost from_gives = { λ _ f. f ≡ Memory };
-
-    fn from(_refused: AllocFailed<T>) -> Self {
-        Fault::Memory
-    }
-}
-
 /// A graph or a picture is refused with `TooLarge` or `Memory` alone.
 impl From<Refusal> for Fault<'_> {
-    ghost use Rattle.std.specs.Prelude.{◌≡◌};
-    ghost use Rattle.allocative_picture_filter.specs.Fault.{fault_of};
-
     ghost from_gives = { λ r f. f ≡ fault_of r };
 
     fn from(refusal: Refusal) -> Self {

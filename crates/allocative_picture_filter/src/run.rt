@@ -1,5 +1,5 @@
 //! The whole program, over any reader and two writers.
-ghost use Rattle.std.specs.Prelude.{◌≡◌, ◌≢◌, ◌+◌, ◌^◌, ◌≤◌, ◌⊎◌, ◌&&◌, ◌==◌, true, false, cond, ℕ, OnOk, IfOk, IfErr, IfSome, IsErrOf, List, map, string_bytes};
+ghost use Rattle.std.specs.Prelude.{◌≡◌, ◌≢◌, ◌+◌, ◌^◌, ◌≤◌, ◌⊎◌, ◌↔◌, IsTrue, true, false, cond, ℕ, OnOk, IfOk, IfErr, IfSome, IsErrOf, List, map, string_bytes};
 ghost use Rattle.std.specs.Io.KnownBytes.{Appends};
 ghost use Rattle.allocative_graph.specs.Graph.{Graph, default, total};
 ghost use Rattle.allocative_io.specs.Streams.{AppendsBeginning};
@@ -107,6 +107,7 @@ fn graph_of<'a>(alloc: Global, text: &Text<'a>) -> Result<FlameGraph, Fault<'a>>
 }
 
 // Adds the graph of a text to another.
+#[tactic(auto, using(crate::proofs::Faults::stopping))]
 fn add_text<'a>(alloc: Global, text: &Text<'a>, graph: &mut FlameGraph) -> Result<(), Fault<'a>>
     ensures ok { OnOk result (Adds graph.old (sourced text.now) graph.new) }
     ensures stops { IfErr result (StopsAdding graph.old (sourced text.now)) }
@@ -116,6 +117,7 @@ fn add_text<'a>(alloc: Global, text: &Text<'a>, graph: &mut FlameGraph) -> Resul
 }
 
 // The graph that some texts add up to.
+#[tactic(auto, using(crate::proofs::Sums::adding))]
 fn graph_of_all<'a>(alloc: Global, texts: &[Text<'a>]) -> Result<FlameGraph, Fault<'a>>
     ensures ok { IfOk result (AddUp (map sourced texts.now)) }
     ensures stops { IfErr result (StopsAddingUp default (map sourced texts.now)) }
@@ -128,6 +130,7 @@ fn graph_of_all<'a>(alloc: Global, texts: &[Text<'a>]) -> Result<FlameGraph, Fau
 }
 
 // The graph that the texts of a profile add up to, with the input if it belongs to them.
+#[tactic(auto, using(crate::proofs::Sums::adding))]
 fn later_graph<'a, R: Read>(
     alloc: Global,
     texts: &[Text<'a>],
@@ -150,7 +153,7 @@ fn later_graph<'a, R: Read>(
 
 // Whether a profile is asked not to be empty, and has 0 bytes.
 fn is_refused(not_empty: bool, profile: &FlameGraph) -> bool
-    ensures { result ≡ (not_empty && (total profile.now == 0)) }
+    ensures { IsTrue result ↔ (IsTrue not_empty × (total profile.now ≡ 0)) }
 {
     not_empty && profile.total_size() == 0
 }
@@ -293,6 +296,7 @@ fn made_of(
 }
 
 // Makes what the arguments ask for.
+#[tactic(auto, using(crate::proofs::Faults::stopping))]
 fn make<'a, R: Read>(
     alloc: Global,
     asked: &Arguments<'a>,
@@ -320,6 +324,7 @@ fn make<'a, R: Read>(
 /// change to it from the graph of the earlier texts, or its text. After `Fault::Writing` a beginning of that is on the
 /// output. After any other fault nothing goes to the output. The earlier texts are added up first, then the others, and
 /// the input last; the fault is the first one. A graph or a sum whose bytes exceed `usize::MAX` is `Fault::TooLarge`.
+#[tactic(auto, using(crate::proofs::Faults::stopping))]
 pub fn run<'a, R: Read, W: Write>(
     alloc: Global,
     asked: &Arguments<'a>,

@@ -1,17 +1,17 @@
 -- of outline: its returns, and the step of its loop
-use Rattle.std.proofs.Common.{◌≡◌, List, [], ◌∷◌, ◌++◌, ap, subst, subst₂, ◌∙◌, take_all, arith}
+use Rattle.std.proofs.Common.{◌≡◌, suc, inl, inr, [], ◌∷◌, ◌++◌, ap, ◌∙◌, take_all, arith}
 use Rattle.allocative_picture.proofs.Common.{all_zip_more, Child, Graph, total, size_at, sum_of, under, total-path}
 use Rattle.std.proofs.lemmas.Result.{IfOk-weaker}
-use Rattle.allocative_picture.specs.Views.{bytes_alone, GuidesChild, InStep, IsOutline}
-use Rattle.allocative_picture.proofs.Viewing.{all-push, outline-each, outline-joined, outline-root, total-outline}
+use Rattle.allocative_picture.specs.Views.{bytes_alone, GuidesChild, IsOutline}
+use Rattle.allocative_picture.proofs.Viewing.{all-push, total-outline}
 use Rattle.allocative_picture.proofs.views.+outline.Goals as goal
 
 -- All bytes are the root's if no key is left.
 pub returns-in_default-clause-outline : goal.returns-in_default-clause-outline
+unfolding IsOutline
 returns-in_default-clause-outline t c =
-    IfOk-weaker c.bytes_alone.result _ _
-    (λ h is. outline-root c.args.depth c.args.most c.args.guide.now c.args.graph.now h (omega (arith, c.in_default.ensures)) (is ∙ ap bytes_alone c.total_size.ensures.total))
-    c.bytes_alone.ensures
+    let none : c.args.depth ≡ 0 = omega (arith, c.in_default.ensures) in
+    rw none (rw c.total_size.ensures.total at c.bytes_alone.ensures)
 
 pub returns-in_default-clause-total : goal.returns-in_default-clause-total
 returns-in_default-clause-total t c =
@@ -21,17 +21,22 @@ returns-in_default-clause-total t c =
 
 -- Children that are too many are one child.
 pub returns-then-guides-most-clause-outline : goal.returns-then-guides-most-clause-outline
+unfolding IsOutline
 returns-then-guides-most-clause-outline t c =
-    let below = c.in_ok-below.below in
-    outline-joined c.args.depth c.in-Some.rest c.args.most c.args.guide.now c.args.graph.now below c.put.new.view
-    c.children-guides.result.now c.children-children.result.now c.in-Some.ensures.0 c.in-Some.ensures.1
-    (record { whole = c.children-guides.ensures.whole; children = c.children-guides.ensures.children })
-    (record { whole = c.children-children.ensures.whole; children = c.children-children.ensures.children })
-    (omega arith)
-    (subst₂ (λ (x y : Graph). IsOutline c.in-Some.rest c.args.most x y below) c.in_ok-guide_below.ensures
-    c.in_ok-all.ensures c.in_ok-below.ensures.outline)
-    (c.in_ok-put.ensures ∙ (λ i. sum_of ((c.in_ok-view.ensures ∙ ap bytes_alone c.self_size.ensures) i)
-    (under (c.new.ensures i) below)))
+    let some : c.args.depth ≡ suc c.in-Some.rest = omega (arith, c.in-Some.ensures.0, c.in-Some.ensures.1) in
+    rw some (
+      c.children-guides.result.now,
+      c.children-children.result.now,
+      record { whole = c.children-guides.ensures.whole; children = c.children-guides.ensures.children },
+      record { whole = c.children-children.ensures.whole; children = c.children-children.ensures.children },
+      inl (
+        omega arith,
+        c.in_ok-below.below,
+        rw (← c.in_ok-guide_below.ensures, ← c.in_ok-all.ensures) c.in_ok-below.ensures.outline,
+        c.in_ok-put.ensures ∙ (λ i. sum_of ((c.in_ok-view.ensures ∙ ap bytes_alone c.self_size.ensures) i)
+            (under (c.new.ensures i) c.in_ok-below.below)),
+      ),
+    )
 
 pub returns-then-guides-most-clause-total : goal.returns-then-guides-most-clause-total
 returns-then-guides-most-clause-total t c =
@@ -56,18 +61,18 @@ loop-child-preserved t c =
 
 -- After the last child all are outlined.
 pub returns-clause-outline : goal.returns-clause-outline
+unfolding IsOutline
 returns-clause-outline t c =
     let ds = c.loop-child.invariant.0 in
     let cs = c.children-children.result.now in
-    let R : Child → Graph → Type 0 = λ b o. (x : Graph) × GuidesChild c.args.guide.now b x
-    × IsOutline c.in-Some.rest c.args.most x b.graph o in
-    outline-each c.args.depth c.in-Some.rest c.args.most c.args.guide.now c.args.graph.now c.loop-child.view
-    c.children-guides.result.now cs ds c.in-Some.ensures.0 c.in-Some.ensures.1
-    (record { whole = c.children-guides.ensures.whole; children = c.children-guides.ensures.children })
-    (record { whole = c.children-children.ensures.whole; children = c.children-children.ensures.children })
-    (omega arith)
-    (subst (λ (xs : List Child). InStep R xs ds) (take_all c.loop-child.child-index cs (omega arith)) c.loop-child.invariant.1)
-    c.loop-child.invariant.2
+    let some : c.args.depth ≡ suc c.in-Some.rest = omega (arith, c.in-Some.ensures.0, c.in-Some.ensures.1) in
+    rw some (
+      c.children-guides.result.now,
+      cs,
+      record { whole = c.children-guides.ensures.whole; children = c.children-guides.ensures.children },
+      record { whole = c.children-children.ensures.whole; children = c.children-children.ensures.children },
+      inr (omega arith, ds, rw (take_all c.loop-child.child-index cs (omega arith)) at c.loop-child.invariant.1, c.loop-child.invariant.2),
+    )
 
 pub returns-clause-total : goal.returns-clause-total
 returns-clause-total t c =

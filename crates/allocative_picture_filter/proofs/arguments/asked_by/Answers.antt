@@ -1,28 +1,10 @@
 -- What clap finds asks for this, or for nothing.
-use Rattle.std.proofs.Common.{◌≡◌, ◌∙◌, ℕ, List, Bor, ◌||◌, ◌==◌, map, ap, ap₂, sym, subst₂, arith, length, nat_lt, inl}
+use Rattle.std.proofs.Common.{◌≡◌, ◌∙◌, ℕ, List, Bor, ◌||◌, ◌==◌, map, ap, ap₂, sym, subst₂, arith, length, nat_lt}
 use Rattle.std.proofs.Common.{inr, codes, filter, count_by, not}
 use Rattle.allocative_picture_filter.proofs.Common.{length-map, Disagree, is_input, value_in, values_in}
 use Rattle.clap.specs.Words.{found_of, rows_of}
-use Rattle.allocative_picture_filter.proofs.Faults.{because, holds-of}
+use Rattle.allocative_picture_filter.proofs.Faults.{because}
 use Rattle.allocative_picture_filter.proofs.arguments.asked_by.Goals as goal
-
--- A number that is none is wrong.
-pub returns-in_err-narrowest-clause-err : goal.returns-in_err-narrowest-clause-err
-returns-in_err-narrowest-clause-err c = holds-of c.from_residual.result _ _ c.from_residual.ensures.1
-    (because c.in_err-narrowest.field-0.0 _ _ (λ w. inl w) c.in_err-narrowest.ensures.err)
-
-pub returns-in_err-depth-clause-err : goal.returns-in_err-depth-clause-err
-returns-in_err-depth-clause-err c = holds-of c.from_residual-in_err-depth.result _ _
-    c.from_residual-in_err-depth.ensures.1
-    (because c.in_err-depth.field-0.0 _ _ (λ w. inr (inl w)) c.in_err-depth.ensures.err)
-
-pub returns-in_err-fold-clause-err : goal.returns-in_err-fold-clause-err
-returns-in_err-fold-clause-err c = holds-of c.from_residual-in_err-fold.result _ _ c.from_residual-in_err-fold.ensures.1
-    (because c.in_err-fold.field-0.0 _ _ (λ w. inr (inr (inl w))) c.in_err-fold.ensures.err)
-
-pub returns-in_err-top-clause-err : goal.returns-in_err-top-clause-err
-returns-in_err-top-clause-err c = holds-of c.from_residual-in_err-top.result _ _ c.from_residual-in_err-top.ensures.1
-    (because c.in_err-top.field-0.0 _ _ (λ w. inr (inr (inr (inl w)))) c.in_err-top.ensures.err)
 
 pub returns-clause-ok : goal.returns-clause-ok
 returns-clause-ok c =

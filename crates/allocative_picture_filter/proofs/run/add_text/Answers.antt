@@ -1,13 +1,8 @@
 -- of add_text: stops and ok
-use Rattle.std.proofs.Common.{◌+◌, ◌^◌, ◌≤◌, inl, inr, arith}
+use Rattle.std.proofs.Common.{◌+◌, ◌^◌, ◌≤◌, inr, arith}
 use Rattle.allocative_picture_filter.proofs.Common.{total}
 use Rattle.allocative_picture_filter.proofs.Faults.{stops-joining, holds-of}
 use Rattle.allocative_picture_filter.proofs.run.add_text.Goals as goal
-
--- A text that is not read stops the run.
-pub returns-in_err-graph_of-clause-stops : goal.returns-in_err-graph_of-clause-stops
-returns-in_err-graph_of-clause-stops c =
-    holds-of c.from_residual.result _ _ c.from_residual.ensures.1 (inl c.in_err-graph_of.ensures.stops)
 
 -- A graph that is not added stops the run, once its text is read.
 pub returns-in_err-add-clause-stops : goal.returns-in_err-add-clause-stops

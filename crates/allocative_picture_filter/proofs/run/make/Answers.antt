@@ -1,14 +1,8 @@
 -- of make: stops and ok
-use Rattle.std.proofs.Common.{refl, sym, ◌∙◌, inl, inr}
+use Rattle.std.proofs.Common.{◌≡◌, refl, sym, ◌∙◌, arith, inl, inr, true≢false}
 use Rattle.allocative_picture_filter.proofs.Common.{total, IfSome_then}
-use Rattle.allocative_picture_filter.proofs.Faults.{of_each, stops-joining, has-bytes, holds-of, is-empty}
+use Rattle.allocative_picture_filter.proofs.Faults.{stops-joining, holds-of}
 use Rattle.allocative_picture_filter.proofs.run.make.Goals as goal
-
--- What stops the earlier profile stops the run.
-pub returns-in_err-earlier-clause-stops : goal.returns-in_err-earlier-clause-stops
-returns-in_err-earlier-clause-stops g c =
-    holds-of c.from_residual.result _ _ c.from_residual.ensures.1
-    (of_each (g.R.Read.remaining c.args.input.now) (λ known. inl c.in_err-earlier.ensures.stops))
 
 -- What stops the later profile stops the run, once the earlier one is made.
 pub returns-in_err-later-clause-stops : goal.returns-in_err-later-clause-stops
@@ -34,13 +28,15 @@ returns-clause-ok g c =
       later = c.in_ok-later.later;
       earlier_read = c.in_ok-earlier.ensures.ok;
       later_read = up;
-      some = has-bytes c.args.asked.now.not_empty (total c.in_ok-later.later) (sym c.is_refused.ensures ∙ c.if-is_refused.false);
+      some = λ asked.
+          let some : total c.in_ok-later.later ≡ 0 → ⊥ =
+          λ none. true≢false (sym (c.is_refused.ensures.1 (asked, none)) ∙ c.if-is_refused.false) in
+          omega (arith, some);
       shows = rw c.is_change-change.ensures at c.in_ok-made_of.ensures.ok;
     })
 
 pub returns-then-is_refused-clause-stops : goal.returns-then-is_refused-clause-stops
 returns-then-is_refused-clause-stops g c =
-    let refused = is-empty c.args.asked.now.not_empty (total c.in_ok-later.later)
-    (sym c.is_refused.ensures ∙ c.if-is_refused.true) in
+    let refused = c.is_refused.ensures.0 c.if-is_refused.true in
     IfSome_then (g.R.Read.remaining c.args.input.now) c.in_ok-later.ensures.ok
     (λ known up. inr (c.in_ok-earlier.earlier, c.in_ok-earlier.ensures.ok, inr (inl (c.in_ok-later.later, up, refused.0, refused.1, refl))))

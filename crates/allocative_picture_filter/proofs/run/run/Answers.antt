@@ -9,8 +9,3 @@ returns-in_err-made-clause-unwritten g c =
     holds-of c.from_residual.result _ _ c.from_residual.ensures.1
     (λ e. IfSome_then (g.R.Read.remaining c.args.input.now) c.in_err-made.ensures.stops
     (λ known h. absurd (made-unwritten c.args.asked.now c.args.before.now c.args.after.now known (rw e at h))))
-
--- What stops the making stops the run.
-pub returns-in_err-made-clause-stopped : goal.returns-in_err-made-clause-stopped
-returns-in_err-made-clause-stopped g c =
-    holds-of c.from_residual.result _ _ c.from_residual.ensures.1 (λ other. c.in_err-made.ensures.stops)
