@@ -1,5 +1,5 @@
 //! The text of each type of another crate, at a concrete type.
-use crate::texts::{has_room, made, shows};
+use crate::texts::{counted, made, shows};
 use allocative::FlameGraph;
 use either::Either;
 use indexmap::{IndexMap, IndexSet};
@@ -27,11 +27,10 @@ fn set_cell(alloc: Global) -> Result<OnceBox<u64>, AllocError> {
     Ok(cell)
 }
 
-fn two_numbers(alloc: Global) -> Result<Slab<u32>, AllocError> {
-    let mut two = Slab::new(alloc);
-    two.insert(1)?;
-    two.insert(2)?;
-    Ok(two)
+fn slab(alloc: Global) -> Result<Slab<Box<u32>>, AllocError> {
+    let mut slab = Slab::new(alloc);
+    slab.insert(Box::new(alloc, 1)?)?;
+    Ok(slab)
 }
 
 /// Two pairs with room for 100.
@@ -60,62 +59,27 @@ fn values_in_place_and_behind_a_pointer(rt: HostRuntime) -> Result<(), Fail> {
     )?;
     made(alloc, set_cell(alloc), "OnceBox;ptr 8\nOnceBox;ptr;u64 8\n")?;
     let text = "SmallVec 16\nSmallVec;data;u64 8\n";
-    made::<SmallVec<u64, 2>, _>(alloc, [1].into_iter().collect(alloc), text)?;
+    counted::<SmallVec<u64, 2>, _>(alloc, [1].into_iter().collect(alloc), text)?;
     let text = "SmallVec 16\nSmallVec;ptr 8\nSmallVec;ptr;data;u64 24\n";
-    made::<SmallVec<u64, 2>, _>(alloc, [1, 2, 3].into_iter().collect(alloc), text)
+    counted::<SmallVec<u64, 2>, _>(alloc, [1, 2, 3].into_iter().collect(alloc), text)
 }
 
 #[test]
 fn lists_and_tables(rt: HostRuntime) -> Result<(), Fail> {
     let alloc = rt.alloc();
-    let text = "Slab 32\nSlab;ptr 8\nSlab;ptr;u32 8\n";
-    made(alloc, two_numbers(alloc), text)?;
+    let text = "Slab 32\nSlab;ptr 8\nSlab;ptr;Box;ptr 8\nSlab;ptr;Box;ptr;u32 4\n";
+    counted(alloc, slab(alloc), text)?;
     let empty: IndexMap<u64, u64> = IndexMap::new(alloc);
     shows(alloc, &empty, "IndexMap 64\nIndexMap;data 8\n")?;
     let text =
         "IndexMap 56\nIndexMap;data 8\nIndexMap;data;key;u64 8\nIndexMap;data;value;u64 8\nIndexMap;raw_table 8\nIndexMap;raw_table;alloc 36\n";
-    made::<IndexMap<u64, u64>, _>(alloc, [(1, 2)].into_iter().collect(alloc), text)?;
+    counted::<IndexMap<u64, u64>, _>(alloc, [(1, 2)].into_iter().collect(alloc), text)?;
     let text =
         "IndexSet 56\nIndexSet;data 8\nIndexSet;data;value;u16 10\nIndexSet;raw_table 8\nIndexSet;raw_table;alloc 72\n";
-    made::<IndexSet<u16>, _>(alloc, [1, 2, 3, 4, 5].into_iter().collect(alloc), text)?;
+    counted::<IndexSet<u16>, _>(alloc, [1, 2, 3, 4, 5].into_iter().collect(alloc), text)?;
     let text =
         "LruCache 56\nLruCache;ptr 8\nLruCache;ptr;key;u8 2\nLruCache;ptr;value;u64 16\nLruCache;raw_table 8\nLruCache;raw_table;alloc 36\n";
     made(alloc, two_recent(alloc), text)?;
     let text = "FlameGraph 32\nFlameGraph;ptr 8\nFlameGraph;ptr;Child 112\n";
     made(alloc, FlameGraph::read(alloc, "a 1\na;b 2\n"), text)
-}
-
-/// Three bytes with room for 100 more, and the unused room.
-fn roomy_slab(alloc: Global) -> Result<(Slab<u8>, usize), AllocError> {
-    let mut three = Slab::new(alloc);
-    for byte in [1, 2, 3] {
-        three.insert(byte)?;
-    }
-    three.reserve(100)?;
-    let room = three.capacity().wrapping_sub(3);
-    Ok((three, room))
-}
-
-/// Three pairs with room for 100 more, and the unused room of two bytes for each.
-fn roomy_map(alloc: Global) -> Result<(IndexMap<u8, u8>, usize), AllocError> {
-    let mut three: IndexMap<u8, u8> = [(1, 0), (2, 0), (3, 0)].into_iter().collect(alloc)?;
-    three.reserve(100)?;
-    let room = three.capacity().wrapping_sub(3).wrapping_mul(2);
-    Ok((three, room))
-}
-
-/// Three bytes with room for 100 more, and the unused room.
-fn roomy_set(alloc: Global) -> Result<(IndexSet<u8>, usize), AllocError> {
-    let mut three: IndexSet<u8> = [1, 2, 3].into_iter().collect(alloc)?;
-    three.reserve(100)?;
-    let room = three.capacity().wrapping_sub(3);
-    Ok((three, room))
-}
-
-#[test]
-fn lists_and_tables_have_room(rt: HostRuntime) -> Result<(), Fail> {
-    let alloc = rt.alloc();
-    has_room(alloc, roomy_slab(alloc), "Slab;ptr;unused_capacity")?;
-    has_room(alloc, roomy_map(alloc), "IndexMap;data;unused_capacity")?;
-    has_room(alloc, roomy_set(alloc), "IndexSet;data;unused_capacity")
 }

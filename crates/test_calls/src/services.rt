@@ -1,5 +1,5 @@
-//! What no clause of the services says: that nothing is measured too early, what the services show, and the order of
-//! paths that grew alike.
+//! What no clause of the services says: that nothing is measured too early, what the services show, that what leaves a
+//! cache is dropped, and the order of paths that grew alike.
 #![tactic(auto, using(allocative::proofs::Parts::parts))]
 
 ghost use Rattle.allocative.specs.Shows.{Nothing};
@@ -8,10 +8,12 @@ use crate::texts::{is_text, made};
 use allocative::{Allocative, FlameGraph, Part, Refusal, Visitor};
 use allocative_service::cache::BoundedCache;
 use allocative_service::history::{History, compare, grew_most, report};
-use allocative_service::ledger::{Account, Budget, Ledger, Rejection};
+use allocative_service::ledger::{Budget, Ledger, Rejection};
 use allocative_service::measure::Measure;
+use example_types::pointers::PageLink;
 use std::alloc::{AllocError, Global};
 use std::cell::Cell;
+use std::rc::Rc;
 use std::test::Fail;
 
 /// A value without entries that counts its visits.
@@ -65,15 +67,6 @@ fn one_admitted(alloc: Global) -> Result<Ledger, Rejection> {
     Ok(ledger)
 }
 
-/// An account of its own, with one entry.
-fn one_entered(alloc: Global) -> Result<Account, Rejection> {
-    let mut account = Account::new(alloc, Budget { limit: 8 });
-    account.check_free(1)?;
-    Account::enter(&mut account, 1, 8)?;
-    account.change(1, account.entry(1)?)?;
-    Ok(account)
-}
-
 /// A history of one profile, of a number.
 fn one_profile(alloc: Global) -> Result<History, Refusal> {
     let mut history = History::new(alloc, 2);
@@ -91,11 +84,40 @@ fn services_show_what_they_keep(rt: HostRuntime) -> Result<(), Fail> {
         "Ledger 32\nLedger;accounts;BTreeMap 16\nLedger;accounts;BTreeMap;data;key;String 16\nLedger;accounts;BTreeMap;data;key;String;ptr 8\nLedger;accounts;BTreeMap;data;key;String;ptr;capacity;u8 3\nLedger;accounts;BTreeMap;data;value;Account 40\nLedger;accounts;BTreeMap;data;value;Account;entries;BTreeMap 16\nLedger;accounts;BTreeMap;data;value;Account;entries;BTreeMap;data;key;u64 8\nLedger;accounts;BTreeMap;data;value;Account;entries;BTreeMap;data;value;usize 8\nIncorrect size declaration for node `Ledger;accounts;BTreeMap;data`, size of self: 8, size of inline children: 88\nIncorrect size declaration for node `Ledger;accounts;BTreeMap;data;value;Account;entries;BTreeMap;data`, size of self: 8, size of inline children: 16\n";
     made(alloc, one_admitted(alloc), text)?;
     let text =
-        "Account 40\nAccount;entries;BTreeMap 16\nAccount;entries;BTreeMap;data;key;u64 8\nAccount;entries;BTreeMap;data;value;usize 8\nIncorrect size declaration for node `Account;entries;BTreeMap;data`, size of self: 8, size of inline children: 16\n";
-    made(alloc, one_entered(alloc), text)?;
-    let text =
         "History 8\nHistory;profiles;VecDeque 24\nHistory;profiles;VecDeque;ptr 8\nHistory;profiles;VecDeque;ptr;FlameGraph 32\nHistory;profiles;VecDeque;ptr;FlameGraph;ptr 8\nHistory;profiles;VecDeque;ptr;FlameGraph;ptr;Child 56\n";
     made(alloc, one_profile(alloc), text)
+}
+
+/// Inserts a boxed link of 24 bytes that owns the mark. It drops the page that the key had, and those that go.
+fn insert(
+    alloc: Global,
+    pages: &mut BoundedCache<u8, Box<PageLink<u8>>>,
+    key: u8,
+    mark: &Rc<u8>,
+) -> Result<(), AllocError> {
+    let page = mark.clone()?;
+    let link = Box::new(alloc, PageLink { number: 7, page })?;
+    let _kept = pages.insert(key, link, |_key, _page| ());
+    Ok(())
+}
+
+/// The owners of the mark after one of two pages was replaced and then one evicted, and after the cache is cleared.
+fn owners(alloc: Global, mark: &Rc<u8>) -> Result<[usize; 2], AllocError> {
+    let mut pages = BoundedCache::new(alloc, Measure::Unique, 48)?;
+    for key in [1, 2, 2, 3] {
+        insert(alloc, &mut pages, key, mark)?;
+    }
+    let kept = Rc::strong_count(mark);
+    pages.clear();
+    Ok([kept, Rc::strong_count(mark)])
+}
+
+#[test]
+fn what_leaves_a_cache_is_dropped(rt: HostRuntime) -> Result<(), AllocError> {
+    let mark = Rc::new(rt.alloc(), 0)?;
+    let found = owners(rt.alloc(), &mark)?;
+    assert!(rt; found == [3, 1]);
+    Ok(())
 }
 
 /// Changes of three paths, of which two grew alike.

@@ -1,10 +1,11 @@
 //! The text of each type of std at a concrete type.
-use crate::texts::{has_room, made, show, shows};
-use allocative::{IdArc, IdRc, Identity, Refusal, size_of_unique_allocated_data};
+use crate::texts::{counted, made, show, shows};
+use allocative::{IdArc, IdRc, Identity, Refusal};
+use either::Either;
 use std::alloc::{AllocError, Global};
 use std::boxed::{BoxedSlice, BoxedStr};
 use std::cell::{Cell, OnceCell, RefCell};
-use std::collections::{BinaryHeap, HashMap, HashSet, LinkedList, VecDeque};
+use std::collections::{BTreeMap, BTreeSet, BinaryHeap, HashMap, HashSet, LinkedList, VecDeque};
 use std::marker::PhantomData;
 use std::mem::ManuallyDrop;
 use std::net::{IpAddr, Ipv4Addr, Ipv6Addr};
@@ -93,32 +94,13 @@ fn parts_in_place(rt: HostRuntime) -> Result<(), Fail> {
             (&(), ""),
             (&nothing, ""),
             (&(1u8,), "tuple1;0;u8 1\n"),
-            (&(1u8, 2u8), "tuple2;0;u8 1\ntuple2;1;u8 1\n"),
             (&(1u8, 2u32), "tuple2 3\ntuple2;0;u8 1\ntuple2;1;u32 4\n"),
-            (
-                &(1u8, 2u8, 3u8),
-                "tuple3;0;u8 1\ntuple3;1;u8 1\ntuple3;2;u8 1\n",
-            ),
-            (
-                &(1u8, 2u8, 3u8, 4u8),
-                "tuple4;0;u8 1\ntuple4;1;u8 1\ntuple4;2;u8 1\ntuple4;3;u8 1\n",
-            ),
-            (
-                &(1u8, 2u8, 3u8, 4u8, 5u8),
-                "tuple5;0;u8 1\ntuple5;1;u8 1\ntuple5;2;u8 1\ntuple5;3;u8 1\ntuple5;4;u8 1\n",
-            ),
-            (
-                &(1u8, 2u8, 3u8, 4u8, 5u8, 6u8),
-                "tuple6;0;u8 1\ntuple6;1;u8 1\ntuple6;2;u8 1\ntuple6;3;u8 1\ntuple6;4;u8 1\ntuple6;5;u8 1\n",
-            ),
-            (
-                &(1u8, 2u8, 3u8, 4u8, 5u8, 6u8, 7u8),
-                "tuple7;0;u8 1\ntuple7;1;u8 1\ntuple7;2;u8 1\ntuple7;3;u8 1\ntuple7;4;u8 1\ntuple7;5;u8 1\ntuple7;6;u8 1\n",
-            ),
-            (
-                &(1u8, 2u8, 3u8, 4u8, 5u8, 6u8, 7u8, 8u8),
-                "tuple8;0;u8 1\ntuple8;1;u8 1\ntuple8;2;u8 1\ntuple8;3;u8 1\ntuple8;4;u8 1\ntuple8;5;u8 1\ntuple8;6;u8 1\ntuple8;7;u8 1\n",
-            ),
+            (&((), (), 1u8), "tuple3;2;u8 1\n"),
+            (&((), (), (), 1u8), "tuple4;3;u8 1\n"),
+            (&((), (), (), (), 1u8), "tuple5;4;u8 1\n"),
+            (&((), (), (), (), (), 1u8), "tuple6;5;u8 1\n"),
+            (&((), (), (), (), (), (), 1u8), "tuple7;6;u8 1\n"),
+            (&((), (), (), (), (), (), (), 1u8), "tuple8;7;u8 1\n"),
             (&None::<u32>, "Option 8\n"),
             (&Some(1u32), "Option 4\nOption;Some;u32 4\n"),
             (&error, "Result 2\nResult;Err;u16 2\n"),
@@ -166,11 +148,7 @@ fn a_cell_or_a_lock_that_is_held_shows_its_own_entry_alone(rt: HostRuntime) -> R
 fn pointers(rt: HostRuntime) -> Result<(), Fail> {
     let alloc = rt.alloc();
     made(alloc, Ok::<&'static u8, AllocError>(&7), "")?;
-    made(alloc, Box::new(alloc, 1u64), "Box;ptr 8\nBox;ptr;u64 8\n")?;
-    let text = "Option 8\nOption;Some;Box;ptr 8\nOption;Some;Box;ptr;u8 1\n";
-    made(alloc, Box::new(alloc, 1u8).map(Some), text)?;
-    let text = "Rc;ptr 8\nRcInner 16\nRcInner;u64 8\n";
-    made(alloc, IdRc::new(alloc, 1u64, Identity::from(7)), text)?;
+    counted(alloc, Box::new(alloc, 1u64), "Box;ptr 8\nBox;ptr;u64 8\n")?;
     let three = BoxedSlice::from_slice(alloc, &[1u16, 2, 3]);
     made(alloc, three, "Box;ptr 16\nBox;ptr;u16;data;u16 6\n")?;
     let text = BoxedStr::from_str(alloc, "abc");
@@ -200,62 +178,53 @@ fn two_pointers_show_one_content(rt: HostRuntime) -> Result<(), Fail> {
     made(alloc, two_pointers_for_threads(alloc), text)
 }
 
+/// Pairs, one of which points to a number.
+fn pairs(alloc: Global) -> Result<Vec<(u8, Option<Box<u64>>)>, AllocError> {
+    Ok(vec![in alloc; (1, Some(Box::new(alloc, 2)?)), (3, None)]?)
+}
+
+/// Parts of which each has a tally: a text, an `Either` with a `Result`, a pair, a triple of numbers, and four flags.
+type Parts = (
+    String,
+    Either<u8, Result<u8, u16>>,
+    (u8, u8),
+    (u8, u16, u32),
+    (bool, bool, bool, bool),
+);
+
+fn parts(alloc: Global) -> Result<Parts, AllocError> {
+    let text = String::from_str(alloc, "ab")?;
+    let choice = Either::Right(Err(1));
+    Ok((text, choice, (1, 2), (1, 2, 3), (true, true, true, true)))
+}
+
 #[test]
-fn lists_and_tables(rt: HostRuntime) -> Result<(), Fail> {
+fn lists(rt: HostRuntime) -> Result<(), Fail> {
     let alloc = rt.alloc();
-    let text = "Vec 16\nVec;ptr 8\nVec;ptr;u8 3\n";
-    made(alloc, [1u8, 2, 3].to_vec(alloc), text)?;
-    let text = "VecDeque 24\nVecDeque;ptr 8\nVecDeque;ptr;u16 6\n";
-    made::<VecDeque<u16>, _>(alloc, [1, 2, 3].into_iter().collect(alloc), text)?;
-    let text = "String 16\nString;ptr 8\nString;ptr;capacity;u8 2\n";
-    made(alloc, String::from_str(alloc, "ab"), text)?;
+    let text =
+        "Vec 16\nVec;ptr 8\nVec;ptr;tuple2 14\nVec;ptr;tuple2;0;u8 2\nVec;ptr;tuple2;1;Option 24\nVec;ptr;tuple2;1;Option;Some;Box;ptr 8\nVec;ptr;tuple2;1;Option;Some;Box;ptr;u64 8\n";
+    counted(alloc, pairs(alloc), text)?;
+    let text = "VecDeque 24\nVecDeque;ptr 8\nVecDeque;ptr;array 8\n";
+    counted::<VecDeque<[u16; 2]>, _>(alloc, [[1, 2], [3, 4]].into_iter().collect(alloc), text)?;
     let text =
         "LinkedList 16\nLinkedList;ptr 8\nLinkedList;ptr;data;u64 16\nLinkedList;ptr;links 32\n";
     made(alloc, LinkedList::from_array(alloc, [1u64, 2]), text)?;
     let text = "BinaryHeap 16\nBinaryHeap;ptr 8\nBinaryHeap;ptr;u32 8\n";
     made(alloc, BinaryHeap::from_array(alloc, [1u32, 2]), text)?;
-    let text = "HashSet 40\nHashSet;data;key;u32 8\n";
-    made::<HashSet<u32>, _>(alloc, [1, 2].into_iter().collect(alloc), text)?;
-    let text = "HashMap 40\nHashMap;data 4\nHashMap;data;key;u8 2\nHashMap;data;value;u8 2\n";
-    made::<HashMap<u8, u8>, _>(alloc, [(1, 1), (2, 2)].into_iter().collect(alloc), text)
-}
-
-/// Three bytes with room for 100, and the unused room.
-fn roomy_vector(alloc: Global) -> Result<(Vec<u8>, usize), AllocError> {
-    let mut bytes = Vec::with_capacity(alloc, 100)?;
-    bytes.extend_from_slice(&[1, 2, 3])?;
-    let room = bytes.capacity().wrapping_sub(3);
-    Ok((bytes, room))
-}
-
-/// The same.
-fn roomy_deque(alloc: Global) -> Result<(VecDeque<u8>, usize), AllocError> {
-    let mut bytes = VecDeque::with_capacity(alloc, 100)?;
-    bytes.append(&mut [1, 2, 3].into_iter().collect(alloc)?)?;
-    let room = bytes.capacity().wrapping_sub(3);
-    Ok((bytes, room))
-}
-
-/// Three letters with room for 100, and the unused room.
-fn roomy_text(alloc: Global) -> Result<(String, usize), AllocError> {
-    let mut text = String::with_capacity(alloc, 100)?;
-    text.push_str("abc")?;
-    let room = text.capacity().wrapping_sub(3);
-    Ok((text, room))
+    let text =
+        "tuple5 4\ntuple5;0;String 16\ntuple5;0;String;ptr 8\ntuple5;0;String;ptr;capacity;u8 2\ntuple5;1;Either 2\ntuple5;1;Either;Right;Result 2\ntuple5;1;Either;Right;Result;Err;u16 2\ntuple5;2;tuple2;0;u8 1\ntuple5;2;tuple2;1;u8 1\ntuple5;3;tuple3 1\ntuple5;3;tuple3;0;u8 1\ntuple5;3;tuple3;1;u16 2\ntuple5;3;tuple3;2;u32 4\ntuple5;4;tuple4;0;bool 1\ntuple5;4;tuple4;1;bool 1\ntuple5;4;tuple4;2;bool 1\ntuple5;4;tuple4;3;bool 1\n";
+    counted(alloc, parts(alloc), text)
 }
 
 #[test]
-fn lists_have_room_and_hold_it(rt: HostRuntime) -> Result<(), Fail> {
+fn tables(rt: HostRuntime) -> Result<(), Fail> {
     let alloc = rt.alloc();
-    has_room(alloc, roomy_vector(alloc), "Vec;ptr;unused_capacity")?;
-    has_room(alloc, roomy_deque(alloc), "VecDeque;ptr;unused_capacity")?;
-    has_room(
-        alloc,
-        roomy_text(alloc),
-        "String;ptr;capacity;unused_capacity",
-    )?;
-    let (bytes, room) = roomy_vector(alloc)?;
-    let is_held = size_of_unique_allocated_data(&bytes) == Ok(room.wrapping_add(3));
-    assert!(rt; is_held);
-    Ok(())
+    let text = "HashSet 40\nHashSet;data;key;u32 8\n";
+    counted::<HashSet<u32>, _>(alloc, [1, 2].into_iter().collect(alloc), text)?;
+    let text = "HashMap 40\nHashMap;data 4\nHashMap;data;key;u8 2\nHashMap;data;value;u8 2\n";
+    counted::<HashMap<u8, u8>, _>(alloc, [(1, 1), (2, 2)].into_iter().collect(alloc), text)?;
+    let text = "BTreeSet 16\nBTreeSet;data;key;u32 8\n";
+    counted::<BTreeSet<u32>, _>(alloc, [1, 2].into_iter().collect(alloc), text)?;
+    let text = "BTreeMap 16\nBTreeMap;data 4\nBTreeMap;data;key;u8 2\nBTreeMap;data;value;u8 2\n";
+    counted::<BTreeMap<u8, u8>, _>(alloc, [(1, 1), (2, 2)].into_iter().collect(alloc), text)
 }

@@ -2,6 +2,8 @@
 use allocative::{
     Allocative, FlameGraph, FlameGraphBuilder, FlameGraphOutput, Refusal, profile_value,
 };
+use allocative_tally::profile::profile_counted;
+use allocative_tally::tally::Tallied;
 use std::alloc::Global;
 use std::test::Fail;
 
@@ -18,13 +20,7 @@ pub(crate) fn is_graph(graph: &FlameGraph, want: &str, total: usize) -> Result<(
     if graph.total_size() != total {
         return Err(Fail::new("another total"));
     }
-    let text = graph.write()?;
-    is_text(text.as_str(), want)
-}
-
-/// Whether a line is one of unused capacity.
-fn is_unused(line: &str) -> bool {
-    line.contains(";unused_capacity ")
+    is_text(graph.write()?.as_str(), want)
 }
 
 /// The text of an output, followed by its warnings.
@@ -39,7 +35,7 @@ pub(crate) fn is_output(output: &FlameGraphOutput, want: &str) -> Result<(), Fai
     let text = text_of(output)?;
     if text
         .lines()
-        .filter(|line| !is_unused(line))
+        .filter(|line| !line.contains(";unused_capacity "))
         .eq(want.lines())
     {
         return Ok(());
@@ -59,11 +55,8 @@ pub(crate) fn shows(alloc: Global, root: &dyn Allocative, want: &str) -> Result<
     is_output(&output_of(alloc, root)?, want)
 }
 
-/// A value and its text.
-pub(crate) type Row<'a> = (&'a dyn Allocative, &'a str);
-
 /// Fails if one visit of one of some values has another text.
-pub(crate) fn show(alloc: Global, rows: &[Row<'_>]) -> Result<(), Fail> {
+pub(crate) fn show(alloc: Global, rows: &[(&dyn Allocative, &str)]) -> Result<(), Fail> {
     for &(root, want) in rows {
         shows(alloc, root, want)?;
     }
@@ -82,24 +75,15 @@ pub(crate) fn made<T: Allocative, E: Drop>(
     is_output(&profile_value(alloc, &value)?, want)
 }
 
-/// Fails if a value was not made, or does not have exactly one line of unused capacity, or if that is another one.
-pub(crate) fn has_room<T: Allocative, E: Drop>(
+/// Fails if a value was not made, or if it has another text, entered at once or counted first.
+pub(crate) fn counted<T: Tallied, E: Drop>(
     alloc: Global,
-    made: Result<(T, usize), E>,
-    path: &str,
+    made: Result<T, E>,
+    want: &str,
 ) -> Result<(), Fail> {
-    let Ok((value, room)) = made else {
+    let Ok(value) = made else {
         return Err(Fail::new("no value"));
     };
-    let text = text_of(&profile_value(alloc, &value)?)?;
-    let line = format!(in alloc; "{path} {room}")?;
-    if room > 0
-        && text
-            .lines()
-            .filter(|line| is_unused(line))
-            .eq([line.as_str()])
-    {
-        return Ok(());
-    }
-    Err(Fail::new(text.as_str()))
+    is_output(&profile_value(alloc, &value)?, want)?;
+    is_output(&profile_counted(alloc, &value)?, want)
 }

@@ -1,5 +1,5 @@
 //! The text of types by hand, of `example_types`, and of those whose implementations `bin/implement` wrote.
-use crate::texts::{is_output, is_text, made, show};
+use crate::texts::{counted, is_output, is_text, made, show};
 use allocative::{Key, Named as Root, Refusal, profile_values};
 use bytes::Bytes;
 use example_types::enums::Request;
@@ -13,7 +13,7 @@ use example_types::structs::{Named, Point};
 use example_types::trees::Tree;
 use example_types::wrappers::{Day, Document, Weather};
 use std::alloc::{AllocError, Global};
-use std::collections::{BTreeMap, HashMap};
+use std::collections::BTreeMap;
 use std::net::{IpAddr, Ipv4Addr, SocketAddr};
 use std::path::PathBuf;
 use std::rc::Rc;
@@ -21,7 +21,7 @@ use std::sync::{Mutex, RwLock};
 use std::test::Fail;
 use test_generated_types::placed::OfOne;
 use test_generated_types::received::Received;
-use test_generated_types::types::{Event, Found, Job, Json, Payload, Placed, Table, Trigger};
+use test_generated_types::types::{Event, Found, Json, Placed};
 use url::Url;
 use uuid::Uuid;
 
@@ -167,6 +167,8 @@ fn received(alloc: Global) -> Result<Received, AllocError> {
 
 fn event(alloc: Global) -> Result<Event, AllocError> {
     Ok(Event::Sale {
+        place: (1, 2),
+        weight: 0.5,
         shelf: 3,
         prices: vec![in alloc; 4, 5]?,
     })
@@ -180,22 +182,6 @@ fn json(alloc: Global) -> Result<Json, AllocError> {
     })
 }
 
-/// A job that starts once another one is done.
-fn job(alloc: Global) -> Result<Job, AllocError> {
-    let first = Job {
-        payload: Payload::Nothing,
-        earlier_by_number: HashMap::new(alloc),
-    };
-    let trigger = Trigger::Done {
-        job: Box::new(alloc, first)?,
-        within_seconds: 5,
-    };
-    Ok(Job {
-        payload: Payload::Done(Some(trigger)),
-        earlier_by_number: HashMap::new(alloc),
-    })
-}
-
 #[test]
 fn written_types(rt: HostRuntime) -> Result<(), Fail> {
     let alloc = rt.alloc();
@@ -203,22 +189,13 @@ fn written_types(rt: HostRuntime) -> Result<(), Fail> {
         "Received 7\nReceived;body;Bytes 24\nReceived;body;Bytes;ptr 8\nReceived;body;Bytes;ptr;u8 4\nReceived;callback;Url 80\nReceived;callback;Url;ptr 8\nReceived;callback;Url;ptr;u8 9\nReceived;file;PathBuf 16\nReceived;file;PathBuf;ptr 8\nReceived;file;PathBuf;ptr;u8 3\nReceived;id;Uuid 16\nReceived;peer;SocketAddr 32\nReceived;tried;Option 17\n";
     made(alloc, received(alloc), text)?;
     let text =
-        "Event 8\nEvent;Sale;prices;Vec 16\nEvent;Sale;prices;Vec;ptr 8\nEvent;Sale;prices;Vec;ptr;u64 16\nEvent;Sale;shelf;u64 8\n";
-    made(alloc, event(alloc), text)?;
-    let table: Table<u32, u16> = Table {
-        values: HashMap::new(alloc),
-        last: 1,
-    };
-    let text = "Table 6\nTable;last;u16 2\nTable;values;HashMap 40\nTable;values;HashMap;data 8\n";
-    made(alloc, Ok::<_, AllocError>(table), text)?;
+        "Event 8\nEvent;Sale 8\nEvent;Sale;place 16\nEvent;Sale;prices;Vec 16\nEvent;Sale;prices;Vec;ptr 8\nEvent;Sale;prices;Vec;ptr;u64 16\nEvent;Sale;shelf;u64 8\n";
+    counted(alloc, event(alloc), text)?;
     let found: Found<'static, 2> = Found(1, 2, 3, [4, 5], BTreeMap::new(alloc), 0.5, "ab");
     let text =
         "Found 21\nFound;0;u8 1\nFound;1;u8 1\nFound;2;u8 1\nFound;3;u32;data;u32 8\nFound;4;BTreeMap 16\nFound;4;BTreeMap;data 8\nFound;5 8\n";
     made(alloc, Ok::<_, AllocError>(found), text)?;
     let text =
         "Json 8\nJson;Pair;first;Option 8\nJson;Pair;first;Option;Some;Box;ptr 8\nJson;Pair;first;Option;Some;Box;ptr;Json 48\nJson;Pair;rest;Vec 16\nJson;Pair;rest;Vec;ptr 8\nJson;Pair;rest;Vec;ptr;Json 24\nJson;Pair;rest;Vec;ptr;Json;Table;BTreeMap 16\nJson;Pair;rest;Vec;ptr;Json;Table;BTreeMap;data 8\n";
-    made(alloc, json(alloc), text)?;
-    let text =
-        "Job;earlier_by_number;HashMap 40\nJob;earlier_by_number;HashMap;data 8\nJob;payload;Payload 8\nJob;payload;Payload;Done;Option 8\nJob;payload;Payload;Done;Option;Some;Trigger 8\nJob;payload;Payload;Done;Option;Some;Trigger;Done;job;Box;ptr 8\nJob;payload;Payload;Done;Option;Some;Trigger;Done;job;Box;ptr;Job;earlier_by_number;HashMap 40\nJob;payload;Payload;Done;Option;Some;Trigger;Done;job;Box;ptr;Job;earlier_by_number;HashMap;data 8\nJob;payload;Payload;Done;Option;Some;Trigger;Done;job;Box;ptr;Job;payload;Payload 40\nJob;payload;Payload;Done;Option;Some;Trigger;Done;within_seconds;u64 8\n";
-    made(alloc, job(alloc), text)
+    made(alloc, json(alloc), text)
 }

@@ -4,23 +4,17 @@
 use crate::forest::Forest;
 use crate::notation::{push_roots, root_of};
 use crate::row::{Row, Wanted, cut, held_of, refusal_of};
-use crate::run_modes::{RunMode, collect};
-use crate::shown::Shown;
+use crate::shown::{Shown, show, show_in_two};
 use allocative::{Part, Refusal, size_of_entries, size_of_unique, size_of_unique_allocated_data};
 use std::alloc::Global;
 use std::io::{self, ErrorKind};
 
-/// Prints what the roots of a row answer in a mode.
-fn tell(
-    rt: &impl Print,
-    row: Row,
-    mode: RunMode,
-    answer: &Result<Shown, Refusal>,
-) -> io::Result<()> {
+/// Prints what the roots of a row answer.
+fn tell(rt: &impl Print, row: Row, answer: &Result<Shown, Refusal>) -> io::Result<()> {
     let name = row.name();
     match answer {
-        Ok(shown) => println!(rt; "{name}: {mode:?}: {shown:?}"),
-        Err(refusal) => println!(rt; "{name}: {mode:?}: {refusal}"),
+        Ok(shown) => println!(rt; "{name}: {shown:?}"),
+        Err(refusal) => println!(rt; "{name}: {refusal}"),
     }
 }
 
@@ -32,45 +26,35 @@ fn is_wanted(answer: &Result<Shown, Refusal>, wanted: Wanted, warnings: &str) ->
     }
 }
 
-/// What the roots of a row answer in a mode, in their order or in the opposite one.
-fn answer_of(
-    alloc: Global,
-    row: Row,
-    is_reversed: bool,
-    mode: RunMode,
-) -> io::Result<Result<Shown, Refusal>> {
+/// What the roots of a row answer in one collection, in their order or in the opposite one.
+fn answer_of(alloc: Global, row: Row, is_reversed: bool) -> io::Result<Result<Shown, Refusal>> {
     let mut roots = Vec::new(alloc);
     push_roots(alloc, &mut roots, row.roots())?;
-    let left = roots.len();
     push_roots(alloc, &mut roots, row.section("right"))?;
     if is_reversed {
         roots.reverse();
     }
-    Ok(collect(alloc, roots, left, mode))
+    Ok(show(alloc, roots))
 }
 
-/// The modes of one collection.
-const ONE: [RunMode; 2] = [RunMode::ByHand, RunMode::Registered];
+/// What the roots of a row answer in two collections.
+fn answer_in_two(alloc: Global, row: Row) -> io::Result<Result<Shown, Refusal>> {
+    let (mut left, mut right) = (Vec::new(alloc), Vec::new(alloc));
+    push_roots(alloc, &mut left, row.roots())?;
+    push_roots(alloc, &mut right, row.section("right"))?;
+    Ok(show_in_two(alloc, &left, &right))
+}
 
-/// The modes of two collections.
-const TWO: [RunMode; 2] = [RunMode::Added, RunMode::InTwo];
-
-/// Whether the roots answer as they have to in each of these modes.
+/// Whether the roots answer as they have to. If not, it prints what they answer.
 fn is_answered(
     rt: &impl Print,
-    alloc: Global,
     row: Row,
-    is_reversed: bool,
-    modes: &[RunMode],
+    answer: &Result<Shown, Refusal>,
     wanted: Wanted,
 ) -> io::Result<bool> {
-    let mut is_right = true;
-    for &mode in modes {
-        let answer = answer_of(alloc, row, is_reversed, mode)?;
-        if !is_wanted(&answer, wanted, row.section("warnings")) {
-            is_right = false;
-            tell(rt, row, mode, &answer)?;
-        }
+    let is_right = is_wanted(answer, wanted, row.section("warnings"));
+    if !is_right {
+        tell(rt, row, answer)?;
     }
     Ok(is_right)
 }
@@ -107,13 +91,13 @@ fn is_right_section(
     lines: &'static str,
 ) -> io::Result<bool> {
     match heading {
-        "text" => is_answered(rt, alloc, row, false, &ONE, Wanted::Text(lines)),
-        "reversed" => is_answered(rt, alloc, row, true, &ONE, Wanted::Text(lines)),
+        "text" => is_answered(rt, row, &answer_of(alloc, row, false)?, Wanted::Text(lines)),
+        "reversed" => is_answered(rt, row, &answer_of(alloc, row, true)?, Wanted::Text(lines)),
         "refused" => {
             let wanted = Wanted::Refused(refusal_of(lines)?);
-            is_answered(rt, alloc, row, false, &ONE, wanted)
+            is_answered(rt, row, &answer_of(alloc, row, false)?, wanted)
         }
-        "sum" => is_answered(rt, alloc, row, false, &TWO, Wanted::Text(lines)),
+        "sum" => is_answered(rt, row, &answer_in_two(alloc, row)?, Wanted::Text(lines)),
         "held" => is_held(rt, alloc, row, lines),
         "right" | "warnings" => Ok(true),
         _ => Err(ErrorKind::InvalidData.into()),

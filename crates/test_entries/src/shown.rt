@@ -1,5 +1,7 @@
 //! What the roots of a row show, and whether it is what the row wants.
-use allocative::{FlameGraph, FlameGraphOutput, Refusal};
+use crate::forest::Forest;
+use allocative::{FlameGraph, FlameGraphOutput, Refusal, Registry, profile_in_two, profile_roots};
+use std::alloc::Global;
 
 /// The text and the total of a graph, and of a whole output the warnings.
 #[derive(Debug, Drop)]
@@ -10,7 +12,7 @@ pub(crate) struct Shown {
 }
 
 /// What a graph shows.
-pub(crate) fn graph_shown(graph: FlameGraph) -> Result<Shown, Refusal> {
+fn graph_shown(graph: FlameGraph) -> Result<Shown, Refusal> {
     Ok(Shown {
         text: graph.write()?,
         total: graph.total_size(),
@@ -18,13 +20,31 @@ pub(crate) fn graph_shown(graph: FlameGraph) -> Result<Shown, Refusal> {
     })
 }
 
-/// What an output shows.
-pub(crate) fn output_shown(output: FlameGraphOutput) -> Result<Shown, Refusal> {
+fn registered(alloc: Global, roots: Vec<Forest>) -> Result<FlameGraphOutput, Refusal> {
+    let mut registry = Registry::new(alloc);
+    for root in roots {
+        registry.add_root(Box::new(alloc, root)?)?;
+    }
+    profile_roots(&registry)
+}
+
+/// What roots show in one collection.
+pub(crate) fn show(alloc: Global, roots: Vec<Forest>) -> Result<Shown, Refusal> {
+    let output = registered(alloc, roots)?;
     let warnings = Some(output.warnings()?);
     Ok(Shown {
         warnings,
         ..graph_shown(output.into_flamegraph())?
     })
+}
+
+/// What roots show in two collections, whose graphs are added.
+pub(crate) fn show_in_two(
+    alloc: Global,
+    left: &[Forest],
+    right: &[Forest],
+) -> Result<Shown, Refusal> {
+    graph_shown(profile_in_two(alloc, left, right)?)
 }
 
 /// Whether a text has these lines and no other, each with its line feed.

@@ -12,6 +12,4 @@ mod graphs;
 mod json;
 pub mod names;
 #[cfg(test)]
-mod program;
-#[cfg(test)]
 mod registries;

@@ -1,14 +1,13 @@
 //! Registries and whole runs after a refused growth.
 #![tactic(auto, using(allocative::proofs::Parts::parts))]
 
-ghost use Rattle.std.specs.Prelude.{codes, Some};
 ghost use Rattle.allocative.specs.Shows as shows;
 
-use crate::assertions::{assert_count, assert_output, assert_refused, assert_text, boxed};
+use crate::assertions::{assert_count, assert_output, assert_refused, assert_text, boxed, made};
 use crate::builders::{assert_visited, new_builder};
 use allocative::{
-    Allocative, Field, IdArc, IdRc, Identity, Inside, Part, Refusal, Registry, Visitor,
-    profile_in_two, profile_roots,
+    Allocative, IdArc, IdRc, Identity, Part, Refusal, Registry, Visitor, profile_in_two,
+    profile_roots,
 };
 use std::alloc::AllocGlobal;
 use std::collections::BTreeMap;
@@ -32,21 +31,6 @@ fn registering_is_refused(rt: HostRuntime) {
     assert_output(&rt, profile_roots(&registry), "Option 8\nu32 4\n", "");
 }
 
-/// Shows `TestGlobalRoot 4 {x 4 {u32 4}}`.
-#[derive(Drop)]
-struct TestGlobalRoot {
-    x: u32,
-}
-
-impl Allocative for TestGlobalRoot {
-    ghost may_show = { λ _. shows.Inside (codes "TestGlobalRoot") 4
-        (shows.Field (codes "x") (Some 4) (shows.Field (codes "u32") (Some 4) shows.Nothing)) };
-
-    fn visit(&self, visitor: &mut Visitor<'_>) -> Result<(), Refusal> {
-        Inside("TestGlobalRoot", 4, Field("x", &self.x)).enter(visitor)
-    }
-}
-
 /// Asserts that a root was refused, and that there is no other.
 fn assert_no_root(rt: &impl Abort, registry: &Registry, refusal: Refusal) {
     assert_refused(rt, refusal);
@@ -56,30 +40,21 @@ fn assert_no_root(rt: &impl Abort, registry: &Registry, refusal: Refusal) {
 #[test]
 fn global_roots_are_refused(rt: HostRuntime) {
     let mut registry = Registry::new(rt.alloc());
-    match registry.add_root(boxed(&rt, TestGlobalRoot { x: 1 })) {
+    match registry.add_root(boxed(&rt, Some(7u32))) {
         Ok(()) => {
             let mut builder = new_builder(&rt);
             let visited = builder.visit_global_roots(&registry);
-            assert_visited(&rt, builder, visited, "TestGlobalRoot;x;u32 4\n");
+            assert_visited(&rt, builder, visited, "Option 4\nOption;Some;u32 4\n");
         }
         Err(refusal) => assert_no_root(&rt, &registry, refusal),
     }
 }
 
-/// A map of one pair. A refused insertion changes nothing.
-fn map_of_one(rt: &(impl Abort + AllocGlobal)) -> BTreeMap<u64, u64> {
-    let mut map = BTreeMap::new(rt.alloc());
-    if map.insert(1, 2).is_err() {
-        assert_count(rt, map.len(), 0);
-        assert!(rt; map.insert(1, 2).is_ok());
-    }
-    map
-}
-
 #[test]
 fn a_map_is_refused(rt: HostRuntime) {
+    let map: BTreeMap<u64, u64> = made(&rt, || Ok([(1, 2)].into_iter().collect(rt.alloc())?));
     let mut registry = Registry::new(rt.alloc());
-    match registry.add_root(boxed(&rt, map_of_one(&rt))) {
+    match registry.add_root(boxed(&rt, map)) {
         Ok(()) => assert_output(
             &rt,
             profile_roots(&registry),
@@ -112,14 +87,6 @@ impl Allocative for Marked {
     }
 }
 
-/// A mark with one owner.
-fn new_mark(rt: &(impl Abort + AllocGlobal)) -> Rc<()> {
-    match Rc::new(rt.alloc(), ()) {
-        Ok(made) => made,
-        Err(_) => Rc::new(rt.alloc(), ()).expect(rt, "a mark"),
-    }
-}
-
 /// A value that owns the mark too.
 fn with_mark(rt: &impl Abort, mark: &Rc<()>) -> Marked {
     Marked {
@@ -140,7 +107,7 @@ fn assert_kept_or_dropped<T: Drop>(rt: &impl Abort, mark: &Rc<()>, taken: Result
 
 #[test]
 fn refused_values_are_dropped(rt: HostRuntime) {
-    let mark = new_mark(&rt);
+    let mark = made(&rt, || Ok(Rc::new(rt.alloc(), ())?));
     let shared = IdRc::new(rt.alloc(), with_mark(&rt, &mark), Identity::from(1));
     assert_kept_or_dropped(&rt, &mark, shared);
     let shared = IdArc::new(rt.alloc(), with_mark(&rt, &mark), Identity::from(2));
