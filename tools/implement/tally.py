@@ -223,8 +223,6 @@ class Tally:
             if part.is_own:
                 value = f"OwnTally {{\n{' ' * 16}count: 0,\n{' ' * 16}values: {value},\n{' ' * 12}}}"
             lines += f"{' ' * 12}{part.name}: {value},\n"
-        if len(self.kept) == 1 and not self.kept[0].is_own:
-            return f"{INDENT}{self.name} {{ {lines.strip()[:-1]} }}\n"
         return f"{INDENT}{self.name} {{\n{lines}{INDENT}}}\n" if lines else f"{INDENT}{self.name} {{}}\n"
 
     def entering(self) -> str:
