@@ -7,7 +7,7 @@ use Rattle.allocative.proofs.Common.{Inside, Field, each_shows}
 use Rattle.allocative_graph.specs.Owned.{direct}
 use Rattle.allocative_graph.proofs.Owned.{direct-following}
 use Rattle.allocative.proofs.Strict.{followed_by-empty, followed_by_assoc}
-use Rattle.allocative_tally.specs.{IsPlain, Merged, Width, Unique, Wide, Narrow, is_unique, HasWidth, Shape, NoEntry}
+use Rattle.allocative_tally.specs.{IsPlain, Merged, Width, Unique, Wide, is_unique, HasWidth, Shape, NoEntry}
 use Rattle.allocative_tally.specs.{Beside, EntryAt, forest_of, Holds, IsRight, entry_counted, top_bytes, is_there}
 use Rattle.allocative_tally.specs.{weight, ShownAs, IsWithin, AddsEntry, both_bounds, weight_entry, as_itself}
 use Rattle.allocative_tally.specs.Tallies.{Tallies}
