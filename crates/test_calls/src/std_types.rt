@@ -1,6 +1,6 @@
 //! The text of each type of std at a concrete type.
 use crate::texts::{counted, made, show, shows};
-use allocative::{IdArc, IdRc, Identity, Refusal};
+use allocative::{IdArc, IdRc, Identity, Refusal, shared_inner_size};
 use either::Either;
 use std::alloc::{AllocError, Global};
 use std::boxed::{BoxedSlice, BoxedStr};
@@ -227,4 +227,9 @@ fn tables(rt: HostRuntime) -> Result<(), Fail> {
     counted::<BTreeSet<u32>, _>(alloc, [1, 2].into_iter().collect(alloc), text)?;
     let text = "BTreeMap 16\nBTreeMap;data 4\nBTreeMap;data;key;u8 2\nBTreeMap;data;value;u8 2\n";
     counted::<BTreeMap<u8, u8>, _>(alloc, [(1, 1), (2, 2)].into_iter().collect(alloc), text)
+}
+
+#[test]
+fn two_counts_stand_before_a_shared_value(rt: HostRuntime) {
+    assert!(rt; shared_inner_size::<u8>() == Some(24));
 }
