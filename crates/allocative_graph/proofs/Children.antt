@@ -3,7 +3,7 @@
 use Rattle.std.proofs.Common.{◌≡◌, ℕ, ◌+◌, ◌<◌, List, [], ◌∷◌, ◌++◌, length, take, get_or, refl, ap, ◌∙◌, arith, sum_by}
 use Rattle.std.proofs.Common.{append-nil, inl, inr, true, false, Option, None, sym, subst, subst₂, ◌-◌, Result, Ok, Err}
 use Rattle.std.proofs.Common.{IfOk, IfErr, IsTrue, cond, Some, ◌≤◌, ◌&&◌, Bool, length-append, append_assoc, true≢false}
-use Rattle.std.proofs.Common.{is_ok, zero, suc, set}
+use Rattle.std.proofs.Common.{is_ok, zero, suc, set, ⊎_elim}
 use Rattle.allocative_graph.proofs.Common.{entries, Child, Path, total, rows_of, rows_of_child, total_of, take_more}
 use Rattle.allocative_graph.proofs.Common.{flat_map-append, fold-map, sum_by-cons, is_some, eq_by_cmp, is_eq, get, Key}
 use Rattle.allocative_graph.proofs.Common.{key_cmp, Less, default, size_under, AddsUp, AddsUpInPart, AllAbove}
@@ -14,7 +14,6 @@ use Rattle.allocative_graph.proofs.Common.{find, under, under_rows, node, path_c
 use Rattle.allocative_graph.proofs.Common.{entries-from_sorted, put, insert, len, len-child, Graph, Added, Merged}
 use Rattle.allocative_graph.proofs.Common.{sum_by-append, All, Equal-is, tied_then, exact_bytes, MergesFirst}
 use Rattle.std.specs.List.Sorted.{IsStrictlySortedBy, IsSearchInRange, IsBinarySearchResult, IsNonDecreasingBy}
-use Rattle.std.specs.List.Sorted.{IsSortedBy}
 use Rattle.std.proofs.lemmas.List.Sums.{sum_by-set, sum_by-insert, get_or-le-sum_by}
 use Rattle.std.specs.List.{insert as insert_at}
 use Rattle.std.proofs.lemmas.List.Recursion.{found_nowhere}
@@ -25,6 +24,7 @@ use Rattle.std.proofs.lemmas.Map.Keys.{Less-from_sorted}
 use Rattle.std.specs.declared.cmp.Ordering.{Ordering}
 use Rattle.std.proofs.lemmas.List.Sorted.{searchable_from_sorted}
 use Rattle.std.specs.Ordering.{ordering_index}
+use Rattle.std.proofs.lemmas.Bool.{cases_lt}
 use Rattle.std.specs.Option.{option_or, option_to_list}
 use Rattle.std.specs.Result.{result_and}
 use Rattle.allocative_graph.specs.Representation.Children.{front_order}
@@ -135,19 +135,11 @@ rises cs i j d o low high = subst₂ (λ a b. key_cmp a b ≡ Less)
     (get_or-map (λ (c : Child). c.key) cs i d [] (omega arith)) (get_or-map (λ (c : Child). c.key) cs j d [] high)
     (Less-from_sorted key_cmp (keys_of cs) i j [] o low (omega (arith, length-map {B = Key} cs (λ c. c.key))))
 
--- An ordering with the index 0 is `Less`.
-first_index : (o : Ordering) → ordering_index o ≡ 0 → o ≡ Less
-first_index Less e = refl
-first_index Equal e = absurd (omega arith)
-first_index Greater e = absurd (omega arith)
-
 module _ (cs : List Child) (o : InOrder cs) (k : Key) where
-  sorted : IsSortedBy (λ (a b : Child). is_lt (key_cmp a.key b.key)) cs
-  sorted i d low high = ap is_lt (nat_list_cmp_total.antisymm (get_or cs (i + 1) d).key (get_or cs i d).key
-      ∙ ap ordering_reverse (rises cs i (i + 1) d o (omega arith) high))
-
   comparisons_rise : IsNonDecreasingBy (λ (c : Child). ordering_index (key_cmp c.key k)) cs
-  comparisons_rise = searchable_from_sorted nat_list_cmp_total (λ (c : Child). c.key) cs k sorted
+  comparisons_rise = searchable_from_sorted nat_list_cmp_total (λ (c : Child). c.key) cs k
+      (λ i d low high. ap is_lt (nat_list_cmp_total.antisymm (get_or cs (i + 1) d).key (get_or cs i d).key
+      ∙ ap ordering_reverse (rises cs i (i + 1) d o (omega arith) high)))
 
   pub searched : (r : Result ℕ ℕ) → IsSearchInRange r (length cs) →
       IsBinarySearchResult (λ (c : Child). key_cmp c.key k) cs r →
@@ -161,9 +153,11 @@ module _ (cs : List Child) (o : InOrder cs) (k : Key) where
   pub below_last : (d e : Child) (j : ℕ) → d ≡ get_or cs (length cs - 1) d → key_cmp d.key k ≡ Less → j < length cs →
       key_cmp (get_or cs j e).key k ≡ Less
   below_last d e j last less w =
-      let lower : ordering_index (key_cmp (get_or cs (length cs - 1) e).key k) ≡ 0 = ap ordering_index
-      (subst (λ (c : Child). key_cmp c.key k ≡ Less) (last ∙ get_or_default cs (length cs - 1) d e (omega arith)) less) in
-      first_index _ (omega (arith, comparisons_rise j (length cs - 1) e (omega arith) (omega arith), lower))
+      let top : key_cmp (get_or cs (length cs - 1) e).key k ≡ Less =
+      subst (λ (c : Child). key_cmp c.key k ≡ Less) (last ∙ get_or_default cs (length cs - 1) d e (omega arith)) less in
+      ⊎_elim (λ low. nat_list_cmp_total.trans (get_or cs j e).key (get_or cs (length cs - 1) e).key k
+      (rises cs j (length cs - 1) e o low (omega arith)) top)
+      (λ high. subst (λ i. key_cmp (get_or cs i e).key k ≡ Less) (omega arith) top) (cases_lt j (length cs - 1))
 
 -- The child at the last place is the same whatever is read behind the end.
 pub at_last : (cs : List Child) (d x : Child) → 0 < length cs → d ≡ get_or cs (length cs - 1) d →
@@ -275,9 +269,7 @@ module _ (P : Option ℕ → Option ℕ → Option ℕ → Type 0) (c : Child) (
 
   at_both : (d : Child) (g : Graph) → d.key ≡ c.key → P (get c.graph p) (get d.graph p) (get g p) →
       P (size_under (c ∷ cs) k p) (size_under (d ∷ ds) k p) (size_under (with_graph c g ∷ es) k p)
-  at_both d g same one = subst (λ l. P (size_under (c ∷ cs) k p)
-      (cond (eq_by_cmp key_cmp k l) (get d.graph p) (size_under ds k p)) (size_under (with_graph c g ∷ es) k p))
-      (sym same)
+  at_both d g same one = rw same
       (on_test (λ t. P (cond t (get c.graph p) (size_under cs k p)) (cond t (get d.graph p) (size_under ds k p))
       (cond t (get g p) (size_under es k p))) (eq_by_cmp key_cmp k c.key) (λ e. one) (λ e. rest))
 
@@ -396,8 +388,7 @@ merges_all {all = all} {cs = cs} {ds = ds} {out = out} m c d =
 
 -- Two results one after another are Ok exactly if each of them is.
 pub is_ok-and : {E : Type 0} (r s : Result (Unit {0}) E) → is_ok (result_and r s) ≡ (is_ok r && is_ok s)
-is_ok-and (Ok x) s = refl
-is_ok-and (Err e) s = refl
+is_ok-and r s = grind arith
 
 -- ---- what is taken off the front
 -- If what was taken off the front of a list is x, the list is x followed by the rest.

@@ -1,5 +1,5 @@
 -- The laws of the definitions, each from the lemmas on what it is about, and the lemmas that the functions cite.
-use Rattle.std.proofs.Common.{◌≡◌, ℕ, false, true, List, ◌∷◌, [], true≢false, refl, sym, ◌∙◌}
+use Rattle.std.proofs.Common.{◌≡◌, ℕ, false, true, List, ◌∷◌, [], true≢false, refl, ap, sym, ◌∙◌}
 use Rattle.allocative_graph.proofs.Common.{contains-insert, contains-empty, identity_cmp, all, codes, Forest}
 use Rattle.allocative_graph.proofs.Common.{text_of_entries, nat_cmp-IsAntisymmetric, slice_cmp-IsAntisymmetric, key_cmp}
 use Rattle.allocative_graph.proofs.Common.{tied_itself, nat_cmp}
@@ -9,9 +9,8 @@ use Rattle.std.specs.FinSet.{empty}
 use Rattle.allocative_graph.specs.Laws.{ReadLaw, PathOrderLaw, GraphSumsLaw, GraphLaw}
 use Rattle.allocative_graph.specs.WorkedExamples.{Prints, WorkedExamples, one, part_inline, part_unique}
 use Rattle.allocative_graph.proofs.Basics.{identity_total, order, key_itself}
-use Rattle.allocative_graph.proofs.Computed.{nodes_of, sizes_list, warnings_list, text-computed, warnings-computed}
-use Rattle.allocative_graph.proofs.Computed.{text_added}
-use Rattle.allocative_graph.proofs.Sums.{get-sums_of, below-sums_of}
+use Rattle.allocative_graph.proofs.Sums.{get-sums_of, below-sums_of, nodes_of, sizes_list, warnings_list, text_added}
+use Rattle.allocative_graph.proofs.Sums.{entries-graph, entries-sums_of}
 use Rattle.allocative_graph.proofs.Showings.{agree_back, get-graph, get-graph-root, graphs_add, same_reached}
 use Rattle.allocative_graph.proofs.Showings.{same_sums_of, whole_following, all_is_meaning, reaches_exactly}
 use Rattle.allocative_graph.proofs.ReadBack.{text_tells, reads_back, never_refused, never_exceeds, exact_is}
@@ -50,7 +49,7 @@ graph_law = record { root = get-graph-root; paths = get-graph; is_tree = graph-t
 prints : (f : Forest) (lines complaints : List ℕ) → text_of_entries (sizes_list (nodes_of (all f))) ≡ lines →
     warnings_list (nodes_of (all f)) ≡ complaints → Prints f lines complaints
 prints f lines complaints p q =
-    record { text_is = text-computed (all f) ∙ p; warnings_are = warnings-computed (all f) ∙ q }
+    record { text_is = ap text_of_entries (entries-graph (all f)) ∙ p; warnings_are = ap warnings_list (entries-sums_of (all f)) ∙ q }
 
 -- Each example is computed.
 pub rows_law : WorkedExamples

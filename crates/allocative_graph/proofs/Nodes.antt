@@ -1,23 +1,185 @@
--- Nodes are trees, and add up if their own sizes and their children do; the number of their paths; bytes at one path,
--- and what a node has after they are added.
+-- What a graph has at a path and below it, by the children of its root, and its figures; nodes are trees, and add up if
+-- their own sizes and their children do; the number of their paths; what a node has after bytes are added at one path.
 use Rattle.std.proofs.Common.{◌≡◌, ℕ, ◌+◌, ◌<◌, ◌^◌, Bool, true, List, [], ◌∷◌, ◌++◌, length, length-append, Some, refl}
-use Rattle.std.proofs.Common.{get_or, unwrap_or, sym, ap, subst, subst₂, ◌∙◌, arith, ◌≤◌, set, zero-add, add-zero, take, sum_by}
-use Rattle.allocative_graph.proofs.Common.{sum_by-cons, key_cmp, keys_of}
+use Rattle.std.proofs.Common.{get_or, unwrap_or, sym, ap, subst, subst₂, ◌∙◌, arith, ◌≤◌, set, zero-add, add-zero, take}
+use Rattle.std.proofs.Common.{sum_by, ◌&&◌, zero, suc, false, cond, Option, None, IfNone, ⊎_elim, Ordering, map}
+use Rattle.std.proofs.Common.{append_assoc, append-nil, flat_map}
+use Rattle.allocative_graph.proofs.Common.{sum_by-cons, key_cmp, keys_of, AllByRecursion, is_some, contains_key}
+use Rattle.allocative_graph.proofs.Common.{entries, len, len-entries, Child, Key, Path, Graph, IsTree, size_at, sum_of}
+use Rattle.allocative_graph.proofs.Common.{total, under, node, rows_of, rows_of_child, AreChildren, IsNode, total_of}
+use Rattle.allocative_graph.proofs.Common.{size_under, AddsUp, AddsUpInPart, Added, Merged, entries-node, len-child}
+use Rattle.allocative_graph.proofs.Common.{All-from_recursion, insert, default, add_self, IsFound, get, graph_of_path}
+use Rattle.allocative_graph.proofs.Common.{child_of_path, eq_by_cmp, is_eq, Less, nat_list_cmp_total, IsBehind}
+use Rattle.allocative_graph.proofs.Common.{HasNothing, begins, total_at, InOrder, IsChildGap, AllAbove, tied_itself}
+use Rattle.allocative_graph.proofs.Common.{Figures, figures_behind, under_rows, map-append, eq_by_cmp_equiv}
+use Rattle.allocative_graph.proofs.Common.{flat_map-append, take_more}
 use Rattle.std.proofs.lemmas.List.Sums.{sum_by_more_le}
 use Rattle.std.specs.List.Sorted.{IsStrictlySortedBy}
-use Rattle.allocative_graph.proofs.Common.{AllByRecursion, is_some, contains_key, entries, len, len-entries, Child, Key}
-use Rattle.allocative_graph.proofs.Common.{Path, Graph, IsTree, size_at, sum_of, total, under, node, rows_of}
-use Rattle.allocative_graph.proofs.Common.{rows_of_child, AreChildren, IsNode, total_of, size_under, AddsUp}
-use Rattle.allocative_graph.proofs.Common.{AddsUpInPart, Added, Merged, entries-node, len-child, All-from_recursion}
-use Rattle.allocative_graph.proofs.Common.{insert, default, add_self, IsFound, get, graph_of_path, child_of_path}
 use Rattle.allocative_graph.specs.Rows.{ComesLast}
-use Rattle.allocative_graph.proofs.Children.{put_at_gap, merged_same, put_at_found, with_graph, get-root}
-use Rattle.allocative_graph.proofs.Children.{get-under, node_each, node_of_one, one_child, part_of_sum, total-node}
-use Rattle.allocative_graph.proofs.Children.{no_children, insert_root, node_nil}
+use Rattle.allocative_graph.proofs.Children.{put_at_gap, merged_same, put_at_found, with_graph, get-root, get-under}
+use Rattle.allocative_graph.proofs.Children.{node_each, node_of_one, one_child, part_of_sum, total-node, no_children}
+use Rattle.allocative_graph.proofs.Children.{insert_root, node_nil, rises, rows-cons, Lacks, lacks-above}
+use Rattle.allocative_graph.proofs.Children.{size_under-lacks}
 use Rattle.std.proofs.lemmas.List.{take_all, drop_all, set-get_or}
-use Rattle.allocative_graph.proofs.Behind.{size_under-found}
 use Rattle.allocative_graph.proofs.Graphs.{is_sum_of, total-sum_of, total-under, size_at-default, size_at-sum_of}
 use Rattle.allocative_graph.proofs.Graphs.{has-sum_of}
+use Rattle.std.proofs.lemmas.List.Folds.{fold_stays, length-flat_map-take}
+use Rattle.std.proofs.lemmas.Bool.{cases_lt}
+use Rattle.std.proofs.lemmas.List.Elements.{recursion_from_All}
+use Rattle.std.proofs.lemmas.List.Concat.{length-flat_map}
+
+-- Keys that compare as other than equal differ, whichever comes first.
+other_than : {o : Ordering} (l k : Key) → key_cmp l k ≡ o → eq_by_cmp key_cmp k l ≡ is_eq o
+other_than l k h = (eq_by_cmp_equiv nat_list_cmp_total).symm k l ∙ ap is_eq h
+
+-- A key that was not found is none of theirs.
+gap-lacks : (cs : List Child) (i : ℕ) (k : Key) → IsChildGap cs k i → Lacks k cs
+gap-lacks cs i k g = λ j d w. ⊎_elim (λ low. other_than _ k (g.between.0 j d (omega arith) low))
+    (λ high. other_than _ k (g.between.1 j d high w)) (cases_lt j i)
+
+-- ---- what is read under a key: F passes over children with other keys, and reads the child with the key
+module _ {A : Type 0} (F : List Child → A) (one : Child → A) (k : Key)
+    (past : (c : Child) (cs : List Child) → eq_by_cmp key_cmp k c.key ≡ false → F (c ∷ cs) ≡ F cs) where
+  -- If no child has the key, there is what there is without children.
+  read-lacks : (cs : List Child) → Lacks k cs → F cs ≡ F []
+  read-lacks [] h = refl
+  read-lacks (c ∷ cs) h = past c cs (h 0 c (omega arith)) ∙ read-lacks cs (λ i d w. h (suc i) d (omega arith))
+
+  -- If the key was found, there is what its child has.
+  read-found : ((c : Child) (cs : List Child) → eq_by_cmp key_cmp k c.key ≡ true → F cs ≡ F [] → F (c ∷ cs) ≡ one c)
+      → (cs : List Child) (i : ℕ) (d : Child) → InOrder cs → i < length cs → (get_or cs i d).key ≡ k →
+      F cs ≡ one (get_or cs i d)
+  unfolding IsStrictlySortedBy
+  read-found here [] i d o w s = absurd (omega arith)
+  read-found here (c ∷ cs) zero d o w s =
+      here c cs (subst (λ l. eq_by_cmp key_cmp k l ≡ true) (sym s) (ap is_eq (tied_itself nat_list_cmp_total k)))
+      (read-lacks cs (lacks-above k cs (subst (λ l. AllAbove cs l) s o.0)))
+  read-found here (c ∷ cs) (suc i) d o w s =
+      past c cs (other_than c.key k (subst (λ l. key_cmp c.key l ≡ Less) s (rises (c ∷ cs) 0 (suc i) d o (omega arith) w)))
+      ∙ read-found here cs i d o.1 (omega arith) s
+
+-- The sum of the sizes of the rows whose paths begin with q.
+abbrev whole_in : List (Path × ℕ) → Path → ℕ
+whole_in rs q = sum_by (λ e. cond (begins q e.0) e.1 0) rs
+
+module _ (k : Key) (p : Path) where
+  -- The sizes below a key that was found are those of its child.
+  pub size_under-found : (cs : List Child) (i : ℕ) (d : Child) → InOrder cs → i < length cs → (get_or cs i d).key ≡ k →
+      size_under cs k p ≡ get (get_or cs i d).graph p
+  size_under-found = read-found (λ cs. size_under cs k p) (λ c. get c.graph p) k
+      (λ c cs e. ap (λ b. cond b (get c.graph p) (size_under cs k p)) e)
+      (λ c cs e none. ap (λ b. cond b (get c.graph p) (size_under cs k p)) e)
+
+  whole-past : (c : Child) (cs : List Child) → eq_by_cmp key_cmp k c.key ≡ false →
+      whole_in (rows_of (c ∷ cs)) (k ∷ p) ≡ whole_in (rows_of cs) (k ∷ p)
+  whole-past c cs e =
+      rw (rows-cons (λ r. cond (begins (k ∷ p) r.0) r.1 0) c cs, e, fold_stays (λ n (r : Path × ℕ). n + 0) 0 (λ r. refl) (entries c.graph)) (zero-add _)
+
+  -- Nothing is below a key that no child has.
+  whole-lacks : (cs : List Child) → Lacks k cs → whole_in (rows_of cs) (k ∷ p) ≡ 0
+  whole-lacks = read-lacks (λ cs. whole_in (rows_of cs) (k ∷ p)) (λ c. whole_in (entries c.graph) p) k whole-past
+
+  -- The bytes below a key that was found are those of its child.
+  whole-found : (cs : List Child) (i : ℕ) (d : Child) → InOrder cs → i < length cs → (get_or cs i d).key ≡ k →
+      whole_in (rows_of cs) (k ∷ p) ≡ total_at (get_or cs i d).graph p
+  whole-found = read-found (λ cs. whole_in (rows_of cs) (k ∷ p)) (λ c. whole_in (entries c.graph) p) k whole-past
+      (λ c cs e none. rows-cons (λ r. cond (begins (k ∷ p) r.0) r.1 0) c cs ∙ (λ i. sum_by (λ r. cond (e i && begins p r.0) r.1 0) (entries c.graph) + none i)
+      ∙ add-zero _)
+
+-- The bytes of a node below a key are those of its children.
+whole-node : (n : ℕ) (cs : List Child) (k : Key) (p : Path) → InOrder cs →
+    total_at (node n cs) (k ∷ p) ≡ whole_in (rows_of cs) (k ∷ p)
+whole-node n cs k p o = omega (arith, ap (λ rs. whole_in rs (k ∷ p)) (entries-node n cs o), sum_by-cons (λ (e : Path × ℕ). cond (begins (k ∷ p) e.0) e.1 0) ([], n) (rows_of cs))
+
+-- The bytes at a path below a child's key, and below that path, are those of the child.
+pub total_at-child : (n : ℕ) (cs : List Child) (i : ℕ) (d : Child) (p : Path) → InOrder cs → i < length cs →
+    total_at (node n cs) ((get_or cs i d).key ∷ p) ≡ total_at (get_or cs i d).graph p
+total_at-child n cs i d p o w = whole-node n cs (get_or cs i d).key p o
+    ∙ whole-found (get_or cs i d).key p cs i d o w refl
+
+-- ---- the graph at a path
+-- The graph at the root's path is the whole graph.
+pub behind_root : (g : Graph) → IsTree g → IsBehind g [] g
+behind_root g t = record { there = t.root; sizes = λ q. refl; totals = λ q. refl; same_size = refl; same_total = refl }
+
+-- g is the graph of a node, and the path has the key k and then p.
+module _ {n s : ℕ} {cs ds : List Child} {g : Graph} {path : Path} {k : Key} {p : Path} (view : node n cs ≡ g)
+    (h : IsNode cs s n) (same : ds ≡ cs) (is : path ≡ k ∷ p) where
+  in_order : InOrder ds
+  in_order = subst InOrder (sym same) h.children.sorted
+
+  module _ {i : ℕ} (d : Child) (f : IsFound ds k i) where
+    -- A path of the child has its size in the node, after the child's key.
+    at : (q : Path) → get (node n ds) (k ∷ q) ≡ get (get_or ds i d).graph q
+    at q = get-under n ds k q in_order ∙ size_under-found k q ds i d in_order f.within (f.same d)
+
+    -- A path of the child has its bytes, with all below it, in the node, after the child's key.
+    whole : (q : Path) → total_at (node n ds) (k ∷ q) ≡ total_at (get_or ds i d).graph q
+    whole q = whole-node n ds k q in_order ∙ whole-found k q ds i d in_order f.within (f.same d)
+
+    -- What the child has at p, the node has at the path.
+    pub behind_child : (x : Graph) → IsBehind (get_or ds i d).graph p x → IsBehind g path x
+    behind_child x b = subst₂ (λ y q. IsBehind y q x) (ap (node n) same ∙ view) (sym is) (record {
+      there = ap is_some (at p) ∙ b.there;
+      sizes = λ q. b.sizes q ∙ sym (at (p ++ q));
+      totals = λ q. b.totals q ∙ sym (whole (p ++ q));
+      same_size = b.same_size ∙ ap (λ o. unwrap_or o 0) (sym (at p));
+      same_total = b.same_total ∙ sym (whole p);
+    })
+
+    -- If the child has nothing at p, the node has nothing at the path.
+    pub missing_child : HasNothing (get_or ds i d).graph p → HasNothing g path
+    missing_child m = subst₂ HasNothing (ap (node n) same ∙ view) (sym is)
+        (record { missing = ap is_some (at p) ∙ m.missing; below = λ q. ap is_some (at (p ++ q)) ∙ m.below q; nothing = whole p ∙ m.nothing })
+
+  -- If a key was not found, the node has nothing at the path and below it.
+  pub missing_key : {i : ℕ} → IsChildGap ds k i → HasNothing g path
+  missing_key {i = i} gap =
+      let none = gap-lacks ds i k gap in
+      let missing = λ (q : Path). ap is_some (get-under n ds k q in_order ∙ size_under-lacks ds k q none) in
+      subst₂ HasNothing (ap (node n) same ∙ view) (sym is) (record { missing = missing p; below = λ q. missing (p ++ q); nothing = whole-node n ds k p in_order ∙ whole-lacks k p ds none })
+
+-- ---- in terms of what a call returns
+-- If P implies Q, P in the absence of a value implies Q in its absence.
+pub none_implies : {X : Type 0} (P Q : Type 0) → (P → Q) → (o : Option X) → IfNone o P → IfNone o Q
+none_implies P Q f None h = f h
+none_implies P Q f (Some x) h = h
+
+-- A child has fewer paths than its node.
+pub smaller_child : (n : ℕ) (cs : List Child) (i : ℕ) (d : Child) → InOrder cs → i < length cs →
+    len (get_or cs i d).graph < len (node n cs)
+smaller_child n cs i d o h = omega (arith, ap length (entries-node n cs o), len-entries (node n cs), length-flat_map-take rows_of_child cs i d h, len-child (get_or cs i d))
+
+-- ---- the figures of a node: its own, and then those of its children, one child after another
+-- The figures of some paths with their sizes, with some keys before them. The bytes of each path and of all below it
+-- are those that t has.
+abbrev figured : (Path → ℕ) → Path → List (Path × ℕ) → List Figures
+figured t ks rs = map (λ e. record { path = ks ++ e.0; self_size = e.1; total_size = t e.0 }) rs
+
+-- The figures of the paths of a child, with some keys before its own.
+abbrev pub child_figures : Path → Child → List Figures
+child_figures ks c = figures_behind (ks ++ c.key ∷ []) c.graph
+
+-- Putting a key before the paths is the same as adding it at the end of the keys before them.
+figured-under : (t u : Path → ℕ) (ks : Path) (k : Key) (rs : List (Path × ℕ)) → ((q : Path) → t (k ∷ q) ≡ u q) →
+    figured u (ks ++ k ∷ []) rs ≡ figured t ks (under_rows k rs)
+figured-under t u ks k [] h = refl
+figured-under t u ks k (r ∷ rs) h = rw (append_assoc ks (k ∷ []) r.0, ← h r.0, figured-under t u ks k rs h)
+
+-- The figures of the rows of some children are those of the children, if t has their bytes.
+figured-rows : (t : Path → ℕ) (ks : Path) (cs : List Child)
+    → AllByRecursion (λ c. (q : Path) → t (c.key ∷ q) ≡ total_at c.graph q) cs →
+    figured t ks (rows_of cs) ≡ flat_map (child_figures ks) cs
+figured-rows t ks [] h = refl
+figured-rows t ks (c ∷ cs) h =
+    rw (map-append {B = Figures} (λ (e : Path × ℕ). record { path = ks ++ e.0; self_size = e.1; total_size = t e.0 }) (rows_of_child c) (rows_of cs), ← figured-under t (total_at c.graph) ks c.key (entries c.graph) h.0, figured-rows t ks cs h.1)
+    refl
+
+-- What F makes of the items before a place and of the one there.
+pub flat_map_more : {X A : Type 0} (F : X → List A) (xs : List X) (i : ℕ) (d : X) → i < length xs → d ≡ get_or xs i d →
+    flat_map F (take (i + 1) xs) ≡ flat_map F (take i xs) ++ F d
+flat_map_more F xs i d w at = rw (take_more xs i d w, flat_map-append F (take i xs) (get_or xs i d ∷ []), ← at)
+    (ap (λ ys. flat_map F (take i xs) ++ ys) (append-nil (F d)))
 
 -- If all children are trees, they have with each path below a key also the path with its last key left out.
 has_parent : (cs : List Child) (l : Key) (p : Path) (k : Key) → AllByRecursion (λ (c : Child). IsTree c.graph) cs →
@@ -73,14 +235,9 @@ rows_of_node n cs h = omega (arith, len-entries (node n cs), ap length (entries-
 abbrev pub paths_of : List Child → ℕ
 paths_of cs = sum_by (λ c. len c.graph) cs
 
--- Children have as many rows as their graphs have paths.
-length-rows_of : (cs : List Child) → length (rows_of cs) ≡ paths_of cs
-length-rows_of [] = omega arith
-length-rows_of (c ∷ cs) = omega (arith, length-rows_of cs, length-append (rows_of_child c) (rows_of cs), len-child c, sum_by-cons (λ (c : Child). len c.graph) c cs)
-
 -- A node has the path of its root, and those of its children.
 pub paths_of_node : (n : ℕ) (cs : List Child) → IsStrictlySortedBy key_cmp (keys_of cs) → len (node n cs) ≡ 1 + paths_of cs
-paths_of_node n cs h = omega (arith, length-rows_of cs, len-entries (node n cs), ap length (entries-node n cs h))
+paths_of_node n cs h = omega (arith, length-flat_map rows_of_child cs ∙ (λ i. sum_by (λ c. len-child c i) cs), len-entries (node n cs), ap length (entries-node n cs h))
 
 -- The root, the paths of the children before one and those of that one are within the paths of the graph g.
 pub child_within : {n s : ℕ} {cs ds : List Child} {g : Graph} {i : ℕ} {d : Child} → node n cs ≡ g → IsNode cs s n →
@@ -106,6 +263,15 @@ module _ {n s : ℕ} {cs : List Child} {g : Graph} (view : node n cs ≡ g) (h :
 
   pub len_of_node : len g ≡ length (rows_of cs) + 1
   len_of_node = ap len (sym view) ∙ rows_of_node n cs h.children
+
+  -- The figures of a node are its own and those of its children.
+  pub figures_of_node : (ks : Path) → figures_behind ks g
+      ≡ record { path = ks; self_size = n; total_size = total g } ∷ flat_map (child_figures ks) cs
+  figures_of_node ks = ap (figured (total_at g) ks) entries_of_node
+      ∙ (λ i. record { path = append-nil ks i; self_size = n; total_size = total g }
+      ∷ figured-rows (total_at g) ks cs (recursion_from_All (λ (c : Child). (q : Path) → total_at g (c.key ∷ q) ≡ total_at c.graph q) cs
+      (λ j d w q. subst (λ (x : Graph). total_at x ((get_or cs j d).key ∷ q) ≡ total_at (get_or cs j d).graph q) view
+      (total_at-child n cs j d q h.children.sorted w))) i)
 
 -- ---- one child merged into the children of a node with the graph g
 module _ {n s : ℕ} {cs es : List Child} {g : Graph} {c : Child} (view : node n cs ≡ g) (h : IsNode cs s n)
@@ -226,3 +392,6 @@ pub set_back : (cs : List Child) (i : ℕ) (x : Child) (g : Graph) → x ≡ get
     set cs i (with_graph x g) ≡ cs
 set_back cs i x g there is =
     ap (λ (f : Graph). set cs i (with_graph x f)) is ∙ ap (set cs i) there ∙ set-get_or cs i x
+
+-- What adding bytes at one path needs: what a node has with a child of one path merged into its children.
+pub ruleset at_one_path = (node_grown, sum_grown, tree-path, total-path)

@@ -1,15 +1,15 @@
 -- What forests own: it adds up, in any order, and is the total of a graph.
-use Rattle.std.proofs.Common.{◌≡◌, ℕ, ◌+◌, ◌-◌, ◌≤◌, ◌||◌, Bool, true, false, cond, List, [], ◌∷◌, ◌++◌, fold}
-use Rattle.std.proofs.Common.{map, inl, inr, Some, None, is_some, unwrap_or, refl, ap, sym, ◌∙◌, sum_by, arith}
+use Rattle.std.proofs.Common.{◌≡◌, ℕ, ◌+◌, ◌-◌, ◌≤◌, ◌||◌, true, false, cond, List, [], ◌∷◌, ◌++◌, fold, map, inl, inr}
+use Rattle.std.proofs.Common.{is_some, unwrap_or, refl, ap, sym, ◌∙◌, sum_by, arith}
 use Rattle.allocative_graph.proofs.Common.{sum_by-cons, map-append, AsInline, AsUnique, AsShared, Bag, get-insert}
 use Rattle.allocative_graph.proofs.Common.{contains_key, Key, Path, is_same_path, is_one_below, Forest, Empty, Inline}
 use Rattle.allocative_graph.proofs.Common.{Unique, First, Again, own, own_behind, followed_by, bytes_in, is_entered_in}
-use Rattle.allocative_graph.proofs.Common.{is_unique_in, sums_of, below, Node, remaining, option_map, Graph, graph}
-use Rattle.allocative_graph.proofs.Common.{default, size_at, total, Entry, sum_by-append, Mark}
+use Rattle.allocative_graph.proofs.Common.{is_unique_in, sums_of, below, Graph, graph, default, size_at, total, Entry}
+use Rattle.allocative_graph.proofs.Common.{sum_by-append, Mark}
 use Rattle.allocative_graph.specs.Owned.{direct, owned, Owner, owners_behind, owns_all, EachAt, AreAlike, Reordered}
 use Rattle.allocative_graph.specs.Owned.{exchanged, within, beside, in_turn}
 use Rattle.allocative_graph.proofs.Basics.{path_total, same_path}
-use Rattle.allocative_graph.proofs.Sums.{one_below_is, below_in, below-sums_of, get-sums_of, bytes_none}
+use Rattle.allocative_graph.proofs.Sums.{one_below_is, below_in, below-sums_of, bytes-cons, get-sums_of, bytes_none}
 use Rattle.allocative_graph.proofs.Showings.{get-graph, get-graph-root}
 use Rattle.allocative_graph.proofs.Graphs.{add_at, total-add_at, same_graph, in_graph, get-default, size_at-default}
 use Rattle.allocative_graph.proofs.Graphs.{total-default}
@@ -40,23 +40,17 @@ direct-owned (First k n i f after) = omega (arith, direct-owned after)
 direct-owned (Again k n i after) = omega (arith, direct-owned after)
 
 -- ---- in any order
--- Reordering a forest keeps its direct bytes.
-direct-reordered : (f g : Forest) → Reordered f g → direct f ≡ direct g
-direct-reordered _ _ (exchanged f g) = omega (arith, direct-following f g, direct-following g f)
-direct-reordered _ _ (within true k n r) = refl
-direct-reordered _ _ (within false k n r) = refl
-direct-reordered _ _ (beside {f} {g} h r) =
-    omega (arith, direct-following f h, direct-following g h, direct-reordered f g r)
-direct-reordered _ _ (in_turn {f} {g} {h} r s) = direct-reordered f g r ∙ direct-reordered g h s
+-- A forest has the same direct bytes, and owns the same bytes, in each order of its entries.
+same_bytes : (f g : Forest) → Reordered f g → (direct f ≡ direct g) × (owned f ≡ owned g)
+same_bytes _ _ (exchanged f g) = (omega (arith, direct-following f g, direct-following g f), omega (arith, owned-following f g, owned-following g f))
+same_bytes _ _ (within {f} {g} true k n r) = (refl, omega (arith, (same_bytes f g r).1))
+same_bytes _ _ (within {f} {g} false k n r) = (refl, omega (arith, (same_bytes f g r).0, (same_bytes f g r).1))
+same_bytes _ _ (beside {f} {g} h r) = (omega (arith, direct-following f h, direct-following g h, (same_bytes f g r).0), omega (arith, owned-following f h, owned-following g h, (same_bytes f g r).1))
+same_bytes _ _ (in_turn {f} {g} {h} r s) = (omega (arith, (same_bytes f g r).0, (same_bytes g h s).0), omega (arith, (same_bytes f g r).1, (same_bytes g h s).1))
 
 -- A forest owns the same bytes in each order of its entries.
 pub owned-reordered : (f g : Forest) → Reordered f g → owned f ≡ owned g
-owned-reordered _ _ (exchanged f g) = omega (arith, owned-following f g, owned-following g f)
-owned-reordered _ _ (within {f} {g} true k n r) = omega (arith, owned-reordered f g r)
-owned-reordered _ _ (within {f} {g} false k n r) = omega (arith, owned-reordered f g r, direct-reordered f g r)
-owned-reordered _ _ (beside {f} {g} h r) =
-    omega (arith, owned-following f h, owned-following g h, owned-reordered f g r)
-owned-reordered _ _ (in_turn {f} {g} {h} r s) = owned-reordered f g r ∙ owned-reordered g h s
+owned-reordered f g r = (same_bytes f g r).1
 
 -- ---- entry by entry
 -- What an entry keeps of its bytes.
@@ -72,11 +66,6 @@ at w q xs = sum_by (λ x. cond (is_same_path q x.entry.path) (w x) 0) xs
 
 abbrev inside_at : Path → List Owner → ℕ
 inside_at q xs = at (λ x. x.inside) q xs
-
--- One entry more adds its weight to the sum over the entries at its path, and to no other path's.
-at-cons : (w : Owner → ℕ) (q : Path) (x : Owner) (xs : List Owner) →
-    at w q (x ∷ xs) ≡ cond (is_same_path q x.entry.path) (w x) 0 + at w q xs
-at-cons w q x xs = sum_by-cons (λ x. cond (is_same_path q x.entry.path) (w x) 0) x xs
 
 -- The entries that `owners_behind` lists are the own entries of the forest.
 own_entries : (p : Path) (f : Forest) → entries_of (owners_behind p f) ≡ own_behind p f
@@ -124,30 +113,26 @@ below-inside : (q p : Path) (f : Forest) →
 below-inside q p Empty = grind arith
 below-inside q p (Inline k n f after) = grind (arith, below-entry q p k n AsInline (own_behind (p ++ k ∷ []) f) (own_behind p after), at-entry (λ x. x.inside) q (owner p k n AsInline (direct f)) (owners_behind (p ++ k ∷ []) f) (owners_behind p after), below-inside q (p ++ k ∷ []) f, below-inside q p after)
 below-inside q p (Unique k n f after) = grind (arith, below-entry q p k n AsUnique (own_behind (p ++ k ∷ []) f) (own_behind p after), at-entry (λ x. x.inside) q (owner p k n AsUnique (direct f)) (owners_behind (p ++ k ∷ []) f) (owners_behind p after), below-inside q (p ++ k ∷ []) f, below-inside q p after)
-below-inside q p (First k n i f after) = grind (arith, below-entry q p k n (AsShared i) [] (own_behind p after), at-cons (λ x. x.inside) q (owner p k n (AsShared i) 0) (owners_behind p after), below-inside q p after)
-below-inside q p (Again k n i after) = grind (arith, below-entry q p k n (AsShared i) [] (own_behind p after), at-cons (λ x. x.inside) q (owner p k n (AsShared i) 0) (owners_behind p after), below-inside q p after)
+below-inside q p (First k n i f after) = grind (arith, below-entry q p k n (AsShared i) [] (own_behind p after), at-entry (λ x. x.inside) q (owner p k n (AsShared i) 0) [] (owners_behind p after), below-inside q p after)
+below-inside q p (Again k n i after) = grind (arith, below-entry q p k n (AsShared i) [] (own_behind p after), at-entry (λ x. x.inside) q (owner p k n (AsShared i) 0) [] (owners_behind p after), below-inside q p after)
 
 -- ---- entries that are alike
 module _ (q : Path) where
-  bytes-cons : (x : Owner) (xs : List Owner) →
-      bytes_in (entries_of (x ∷ xs)) q ≡ cond (is_same_path q x.entry.path) x.entry.size 0 + bytes_in (entries_of xs) q
-  bytes-cons x xs = sum_by-cons (λ e. cond (is_same_path q e.path) e.size 0) x.entry (entries_of xs)
-
   each_unique : (xs : List Owner) → EachAt q (λ x. owns_all x ≡ true) xs →
       (at kept q xs ≡ bytes_in (entries_of xs) q) × (is_unique_in (entries_of xs) q ≡ is_entered_in (entries_of xs) q)
   each_unique [] h = (refl, refl)
   each_unique (x ∷ xs) h = let r = each_unique xs h.1 in
-      (grind (arith, h.0, r.0, at-cons kept q x xs, bytes-cons x xs), grind (arith, h.0, r.1))
+      (grind (arith, h.0, r.0, at-entry kept q x [] xs, bytes-cons x.entry (entries_of xs) q), grind (arith, h.0, r.1))
 
   each_least : (xs : List Owner) → EachAt q (λ x. (owns_all x ≡ false) × (x.inside ≤ x.entry.size)) xs →
       (at kept q xs + inside_at q xs ≡ bytes_in (entries_of xs) q) × (is_unique_in (entries_of xs) q ≡ false)
   each_least [] h = (refl, refl)
-  each_least (x ∷ xs) h = let r = each_least xs h.1 in (grind (arith, h.0, r.0, at-cons kept q x xs, at-cons (λ x. x.inside) q x xs, bytes-cons x xs), grind (arith, h.0, r.1))
+  each_least (x ∷ xs) h = let r = each_least xs h.1 in (grind (arith, h.0, r.0, at-entry kept q x [] xs, at-entry (λ x. x.inside) q x [] xs, bytes-cons x.entry (entries_of xs) q), grind (arith, h.0, r.1))
 
   each_most : (xs : List Owner) → EachAt q (λ x. (owns_all x ≡ false) × (x.entry.size ≤ x.inside)) xs →
       (at kept q xs ≡ 0) × (bytes_in (entries_of xs) q ≤ inside_at q xs) × (is_unique_in (entries_of xs) q ≡ false)
   each_most [] h = (refl, omega arith, refl)
-  each_most (x ∷ xs) h = let r = each_most xs h.1 in (grind (arith, h.0, r.0, at-cons kept q x xs), grind (arith, h.0, r.1, at-cons (λ x. x.inside) q x xs, bytes-cons x xs), grind (arith, h.0, r.2))
+  each_most (x ∷ xs) h = let r = each_most xs h.1 in (grind (arith, h.0, r.0, at-entry kept q x [] xs), grind (arith, h.0, r.1, at-entry (λ x. x.inside) q x [] xs, bytes-cons x.entry (entries_of xs) q), grind (arith, h.0, r.2))
 
   -- What the graph has at a path.
   remains : (xs : List Owner) → AreAlike q xs →
@@ -169,7 +154,7 @@ total-with_kept g (x ∷ xs) = omega (arith, total-with_kept (add_at g (x.entry.
 -- What entries keep, added to a graph, raises the size at each path by what the entries there keep.
 size-with_kept : (g : Graph) (xs : List Owner) (q : Path) → size_at (with_kept g xs) q ≡ size_at g q + at kept q xs
 size-with_kept g [] q = omega arith
-size-with_kept g (x ∷ xs) q = grind (arith, size-with_kept (add_at g (x.entry.path, kept x)) xs q, get-insert path_total g x.entry.path (size_at g x.entry.path + kept x) q, same_path q x.entry.path, at-cons kept q x xs)
+size-with_kept g (x ∷ xs) q = grind (arith, size-with_kept (add_at g (x.entry.path, kept x)) xs q, get-insert path_total g x.entry.path (size_at g x.entry.path + kept x) q, same_path q x.entry.path, at-entry kept q x [] xs)
 
 -- A graph to which entries were added has its own paths and theirs.
 has-with_kept : (g : Graph) (xs : List Owner) (q : Path) →
@@ -188,45 +173,27 @@ root-keeps p Empty = refl
 root-keeps p (Inline k n f after) = grind (arith, not_root p k, at-entry kept [] (owner p k n AsInline (direct f)) (owners_behind (p ++ k ∷ []) f) (owners_behind p after), root-keeps (p ++ k ∷ []) f, root-keeps p after)
 root-keeps p (Unique k n f after) = grind (arith, not_root p k, at-entry kept [] (owner p k n AsUnique (direct f)) (owners_behind (p ++ k ∷ []) f) (owners_behind p after), root-keeps (p ++ k ∷ []) f, root-keeps p after)
 root-keeps p (First k n i f after) = grind
-    (arith, not_root p k, at-cons kept [] (owner p k n (AsShared i) 0) (owners_behind p after), root-keeps p after)
+    (arith, not_root p k, at-entry kept [] (owner p k n (AsShared i) 0) [] (owners_behind p after), root-keeps p after)
 root-keeps p (Again k n i after) = grind
-    (arith, not_root p k, at-cons kept [] (owner p k n (AsShared i) 0) (owners_behind p after), root-keeps p after)
-
--- A path without entries has size 0. One with y bytes has all of them if it is unique, else those beyond b.
-size-found : (e u : Bool) (y b : ℕ) → unwrap_or
-    (option_map (λ (n : Node). cond n.is_unique n.bytes (n.bytes - b))
-    (cond e (Some (record { bytes = y; is_unique = u })) None)) 0 ≡ cond e (cond u y (y - b)) 0
-size-found true u y b = refl
-size-found false u y b = refl
-
--- The sums of own entries have, one key below a path but the root, the bytes directly inside the entries at it.
-below-own : (k : Key) (p : Path) (f : Forest) →
-    below (sums_of (entries_of (owners_behind [] f))) (k ∷ p) ≡ inside_at (k ∷ p) (owners_behind [] f)
-below-own k p f = omega (arith, below-sums_of (entries_of (owners_behind [] f)) (k ∷ p), ap (λ b. below_in b (k ∷ p)) (own_entries [] f), below-inside (k ∷ p) [] f)
+    (arith, not_root p k, at-entry kept [] (owner p k n (AsShared i) 0) [] (owners_behind p after), root-keeps p after)
 
 -- If the entries at a path other than the root are alike, the graph of the own entries has there what they keep.
 size-own : (k : Key) (p : Path) (f : Forest) → AreAlike (k ∷ p) (owners_behind [] f) →
     size_at (graph (sums_of (entries_of (owners_behind [] f)))) (k ∷ p) ≡ at kept (k ∷ p) (owners_behind [] f)
 size-own k p f alike =
     let q = k ∷ p in
-    let b = entries_of (owners_behind [] f) in
-    let s = sums_of b in
-    ap (λ o. unwrap_or o 0) (get-graph s k p ∙ ap (option_map (remaining s q)) (get-sums_of b q))
-    ∙ size-found (is_entered_in b q) (is_unique_in b q) (bytes_in b q) (below s q)
-    ∙ ap (λ w. cond (is_entered_in b q) (cond (is_unique_in b q) (bytes_in b q) (bytes_in b q - w)) 0) (below-own k p f)
-    ∙ remains q (owners_behind [] f) alike
+    let xs = owners_behind [] f in
+    let s = sums_of (entries_of xs) in
+    let inside : below s q ≡ inside_at q xs = omega (arith, below-sums_of (entries_of xs) q, ap (λ b. below_in b q) (own_entries [] f), below-inside q [] f) in
+    rw (get-graph s k p, get-sums_of (entries_of xs) q) (grind (arith, inside, remains q xs alike))
 
 -- If the entries at each path are alike, the graph of the own entries has what they keep.
 pub owned-total : (f : Forest) → ((p : Path) → AreAlike p (owners_behind [] f)) →
     owned f ≡ total (graph (sums_of (own f)))
 owned-total f alike =
     let xs = owners_behind [] f in
-    let same : graph (sums_of (entries_of xs)) ≡ with_kept default xs =
-    same_graph (graph (sums_of (entries_of xs))) (with_kept default xs) sizes keys in
-    let total_is : total (graph (sums_of (entries_of xs))) ≡ total (with_kept default xs) = ap total same in
-    let own_is : total (graph (sums_of (entries_of xs))) ≡ total (graph (sums_of (own f))) =
-    ap (λ (b : Bag). total (graph (sums_of b))) (own_entries [] f) in
-    omega (arith, kept-sum [] f, total-with_kept default xs, total-default, total_is, own_is)
+    let same = same_graph (graph (sums_of (entries_of xs))) (with_kept default xs) sizes keys in
+    omega (arith, kept-sum [] f, total-with_kept default xs, total-default, ap total same, ap (λ (b : Bag). total (graph (sums_of b))) (own_entries [] f))
   where
     sizes : (q : Path) → size_at (graph (sums_of (entries_of (owners_behind [] f)))) q
         ≡ size_at (with_kept default (owners_behind [] f)) q

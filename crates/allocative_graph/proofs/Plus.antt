@@ -1,6 +1,6 @@
 -- What a collector has after forests, entries and leaving.
-use Rattle.std.proofs.Common.{◌≡◌, ◌↔◌, ◌≤◌, suc, ℕ, ◌+◌, Bool, true, false, cond, [], ◌∷◌, ◌++◌, refl, ap, sym, subst}
-use Rattle.std.proofs.Common.{◌∙◌, arith, append-nil}
+use Rattle.std.proofs.Common.{◌≡◌, ◌↔◌, ◌≤◌, suc, ℕ, ◌+◌, Bool, true, false, cond, [], ◌∷◌, ◌++◌, ap, sym, subst, ◌∙◌}
+use Rattle.std.proofs.Common.{arith, append-nil}
 use Rattle.allocative_graph.proofs.Common.{contains, Key, Identity, Forest, Empty, Inline, Unique, First, Again}
 use Rattle.allocative_graph.proofs.Common.{own_behind, contents, followed_by}
 use Rattle.allocative_graph.specs.Forest.{entry_of}
@@ -36,38 +36,28 @@ forest_bytes-following (Owned spare) f g =
 -- An entry with a forest inside it adds what the entry does, and then what the forest does there.
 pub forest_bytes-entry : (r : Restore) (u : Bool) (k : Key) (n : ℕ) (f : Forest) →
     forest_bytes r (entry_of u k n f) ≡ entry_bytes r u n + forest_bytes (figure_inside r u n) f
-forest_bytes-entry (Held u) true k n f = grind arith
-forest_bytes-entry (Held u) false k n f = grind arith
-forest_bytes-entry (Owned spare) true k n f = grind (arith, direct-owned f)
-forest_bytes-entry (Owned spare) false k n f = grind (arith, direct-owned f)
+forest_bytes-entry r u k n f = grind (arith, direct-owned f)
 
 -- The bytes directly inside an entry take spare bytes one after another.
 figure_after-add : (r : Restore) (m n : ℕ) → figure_after r (m + n) ≡ figure_after (figure_after r m) n
-figure_after-add (Held u) m n = refl
-figure_after-add (Owned spare) m n = ap Owned (omega arith)
+figure_after-add r m n = grind arith
 
 -- With no bytes inside it, an entry keeps its figure.
 pub figure_after-zero : (r : Restore) → figure_after r 0 ≡ r
-figure_after-zero (Held u) = refl
-figure_after-zero (Owned spare) = ap Owned (omega arith)
+figure_after-zero r = grind arith
 
 -- What has no spare bytes keeps its figure.
 pub figure_after-none : (r : Restore) (n : ℕ) → HasNoSpare r → figure_after r n ≡ r
-figure_after-none (Held u) n h = refl
-figure_after-none (Owned spare) n h = ap Owned (omega (arith, h))
+figure_after-none r n h = grind arith
 
 -- An empty forest adds nothing.
 forest_bytes-nothing : (r : Restore) → forest_bytes r Empty ≡ 0
-forest_bytes-nothing (Held u) = grind arith
-forest_bytes-nothing (Owned spare) = grind arith
+forest_bytes-nothing r = grind arith
 
 -- ---- each
 -- An empty forest leaves a collector unchanged.
 pub plus-nothing : (c : Kind) → plus c Empty ≡ c
-plus-nothing (OfGraph c) = refl
-plus-nothing (OfSum s) =
-    let none : s.sum + forest_bytes s.figure Empty ≡ s.sum = omega (arith, forest_bytes-nothing s.figure) in
-    λ i. OfSum (record s { sum = none i; figure = figure_after-zero s.figure i })
+plus-nothing c = grind (arith, forest_bytes-nothing, figure_after-zero)
 
 -- A collector has after two forests in one what it has after the first and then the second.
 pub plus-following : (c : Kind) (f g : Forest) → plus c (followed_by f g) ≡ plus (plus c f) g
@@ -98,8 +88,7 @@ takes_both c f g v w = (takes_following c f g).1 (v, w)
 
 -- An entry has its own bytes at the top.
 direct-entry : (u : Bool) (k : Key) (n : ℕ) (f : Forest) → n ≡ direct (entry_of u k n f)
-direct-entry true k n f = omega arith
-direct-entry false k n f = omega arith
+direct-entry u k n f = grind arith
 
 -- An entry with f inside it is entering, adding f and one step back.
 pub inside_entry : (u : Bool) (k : Key) (n : ℕ) (c : Kind) (f : Forest) →
@@ -132,33 +121,22 @@ takes_shared k n j c f new w = (new, w, tt)
 -- A shared entry without its content adds to a sum what a unique entry with nothing inside it adds.
 pub forest_bytes-again : (r : Restore) (k : Key) (n : ℕ) (j : Identity) →
     forest_bytes r (Again k n j Empty) ≡ entry_bytes r true n
-forest_bytes-again (Held u) k n j = grind arith
-forest_bytes-again (Owned spare) k n j = grind arith
+forest_bytes-again r k n j = grind arith
 
 -- A shared entry without its content is counted in a sum.
 pub counted_again : (k : Key) (n : ℕ) (j : Identity) (s : Summing) →
     plus (OfSum s) (Again k n j Empty) ≡ OfSum (count_entry true n s)
-counted_again k n j s =
-    let alone : n + 0 ≡ n = omega arith in
-    λ i. OfSum (record s {
-      sum = s.sum + forest_bytes-again s.figure k n j i;
-      figure = figure_after s.figure (alone i);
-    })
+counted_again k n j s = grind (arith, forest_bytes-again s.figure k n j)
 
 -- A shared entry without its content leaves a sum of held bytes as it is.
 pub held_again : (k : Key) (n : ℕ) (j : Identity) (s : Summing) (u : Bool) → s.figure ≡ Held u →
     plus (OfSum s) (Again k n j Empty) ≡ OfSum s
-held_again k n j s u h =
-    let none : (r : Restore) → r ≡ Held u → entry_bytes r true n ≡ 0 = λ r e. rw e refl in
-    let same : (r : Restore) → r ≡ Held u → figure_after r n ≡ r = λ r e. rw e refl in
-    let sum : s.sum + entry_bytes s.figure true n ≡ s.sum = omega (arith, none s.figure h) in
-    counted_again k n j s ∙ (λ i. OfSum (record s { sum = sum i; figure = same s.figure h i }))
+held_again k n j s u h = grind arith
 
 -- ---- the count of visitors
 -- A closed collector has no open visitor.
 pub closed-visitors : (c : Kind) → IsClosed c → visitors c ≡ 0
-closed-visitors (OfGraph c) h = h
-closed-visitors (OfSum s) h = h.0
+closed-visitors c h = grind arith
 
 -- A closed collector stays closed as forests are added.
 pub closed-plus : (c : Kind) (f : Forest) → IsClosed c → IsClosed (plus c f)

@@ -1,15 +1,20 @@
--- The lines of a text that is read, and what they say of its graph: the text of a graph that is read is the graph again.
+-- The graphs of stacks, which add up in any order. The lines of a text that is read, and what they say of its graph: the
+-- text of a graph that is read is the graph again.
 use Rattle.allocative_graph.specs.declared.read.TheConstants.{LEVELS}
 use Rattle.allocative_graph.specs.declared.read.LineFault.{LineFault}
 use Rattle.std.proofs.Common.{◌≡◌, ◌≢◌, ℕ, suc, ◌+◌, ◌^◌, ◌<◌, ◌≤◌, ◌==◌, true, false, List, [], ◌∷◌, ◌++◌, length}
 use Rattle.std.proofs.Common.{get_or, take, drop, None, Some, refl, ap, sym, ◌∙◌, subst, arith, Bor, eqb-true}
 use Rattle.std.proofs.Common.{take-append-drop, Bool, map, subst₂, append-nil, drop-cons, ◌-◌, cond, not, flat_map}
 use Rattle.std.proofs.Common.{length-append, true≢false, decimal, ne_eqb, eq-eqb, if◌then◌else◌, filter, append_assoc}
+use Rattle.std.proofs.Common.{◌||◌, ◌&&◌, Option, is_some, sum_by, zero-add}
 use Rattle.allocative_graph.proofs.Common.{All, All-from_recursion, AllByRecursion, AreStacks, Graph, IsCut, IsRead}
 use Rattle.allocative_graph.proofs.Common.{Key, Lacks, Line, Path, SaysStacks, Stack, all_bytes, begins, bytes_at}
 use Rattle.allocative_graph.proofs.Common.{codes, entries, eq_by_cmp, fold-map, get, is_path_of, is_same_path, joined}
 use Rattle.allocative_graph.proofs.Common.{key_cmp, length-map, line_stack, lines, lines_of_parts, list_any, map_push}
 use Rattle.allocative_graph.proofs.Common.{nil_from_length, size_at, slice_split, sum_by-cons, sum_by-filter_both, text}
+use Rattle.allocative_graph.proofs.Common.{IsPermutation, is_eq, contains_key, get-insert, path_cmp, total, is_root}
+use Rattle.allocative_graph.proofs.Common.{default, sum_of, graph_of_path, one_stack, sum_of_stacks}
+use Rattle.allocative_graph.proofs.Common.{sum_by-IsPermutation, fold-append, tied_then}
 use Rattle.std.specs.Str.Pattern.{RFindsChar}
 use Rattle.std.proofs.lemmas.Bool.{eqb-false}
 use Rattle.std.proofs.lemmas.List.Elements.{All-from_get_or, recursion_from_All, All-weaker, All-filter}
@@ -18,19 +23,133 @@ use Rattle.std.proofs.lemmas.Str.Parse.{digit_at, without_leading_plus_none}
 use Rattle.std.proofs.lemmas.Str.Pattern.{NoCharPasses-char, drop_at_char}
 use Rattle.allocative_graph.specs.declared.read.LineFault.TheVariants.{NoPath, NoNumber, TooLarge, TooDeep, NoSpace}
 use Rattle.allocative_graph.specs.Read.{keys_of, Exceeds, CanBeRead, IsFault, IsNumber, IsStack, IsWrong, number_of}
+use Rattle.allocative_graph.specs.Read.{line_stack, IsGraphOfStacks}
 use Rattle.allocative_graph.proofs.Text.{lacks_not, texts, Plain, Sized, Good, is_shown, full, body, written_entries}
-use Rattle.allocative_graph.proofs.Text.{good_entries, size_shown, shown_lines, full_body, body_lacks, decimal_lacks}
+use Rattle.allocative_graph.proofs.Text.{good_entries, said, size_said, shown_lines, body_lacks, decimal_lacks}
 use Rattle.std.proofs.lemmas.List.Splits.{length-slice_split, slice_split_none, slice_split_at}
-use Rattle.std.proofs.lemmas.List.Sums.{count_by-le-length}
+use Rattle.std.proofs.lemmas.List.Sums.{count_by-le-length, sum_by_more_le}
 use Rattle.std.specs.Str.Lines.{strip_carriage_return}
 use Rattle.std.proofs.lemmas.Fmt.{decimal_is_IsNumeral}
 use Rattle.std.proofs.lemmas.List.{get_or-append_right}
-use Rattle.allocative_graph.proofs.Basics.{each-implies, each-map}
-use Rattle.allocative_graph.proofs.StackSums.{same_begins}
+use Rattle.allocative_graph.proofs.Basics.{each-implies, each-map, path_total, same_path, key_itself}
 use Rattle.allocative_graph.specs.Graph.{line, ends_in, exact_text, lines_from, before_last, after_last, last_key}
 use Rattle.allocative_graph.specs.Graph.{without_lines, HasPlainKeys, HasWords}
 use Rattle.std.proofs.Padding.{cond_same}
+use Rattle.std.proofs.lemmas.List.Sorted.{IsPermutation-map}
+use Rattle.allocative_graph.proofs.Graphs.{size_at-default, is_some-cond, get-default, get-under, get-under-root}
+use Rattle.allocative_graph.proofs.Graphs.{size_at-added_up, has-added_up, total-added_up, added_up-permuted}
+use Rattle.allocative_graph.proofs.Graphs.{total-default}
+use Rattle.allocative_graph.proofs.Nodes.{total-path}
 
+-- ---- the graphs of stacks
+-- A path begins with itself.
+begins_itself : (p : Path) → begins p p ≡ true
+begins_itself [] = refl
+begins_itself (k ∷ p) = ap (λ o. is_eq o && begins p p) (key_itself k) ∙ begins_itself p
+
+-- If two paths are equal, each begins with the other.
+pub same_begins : (p q : Path) → is_same_path p q ≡ true → begins p q ≡ true
+same_begins p q h = ap (begins p) (sym (same_path p q h)) ∙ begins_itself p
+
+-- The root begins each path, so a test for the root adds nothing to `begins`.
+root_begins : (p q : Path) → (is_root p || begins p q) ≡ begins p q
+root_begins [] q = refl
+root_begins (k ∷ p) q = refl
+
+-- ---- one path
+-- What a path has in the graph of n bytes at the path ks.
+abbrev one_at : Path → ℕ → Path → Option ℕ
+one_at ks n p = cond (is_root p || begins p ks) (Some (cond (is_same_path p ks) n 0)) None
+
+-- What a path has below a key is what the path with that key has.
+below_key : (k : Key) (ks : Path) (n : ℕ) (l : Key) (p : Path) →
+    cond (is_eq (key_cmp l k)) (one_at ks n p) None ≡ one_at (k ∷ ks) n (l ∷ p)
+below_key k ks n l p =
+    grind (arith, root_begins p ks, tied_then (key_cmp l k) (path_cmp p ks))
+
+-- What a path has in the graph of one path.
+get-path : (ks : Path) (n : ℕ) (p : Path) → get (graph_of_path ks n) p ≡ one_at ks n p
+get-path [] n [] = get-insert path_total default [] (size_at default [] + n) []
+    ∙ ap (λ m. Some (m + n)) (size_at-default []) ∙ ap Some (zero-add n)
+get-path [] n (k ∷ p) = get-insert path_total default [] (size_at default [] + n) (k ∷ p) ∙ get-default (k ∷ p)
+get-path (k ∷ ks) n [] = get-under-root k (graph_of_path ks n)
+get-path (k ∷ ks) n (l ∷ p) = rw (get-under k (graph_of_path ks n) l p, get-path ks n p) (below_key k ks n l p)
+
+-- The graph of a path has its bytes at that path alone.
+pub size_at-path : (ks : Path) (n : ℕ) (p : Path) → size_at (graph_of_path ks n) p ≡ cond (is_same_path p ks) n 0
+size_at-path ks n p =
+    rw (get-path ks n p, root_begins p ks) (grind (arith, same_begins p ks))
+
+-- ---- some stacks
+-- The sum of some stacks has a path exactly if one of them begins with it.
+has-stacks : (ss : List Stack) (p : Path) → contains_key (sum_of_stacks default ss) p ≡ is_path_of ss p
+has-stacks ss [] = has-added_up one_stack default ss []
+    ∙ ap (λ o. is_some o || list_any (λ s. contains_key (one_stack s) []) ss) (get-default [])
+has-stacks ss (k ∷ p) = has-added_up one_stack default ss (k ∷ p)
+    ∙ (λ i. is_some (get-default (k ∷ p) i)
+    || list_any (λ s. (ap is_some (get-path s.path s.size (k ∷ p)) ∙ is_some-cond (begins (k ∷ p) s.path) _) i) ss)
+
+-- The stacks one after another are their graph.
+graph-stacks : (ss : List Stack) → IsGraphOfStacks ss (sum_of_stacks default ss)
+graph-stacks ss p =
+    let each : sum_by (λ s. size_at (one_stack s) p) ss ≡ bytes_at ss p =
+    λ i. sum_by (λ s. size_at-path s.path s.size p i) ss in
+    let size : size_at (sum_of_stacks default ss) p ≡ bytes_at ss p =
+    omega (arith, size_at-added_up one_stack default ss p, size_at-default p, each) in
+    grind (arith, has-stacks ss p, size)
+
+-- The bytes of some stacks, added up.
+total-stacks : (ss : List Stack) → total (sum_of_stacks default ss) ≡ all_bytes ss
+total-stacks ss =
+    let each : sum_by (λ s. total (one_stack s)) ss ≡ all_bytes ss = λ i. sum_by (λ s. total-path s.path s.size i) ss in
+    omega (arith, total-added_up one_stack default ss, total-default, each)
+
+-- ---- lines in any order
+-- What lines add up to in another order is what their text is read as.
+pub is_read : (t : List ℕ) (ls sorted : List Line) (g : Graph) → SaysStacks t (map line_stack ls) → IsPermutation ls sorted →
+    g ≡ sum_of_stacks default (map line_stack sorted) → IsRead t g
+is_read t ls sorted g means moved e =
+    let ss = map line_stack ls in
+    subst (IsRead t) (sym (e ∙ added_up-permuted one_stack default ss (map line_stack sorted)
+    (IsPermutation-map line_stack ls sorted moved))) (record {
+      stacks = ss;
+      means = means;
+      graph = graph-stacks ss;
+      bytes = total-stacks ss;
+    })
+
+-- ---- the steps of the code
+-- The bytes of some lines, added up.
+total-lines : (ls : List Line) → total (sum_of_stacks default (map line_stack ls)) ≡ sum_by (λ l. l.size) ls
+total-lines ls = omega (arith, total-stacks (map line_stack ls), fold-map (λ n (s : Stack). n + s.size) line_stack 0 ls)
+
+-- The bytes of the next line fit, where those of all lines do.
+pub line_fits : (ls : List Line) (i : ℕ) (d : Line) (g : Graph) → i < length ls →
+    g ≡ sum_of_stacks default (map line_stack (take i ls)) → sum_by (λ l. l.size) ls < 2 ^ 64 →
+    total g + (get_or ls i d).size < 2 ^ 64
+line_fits ls i d g within is fits =
+    omega (arith, fits, ap total is, total-lines (take i ls), sum_by_more_le (λ (l : Line). l.size) ls i d within)
+
+-- One line more is added.
+pub line_more : (ls : List Line) (i : ℕ) (l : Line) (g h : Graph) → take (i + 1) ls ≡ take i ls ++ l ∷ [] →
+    g ≡ sum_of_stacks default (map line_stack (take i ls)) → h ≡ sum_of g (one_stack (line_stack l))
+    → h ≡ sum_of_stacks default (map line_stack (take (i + 1) ls))
+line_more ls i l g h more was is =
+    is ∙ ap (λ (f : Graph). sum_of f (one_stack (line_stack l))) was
+    ∙ sym (ap (λ xs. sum_of_stacks default (map line_stack xs)) more
+    ∙ ap (sum_of_stacks default) (map_push line_stack (take i ls) l)
+    ∙ fold-append (λ h s. sum_of h (one_stack s)) default (map line_stack (take i ls)) (line_stack l ∷ []))
+
+-- If the bytes of lines were added up in vain, they exceed a word.
+pub sum_exceeds : (t : List ℕ) (ls given : List Line) → SaysStacks t (map line_stack ls) → given ≡ ls →
+    ¬ (sum_by (λ l. l.size) given < 2 ^ 64) → Exceeds t
+sum_exceeds t ls given means e h =
+    record { stacks = map line_stack ls; means = means; exceeds = omega (arith, h, ap (λ (xs : List Line). sum_by (λ l. l.size) xs) e, fold-map (λ n (s : Stack). n + s.size) line_stack 0 ls) }
+
+-- The bytes of lines do not depend on their order.
+pub ruleset of_lines = (sum_by-IsPermutation)
+
+-- ---- the parts of a line
 -- If no place in a list has a byte, the list lacks it.
 pub lacks_from : (c : ℕ) (bs : List ℕ) → ((i : ℕ) → i < length bs → get_or bs i 0 ≢ c) → Lacks c bs
 lacks_from c bs h = recursion_from_All (λ b. b ≢ c) bs (All-from_get_or (λ b. b ≢ c) bs 0 h)
@@ -97,23 +216,18 @@ stack_cut is = record { parts = is.parts; last = number_lacks is.number is.reads
 pub one_cut : {line a b x y : List ℕ} → IsCut line a x → IsCut line b y → (a ≡ b) × (x ≡ y)
 one_cut one other = (sym (cut_at one).0 ∙ (cut_at other).0, sym (cut_at one).1 ∙ (cut_at other).1)
 
--- What stands before the last space of a stack is its path, and what stands behind it its number.
-pub cut_once : {line front back : List ℕ} {s : Stack} → IsCut line front back → (is : IsStack line s) →
-    (front ≡ is.path) × (back ≡ is.number)
-cut_once cut is = one_cut cut (stack_cut is)
-
 -- A line with which something is wrong is no stack.
 pub wrong_is_none : (w : LineFault) (line : List ℕ) → IsWrong w line → (s : Stack) → IsStack line s → ⊥
 wrong_is_none NoSpace line h s is = lacks_not 32 is.path is.number (subst (Lacks 32) is.parts h)
 wrong_is_none NoPath line (back, cut) s is =
-    let both = cut_once cut is in
+    let both = one_cut cut (stack_cut is) in
     omega (arith, is.some, ap length both.0)
 wrong_is_none NoNumber line (front, back, cut, some, none) s is =
-    none (subst (IsNumeral 10) (sym (cut_once cut is).1) is.reads.0)
+    none (subst (IsNumeral 10) (sym (one_cut cut (stack_cut is)).1) is.reads.0)
 wrong_is_none TooLarge line (front, back, cut, some, digits, large) s is =
-    omega (arith, is.reads.1, large, ap number_of (cut_once cut is).1)
+    omega (arith, is.reads.1, large, ap number_of (one_cut cut (stack_cut is)).1)
 wrong_is_none TooDeep line (front, back, cut, reads, deep) s is =
-    omega (arith, is.fits, deep, ap (λ (p : List ℕ). length (keys_of p)) (cut_once cut is).0)
+    omega (arith, is.fits, deep, ap (λ (p : List ℕ). length (keys_of p)) (one_cut cut (stack_cut is)).0)
 
 -- ---- what the code finds in a line
 -- A line with nothing before its last space has no path.
@@ -156,23 +270,21 @@ lines_fit bs =
 pub stacks-cons : (l : List ℕ) (ls : List (List ℕ)) (s : Stack) (ss : List Stack) → IsStack l s → AreStacks ls ss →
     AreStacks (l ∷ ls) (s ∷ ss)
 stacks-cons [] ls s ss is h = absurd (wrong_is_none NoSpace [] tt s is)
-stacks-cons (b ∷ bs) ls s ss is h = (is, h)
+stacks-cons (b ∷ bs) ls s ss is h = (s, ss, refl, is, h)
 
 -- If the first line is not blank, the first stack is its own, and the others are those of the other lines.
 pub stacks-first : (l : List ℕ) (ls : List (List ℕ)) (ss : List Stack) → 0 < length l → AreStacks (l ∷ ls) ss
     → (s : Stack) × (others : List Stack) × (ss ≡ s ∷ others) × IsStack l s × AreStacks ls others
 stacks-first [] ls ss some h = absurd (omega (arith, some))
-stacks-first (b ∷ bs) ls [] some h = absurd h
-stacks-first (b ∷ bs) ls (s ∷ ss) some h = (s, ss, refl, h.0, h.1)
+stacks-first (b ∷ bs) ls ss some h = h
 
 -- If two lists of lines are stacks, both lists together are the stacks of the first and then those of the second.
 stacks-append : (ls : List (List ℕ)) (ss : List Stack) (ks : List (List ℕ)) (ts : List Stack) → AreStacks ls ss →
     AreStacks ks ts → AreStacks (ls ++ ks) (ss ++ ts)
-stacks-append [] [] ks ts h g = g
-stacks-append [] (s ∷ ss) ks ts h g = absurd h
+stacks-append [] ss ks ts e g = rw e g
 stacks-append ([] ∷ ls) ss ks ts h g = stacks-append ls ss ks ts h g
-stacks-append ((b ∷ bs) ∷ ls) [] ks ts h g = absurd h
-stacks-append ((b ∷ bs) ∷ ls) (s ∷ ss) ks ts h g = (h.0, stacks-append ls ss ks ts h.1 g)
+stacks-append ((b ∷ bs) ∷ ls) ss ks ts (s, others, e, is, rest) g =
+    (s, others ++ ts, ap (λ l. l ++ ts) e, is, stacks-append ls others ks ts rest g)
 
 -- One line more was read.
 pub read-more : (xs : List (Bor (List ℕ))) (x : Bor (List ℕ)) (now later : List Line) (line : Line) →
@@ -181,13 +293,13 @@ pub read-more : (xs : List (Bor (List ℕ))) (x : Bor (List ℕ)) (now later : L
 read-more xs x now later line h is e =
     rw (e, map_push (λ (x : Bor (List ℕ)). x.now) xs x, map_push line_stack now line)
     (stacks-append (texts xs) (map line_stack now) (x.now ∷ []) (line_stack line ∷ []) h
-    (stacks-cons x.now [] (line_stack line) [] is tt))
+    (stacks-cons x.now [] (line_stack line) [] is refl))
 
 -- A blank line was passed over.
 pub read-blank : (xs : List (Bor (List ℕ))) (x : Bor (List ℕ)) (now : List Line) →
     AreStacks (texts xs) (map line_stack now) → length x.now ≡ 0 → AreStacks (texts (xs ++ x ∷ [])) (map line_stack now)
 read-blank xs x now h e =
-    let blank : AreStacks (x.now ∷ []) [] = subst (λ l. AreStacks (l ∷ []) []) (sym (nil_from_length x.now e)) tt in
+    let blank : AreStacks (x.now ∷ []) [] = subst (λ l. AreStacks (l ∷ []) []) (sym (nil_from_length x.now e)) refl in
     subst₂ AreStacks (sym (map_push (λ (x : Bor (List ℕ)). x.now) xs x)) (append-nil (map line_stack now))
     (stacks-append (texts xs) (map line_stack now) (x.now ∷ []) [] h blank)
 
@@ -242,7 +354,7 @@ lines-full [] h = refl
 lines-full (e ∷ es) h =
     let newline : ℕ → Bool = λ b. b == 10 in
     let rest : List ℕ = flat_map full es in
-    ap lines (full_body e rest)
+    ap lines (append_assoc (body e) (10 ∷ []) rest)
     ∙ ap lines_of_parts (slice_split_at newline (body e) 10 rest (no_byte 10 (body e) (body_lacks e h.0)) refl)
     ∙ lines_of_parts-cons (body e) (slice_split newline rest) (omega (arith, length-slice_split newline rest))
     ∙ (λ i. kept_end (joined e.0) (32 ∷ decimal e.1) ((λ g. omega (arith, g)), decimal_lacks 13 e.1 (omega arith))
@@ -260,10 +372,6 @@ number-decimal : (n : ℕ) → n < 2 ^ 64 → IsNumber (decimal n) × (number_of
 number-decimal n w =
     let read = decimal_is_IsNumeral n w in
     ((read.0, omega (arith, read.1, w)), read.1)
-
--- What an entry says.
-abbrev said : Sized → Stack
-said e = record { path = e.0; size = e.1 }
 
 -- The keys and the number read from the line of a good entry are its own.
 saying : (e : Sized) → Good e → ◌≡◌ {A = Stack} (record { path = keys_of (joined e.0); size = number_of (decimal e.1) })
@@ -291,8 +399,7 @@ said_all (e ∷ es) good = λ i. (cut_says (body_cut e) ∙ saying e good.0) i �
 -- If the lines of good entries are stacks, these have the paths and the sizes of the entries, in their order.
 entries_read : (es : List Sized) → AllByRecursion Good es → (ss : List Stack) → AreStacks (map body es) ss →
     ss ≡ map said es
-entries_read [] good [] h = refl
-entries_read [] good (s ∷ ss) h = absurd h
+entries_read [] good ss h = h
 entries_read (e ∷ es) good ss h =
     let f = stacks-first (body e) (map body es) ss (omega (arith, length-append (joined e.0) (32 ∷ decimal e.1))) h in
     f.2 ∙ (λ i. (f.3.is ∙ sym (cut_says (stack_cut f.3)) ∙ cut_says (body_cut e) ∙ saying e good.0) i
@@ -302,11 +409,6 @@ entries_read (e ∷ es) good ss h =
 lines-text : (g : Graph) → HasPlainKeys g → HasWords g → lines (text g) ≡ map body (written_entries g)
 lines-text g plain fits = ap lines (shown_lines (entries g))
     ∙ lines-full (written_entries g) (each-implies Good _ (λ e good. good.plain) (written_entries g) (good_entries (entries g) plain fits))
-
--- A size of a graph, but for the root's, is that of the stacks that its lines say.
-size_said : (g : Graph) (k : Key) (p : Path) → size_at g (k ∷ p) ≡ bytes_at (map said (written_entries g)) (k ∷ p)
-size_said g k p = size_shown g k p
-    ∙ sym (fold-map (λ n (s : Stack). n + cond (is_same_path (k ∷ p) s.path) s.size 0) said 0 (written_entries g))
 
 -- Graphs with plain keys, totals that fit a word and one text have equal sizes at each path but the root.
 pub text_tells : (g h : Graph) → HasPlainKeys g → HasPlainKeys h → HasWords g → HasWords h → text g ≡ text h →
@@ -323,26 +425,19 @@ stacks_of_text : (g : Graph) → HasPlainKeys g → HasWords g → (ss : List St
 stacks_of_text g plain fits ss h = entries_read (written_entries g) (good_entries (entries g) plain fits) ss
     (subst (λ (ls : List (List ℕ)). AreStacks ls ss) (lines-text g plain fits) h)
 
--- ---- the bytes at a path
+-- ---- what is read
 -- Stacks none of which begins with a path have no bytes there.
 bytes-absent : (ss : List Stack) (q : Path) → list_any (λ s. begins q s.path) ss ≡ false → bytes_at ss q ≡ 0
 bytes-absent [] q h = refl
 bytes-absent (s ∷ ss) q h = grind (arith, h, bytes-absent ss q, same_begins q s.path, sum_by-cons (λ (t : Stack). cond (is_same_path q t.path) t.size 0) s ss)
 
--- ---- what is read
--- A graph that has the bytes of some stacks at a path other than the root has their size there.
-size_at-read : (ss : List Stack) (h : Graph) (k : Key) (p : Path) →
-    get h (k ∷ p) ≡ cond (is_path_of ss (k ∷ p)) (Some (bytes_at ss (k ∷ p))) None →
-    size_at h (k ∷ p) ≡ bytes_at ss (k ∷ p)
-size_at-read ss h k p e =
-    rw e (grind (arith, bytes-absent ss (k ∷ p)))
-
 -- What is read of the text of a graph has its sizes, but for the root.
 pub reads_back : (g h : Graph) → HasPlainKeys g → HasWords g → IsRead (text g) h → (k : Key) (p : Path) →
     size_at h (k ∷ p) ≡ size_at g (k ∷ p)
 reads_back g h plain fits read k p =
-    size_at-read read.stacks h k p (read.graph (k ∷ p))
-    ∙ ap (λ ss. bytes_at ss (k ∷ p)) (stacks_of_text g plain fits read.stacks read.means) ∙ sym (size_said g k p)
+    let found : size_at h (k ∷ p) ≡ bytes_at read.stacks (k ∷ p) =
+    rw (read.graph (k ∷ p)) (grind (arith, bytes-absent read.stacks (k ∷ p))) in
+    found ∙ ap (λ ss. bytes_at ss (k ∷ p)) (stacks_of_text g plain fits read.stacks read.means) ∙ sym (size_said g k p)
 
 -- ---- nothing in the text of a graph is refused
 -- The line of a good entry is a stack with its path and its size.
@@ -360,7 +455,7 @@ said_stack e good h = record {
 -- If good entries have at most `LEVELS` keys and not one empty key alone, their lines are stacks that say the same.
 said_stacks : (es : List Sized) → AllByRecursion Good es →
     AllByRecursion (λ e. (length e.0 ≤ LEVELS) × (0 < length (joined e.0))) es → AreStacks (map body es) (map said es)
-said_stacks [] good h = tt
+said_stacks [] good h = refl
 said_stacks (e ∷ es) good h = stacks-cons (body e) (map body es) (said e) (map said es) (said_stack e good.0 h.0)
     (said_stacks es good.1 h.1)
 
@@ -369,8 +464,7 @@ no_fault : (before : List (List ℕ)) (line : List ℕ) (rest : List (List ℕ))
     AreStacks (before ++ line ∷ rest) ss → 0 < length line → ((s : Stack) → IsStack line s → ⊥) → ⊥
 no_fault [] line rest ss h some none = let f = stacks-first line rest ss some h in none f.0 f.3
 no_fault ([] ∷ before) line rest ss h some none = no_fault before line rest ss h some none
-no_fault ((b ∷ bs) ∷ before) line rest [] h some none = h
-no_fault ((b ∷ bs) ∷ before) line rest (s ∷ ss) h some none = no_fault before line rest ss h.1 some none
+no_fault ((b ∷ bs) ∷ before) line rest ss h some none = no_fault before line rest h.1 h.4 some none
 
 -- If the keys of a graph are plain, its total fits a word and it can be read, no line of its text is refused.
 pub never_refused : (g : Graph) → HasPlainKeys g → HasWords g → CanBeRead g → (n : ℕ) (w : LineFault) →
@@ -385,8 +479,7 @@ never_refused g plain fits can n w fault =
 -- The bytes in the text of a graph whose sizes are words never exceed a word.
 pub never_exceeds : (g : Graph) → HasPlainKeys g → HasWords g → Exceeds (text g) → ⊥
 never_exceeds g plain fits e =
-    let is : all_bytes e.stacks ≡ all_bytes (map said (written_entries g)) =
-    ap all_bytes (stacks_of_text g plain fits e.stacks e.means) in
+    let is = ap all_bytes (stacks_of_text g plain fits e.stacks e.means) in
     omega (arith, is, fold-map (λ n (s : Stack). n + s.size) said 0 (written_entries g), sum_by-filter_both is_shown (λ x. not (is_shown x)) (λ x. refl) (λ x. x.1) (entries g), e.exceeds, fits)
 
 -- ---- lines dropped from a text are paths left out of it
@@ -399,7 +492,7 @@ line_read acc (b ∷ a) rest h = rw (ne_eqb b 10 h.0, line_read (acc ++ b ∷ []
 lines_read : (es : List Sized) → AllByRecursion (λ e. AllByRecursion Plain e.0) es →
     lines_from [] (flat_map full es) ≡ map body es
 lines_read [] h = refl
-lines_read (e ∷ es) h = ap (lines_from []) (full_body e (flat_map full es))
+lines_read (e ∷ es) h = ap (lines_from []) (append_assoc (body e) (10 ∷ []) (flat_map full es))
     ∙ line_read [] (body e) (flat_map full es) (body_lacks e h.0) ∙ (λ i. body e ∷ lines_read es h.1 i)
 
 -- A path with plain keys ends in a key exactly if its text has that key after the last `;`.

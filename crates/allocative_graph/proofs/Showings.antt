@@ -4,8 +4,8 @@ use Rattle.std.proofs.Common.{◌≡◌, ℕ, ◌+◌, cond, IsTrue, List, [], �
 use Rattle.std.proofs.Common.{sym, ◌∙◌, sum_by, arith, IsPermutation, ◌↔◌, Bool, false, ◌||◌, ◌++◌, append_assoc}
 use Rattle.std.proofs.Common.{is_some, subst, true≢false, inl, inr}
 use Rattle.allocative_graph.proofs.Common.{option_map, entries, from_entries, get, get-from_entries, same_map, Identity}
-use Rattle.allocative_graph.proofs.Common.{identity_cmp, is_same_identity, Forest, Bag, Entry, own, content_entries}
-use Rattle.allocative_graph.proofs.Common.{all, content_identities, sums_of, sum_by-cons, sum_by-IsPermutation}
+use Rattle.allocative_graph.proofs.Common.{identity_cmp, is_same_identity, Forest, Bag, Entry, own, all}
+use Rattle.allocative_graph.proofs.Common.{content_identities, sums_of, sum_by-cons, sum_by-IsPermutation}
 use Rattle.allocative_graph.proofs.Common.{list_any-IsPermutation, All-from_recursion, AllByRecursion, Sums, add}
 use Rattle.allocative_graph.proofs.Common.{add_all, contains, Path, Identities, Empty, Inline, Unique, First, Again}
 use Rattle.allocative_graph.proofs.Common.{own_behind, contents, followed_by, insert_all, met_after, Fits, entries_at}
@@ -23,8 +23,7 @@ use Rattle.allocative_graph.proofs.Basics.{path_total, path_antisymmetric, same_
 use Rattle.allocative_graph.proofs.Basics.{or_right, or_parts, or-false, each-implies, same_identity}
 use Rattle.allocative_graph.proofs.Basics.{same_identity_itself, same_identity_turned}
 use Rattle.allocative_graph.proofs.Sums.{find-keys, weights-insert, SameSums, add_all-same, get-add_all, get-sums_of}
-use Rattle.allocative_graph.proofs.Sums.{below-add_all, below-sums_of, absent_below}
-use Rattle.allocative_graph.proofs.Computed.{no_entries}
+use Rattle.allocative_graph.proofs.Sums.{below-add_all, below-sums_of, absent_below, no_entries}
 use Rattle.std.specs.FinSet.{insert}
 use Rattle.std.specs.Map.{lookup}
 use Rattle.std.proofs.lemmas.List.Elements.{All-contains_itself, All-weaker, recursion_from_All}
@@ -102,38 +101,7 @@ module _ (b : Bag) (content : Identity → Bag) where
 abbrev marked_in : Identity → Bag → Contents → Bool
 marked_in i b cs = has_mark i b || list_any (λ c. has_mark i c.1) cs
 
--- A step of `fits_marks`: if each of two parts points only to identities met after it, so do both in one.
-two_marked : (i : Identity) (s : Identities) (a b : Bag) (cs ds : Contents) →
-    (IsTrue (marked_in i a cs) → IsTrue (contains s i || is_among i (ids cs)))
-    → (IsTrue (marked_in i b ds) → IsTrue (contains (insert_all s (ids cs)) i || is_among i (ids ds))) →
-    IsTrue (marked_in i (a ++ b) (cs ++ ds)) → IsTrue (contains s i || is_among i (ids (cs ++ ds)))
-two_marked i s a b cs ds f g h = grind (arith, f, g, h, list_any-append (marks i) a b, list_any-append (λ c. has_mark i c.1) cs ds, among-append i cs ds, contains-insert_all s (ids cs) i)
-
--- If a forest that fits the identities met points to an identity, it was met or the forest shows its content.
-fits_marks : (p : Path) (s : Identities) (f : Forest) → Fits s f → (i : Identity) →
-    IsTrue (marked_in i (own_behind p f) (contents f)) → IsTrue (contains s i || is_among i (content_identities f))
-fits_marks p s Empty w i h = absurd (true≢false (sym h))
-fits_marks p s (Inline k n f after) w i h =
-    two_marked i s (own_behind (p ++ k ∷ []) f) (own_behind p after) (contents f) (contents after)
-    (fits_marks (p ++ k ∷ []) s f w.0 i) (fits_marks p (met_after s f) after w.1 i) h
-fits_marks p s (Unique k n f after) w i h =
-    two_marked i s (own_behind (p ++ k ∷ []) f) (own_behind p after) (contents f) (contents after)
-    (fits_marks (p ++ k ∷ []) s f w.0 i) (fits_marks p (met_after s f) after w.1 i) h
-fits_marks p s (First k n j f after) w i h =
-    let rest = two_marked i (insert s j) (own f) (own_behind p after) (contents f) (contents after)
-    (fits_marks [] (insert s j) f w.1 i) (fits_marks p (met_after (insert s j) f) after w.2 i) in
-    grind (arith, rest, h, contains-insert identity_total s j i, list_any-append (marks i) (own f) (own_behind p after))
-fits_marks p s (Again k n j after) w i h =
-    let met = λ (a : IsTrue (is_same_identity i j)). ap (contains s) (same_identity i j a) ∙ w.0 in
-    grind (arith, met, h, fits_marks p s after w.1 i)
-
--- If the content found for an identity points to i, one of the contents points to i.
-marks_content : (cs : Contents) (i j : Identity) → IsTrue (has_mark i (unwrap_or (lookup (is_same_identity j) cs) [])) →
-    IsTrue (list_any (λ c. has_mark i c.1) cs)
-marks_content [] i j h = h
-marks_content (c ∷ cs) i j h = grind (arith, marks_content cs i j, h)
-
--- ---- an identity is shown once
+-- No identity of the contents was met before, or is there twice.
 abbrev Fresh : Identities → Contents → Type 0
 Fresh s [] = ⊤
 Fresh s (c ∷ cs) = (contains s c.0 ≡ false) × Fresh (insert s c.0) cs
@@ -143,15 +111,37 @@ fresh-append : (s : Identities) (cs ds : Contents) → Fresh s cs → Fresh (ins
 fresh-append s [] ds h g = g
 fresh-append s (c ∷ cs) ds h g = (h.0, fresh-append (insert s c.0) cs ds h.1 g)
 
--- The contents of a forest that fits are new: no identity was met before or is shown twice.
-fits_fresh : (s : Identities) (f : Forest) → Fits s f → Fresh s (contents f)
-fits_fresh s Empty w = tt
-fits_fresh s (Inline k n f after) w = fresh-append s (contents f) (contents after) (fits_fresh s f w.0)
-    (fits_fresh (met_after s f) after w.1)
-fits_fresh s (Unique k n f after) w = fresh-append s (contents f) (contents after) (fits_fresh s f w.0)
-    (fits_fresh (met_after s f) after w.1)
-fits_fresh s (First k n j f after) w = (w.0, fresh-append (insert s j) (contents f) (contents after) (fits_fresh (insert s j) f w.1) (fits_fresh (met_after (insert s j) f) after w.2))
-fits_fresh s (Again k n j after) w = fits_fresh s after w.1
+-- The contents cs are new, and each identity to which b or cs points was met before or is in cs.
+abbrev AllMet : Identities → Bag → Contents → Type 0
+AllMet s b cs = Fresh s cs
+    × ((i : Identity) → IsTrue (marked_in i b cs) → IsTrue (contains s i || is_among i (ids cs)))
+
+-- If this holds of two parts, of the second once the first was met, it holds of both in one.
+both_met : (s : Identities) (a b : Bag) (cs ds : Contents) → AllMet s a cs → AllMet (insert_all s (ids cs)) b ds →
+    AllMet s (a ++ b) (cs ++ ds)
+both_met s a b cs ds x y = (fresh-append s cs ds x.0 y.0, λ i h. grind (arith, x.1 i, y.1 i, h, list_any-append (marks i) a b, list_any-append (λ c. has_mark i c.1) cs ds, among-append i cs ds, contains-insert_all s (ids cs) i))
+
+-- It holds of a forest that fits the identities met.
+fits_met : (p : Path) (s : Identities) (f : Forest) → Fits s f → AllMet s (own_behind p f) (contents f)
+fits_met p s Empty w = (tt, λ i h. absurd (true≢false (sym h)))
+fits_met p s (Inline k n f after) w = both_met s (own_behind (p ++ k ∷ []) f) (own_behind p after) (contents f)
+    (contents after) (fits_met (p ++ k ∷ []) s f w.0) (fits_met p (met_after s f) after w.1)
+fits_met p s (Unique k n f after) w = both_met s (own_behind (p ++ k ∷ []) f) (own_behind p after) (contents f)
+    (contents after) (fits_met (p ++ k ∷ []) s f w.0) (fits_met p (met_after s f) after w.1)
+fits_met p s (First k n j f after) w =
+    let rest = both_met (insert s j) (own f) (own_behind p after) (contents f) (contents after)
+    (fits_met [] (insert s j) f w.1) (fits_met p (met_after (insert s j) f) after w.2) in
+    ((w.0, rest.0), λ i h. grind (arith, rest.1 i, h, contains-insert identity_total s j i, list_any-append (marks i) (own f) (own_behind p after)))
+fits_met p s (Again k n j after) w =
+    let rest = fits_met p s after w.1 in
+    let met = λ (i : Identity) (a : IsTrue (is_same_identity i j)). ap (contains s) (same_identity i j a) ∙ w.0 in
+    (rest.0, λ i h. grind (arith, met i, h, rest.1 i))
+
+-- If the content found for an identity points to i, one of the contents points to i.
+marks_content : (cs : Contents) (i j : Identity) → IsTrue (has_mark i (unwrap_or (lookup (is_same_identity j) cs) [])) →
+    IsTrue (list_any (λ c. has_mark i c.1) cs)
+marks_content [] i j h = h
+marks_content (c ∷ cs) i j h = grind (arith, marks_content cs i j, h)
 
 -- The identities of new contents were not met before, and none of them is there twice.
 fresh_distinct : (s : Identities) (cs : Contents) → Fresh s cs →
@@ -166,7 +156,7 @@ fresh_distinct s (c ∷ cs) h =
 
 -- A whole showing shows the content of each identity at most once.
 pub shown_distinct : (f : Forest) → IsWhole f → IsDistinct is_same_identity (content_identities f)
-shown_distinct f w = (fresh_distinct set.empty (contents f) (fits_fresh set.empty f w)).1
+shown_distinct f w = (fresh_distinct set.empty (contents f) (fits_met [] set.empty f w).0).1
 
 -- In a whole showing, `content_of` finds each content by its identity.
 own_content : (f : Forest) → IsWhole f → AllByRecursion (λ c. content_of f c.0 ≡ c.1) (contents f)
@@ -180,27 +170,24 @@ pub reaches_exactly : (f : Forest) → IsWhole f → ReachesExactly f
 reaches_exactly f w i = (
   reach (own f) (content_of f) [] f (λ j h. marked h) (own_content f w) i,
   λ r. sym (ap (λ b. b || is_among i (content_identities f)) (contains-empty identity_cmp i))
-      ∙ fits_marks [] set.empty f w i (elim r [
+      ∙ (fits_met [] set.empty f w).1 i (elim r [
         | marked h ↦ or_left _ _ h
         | inside j q h ↦ or_right (has_mark i (own f))
             _ (marks_content (contents f) i j h)
       ]),
 )
 
--- The entries of all contents are those of the content of each identity shown.
-pub as_flat : (f : Forest) → IsWhole f → flat_map (content_of f) (content_identities f) ≡ flat_map (λ c. c.1) (contents f)
-as_flat f w = each (contents f) (own_content f w)
-  where
-    each : (cs : Contents) → AllByRecursion (λ c. content_of f c.0 ≡ c.1) cs →
-        flat_map (content_of f) (ids cs) ≡ flat_map (λ c. c.1) cs
-    each [] h = refl
-    each (c ∷ cs) h = λ k. h.0 k ++ each cs h.1 k
-
 -- All entries of a whole showing are a meaning of its own entries, with the contents that it shows.
 pub all_is_meaning : (f : Forest) → IsWhole f → IsMeaning (own f) (content_of f) (all f)
 all_is_meaning f w =
-    let same = subst (λ b. IsPermutation (own f ++ b) (all f)) (sym (as_flat f w)) (IsPermutation-refl (all f)) in
+    let same = subst (λ b. IsPermutation (own f ++ b) (all f)) (sym (flat (contents f) (own_content f w)))
+    (IsPermutation-refl (all f)) in
     record { identities = content_identities f; once = shown_distinct f w; reached = reaches_exactly f w; is = same }
+  where
+    flat : (cs : Contents) → AllByRecursion (λ c. content_of f c.0 ≡ c.1) cs →
+        flat_map (content_of f) (ids cs) ≡ flat_map (λ c. c.1) cs
+    flat [] h = refl
+    flat (c ∷ cs) h = λ k. h.0 k ++ flat cs h.1 k
 
 -- ---- whole showings that agree
 -- If two whole showings agree, the second reaches each identity that the first reaches.
@@ -216,13 +203,6 @@ same_reached f g v w a i (inside j r h) =
 -- If one showing agrees with another, the other agrees with it.
 pub agree_back : (f g : Forest) → Agree f g → Agree g f
 agree_back f g a = record { own_entries = IsPermutation-sym _ _ a.own_entries; same_content = λ i p q. IsPermutation-sym _ _ (a.same_content i q p) }
-
--- Two whole showings that agree show the contents of the same identities.
-same_shown : (f g : Forest) → IsWhole f → IsWhole g → Agree f g → (i : Identity) →
-    is_among i (content_identities f) ≡ is_among i (content_identities g)
-same_shown f g v w a i = both_ways _ _
-    (λ h. (reaches_exactly g w i).1 (same_reached f g v w a i ((reaches_exactly f v i).0 h)))
-    (λ h. (reaches_exactly f v i).1 (same_reached g f w v (agree_back f g a) i ((reaches_exactly g w i).0 h)))
 
 -- ---- two lists of the same identities, each with none twice
 module _ (v : Identity → ℕ) where
@@ -261,28 +241,29 @@ module _ (is js : List Identity) (d : IsDistinct is_same_identity is) (e : IsDis
   same_flat S T each w = sum-flat w S is ∙ same_sum (λ i. sum_by w (S i)) (λ i. sum_by w (T i))
       (λ k h. sym (sum_by-IsPermutation w _ _ (each k h))) ∙ sym (sum-flat w T js)
 
--- Whatever is added up over all entries, two whole showings that agree have the same sum.
-same_all : (f g : Forest) → IsWhole f → IsWhole g → Agree f g → SameSums (all f) (all g)
-same_all f g v w a x =
-    let flat = same_flat (content_identities f) (content_identities g) (shown_distinct f v) (shown_distinct g w) (same_shown f g v w a)
-    (content_of f) (content_of g)
-    (λ k h. a.same_content k (same_shown f g v w a k ∙ h) h) x in
-    let inner = sym (ap (sum_by x) (as_flat f v)) ∙ flat ∙ ap (sum_by x) (as_flat g w) in
-    omega (arith, sum_by-append x (own f) (content_entries f), sum_by-append x (own g) (content_entries g), sum_by-IsPermutation x _ _ a.own_entries, inner)
+-- Meanings of two bags that have the same entries, and reach the same identities with the same contents, have equal
+-- sums.
+meanings : {b c m n : Bag} {S T : Identity → Bag} → (x : IsMeaning b S m) (y : IsMeaning c T n) → IsPermutation b c →
+    ((k : Identity) → Reached b S k ↔ Reached c T k) → ((k : Identity) → Reached c T k → IsPermutation (S k) (T k)) →
+    sums_of m ≡ sums_of n
+meanings {b = b} {c = c} {m = m} {n = n} {S = S} {T = T} x y moved both each = add_all-same empty m n (λ w.
+    let flat = same_flat x.identities y.identities x.once y.once
+    (λ k. both_ways _ _ (λ h. (y.reached k).1 ((both k).0 ((x.reached k).0 h)))
+    (λ h. (x.reached k).1 ((both k).1 ((y.reached k).0 h)))) S T (λ k h. each k ((y.reached k).0 h)) w in
+    omega (arith, sum_by-IsPermutation w _ _ x.is, sum_by-IsPermutation w _ _ y.is, sum_by-IsPermutation w _ _ moved, sum_by-append w b (flat_map S x.identities), sum_by-append w c (flat_map T y.identities), flat))
 
 -- The sums of all entries are equal in two whole showings that agree.
 pub same_sums_of : (f g : Forest) → IsWhole f → IsWhole g → Agree f g → sums_of (all f) ≡ sums_of (all g)
-same_sums_of f g v w a = add_all-same empty (all f) (all g) (same_all f g v w a)
+same_sums_of f g v w a =
+    let back = same_reached g f w v (agree_back f g a) in
+    meanings (all_is_meaning f v) (all_is_meaning g w) a.own_entries (λ k. (same_reached f g v w a k, back k))
+    (λ k h. a.same_content k ((reaches_exactly f v k).1 (back k h)) ((reaches_exactly g w k).1 h))
 
--- ---- two meanings of one bag
 -- Two meanings of one bag, with the same contents, have equal sums.
 pub one_sums : (b : Bag) (T : Identity → Bag) (m n : Bag) → IsMeaning b T m → IsMeaning b T n → sums_of m ≡ sums_of n
-one_sums b T m n x y = add_all-same empty m n (λ w.
-    let flat = same_flat x.identities y.identities x.once y.once
-    (λ k. both_ways _ _ (λ h. (y.reached k).1 ((x.reached k).0 h)) (λ h. (x.reached k).1 ((y.reached k).0 h))) T T
-    (λ k h. IsPermutation-refl (T k)) w in
-    omega (arith, sum_by-IsPermutation w _ _ x.is, sum_by-IsPermutation w _ _ y.is, sum_by-append w b (flat_map T x.identities), sum_by-append w b (flat_map T y.identities), flat))
+one_sums b T m n x y = meanings x y (IsPermutation-refl b) (λ k. (λ h. h, λ h. h)) (λ k h. IsPermutation-refl (T k))
 
+-- ---- two forests one after another
 -- The own entries of two forests one after another are those of the first, then those of the second.
 pub own-following : (p : Path) (f g : Forest) → own_behind p (followed_by f g) ≡ own_behind p f ++ own_behind p g
 own-following p Empty g = refl

@@ -1,8 +1,8 @@
--- What a bag adds to the sums, path by path, whatever its order, the bytes one key below a path, and which paths have
--- entries.
+-- What a bag adds to the sums, path by path, whatever its order, and as plain lists; the bytes one key below a path,
+-- and which paths have entries.
 use Rattle.std.proofs.Common.{◌≡◌, ℕ, ◌+◌, Bool, false, cond, [], ◌∷◌, Option, Some, None, refl, ap, sym, ◌∙◌, sum_by}
 use Rattle.std.proofs.Common.{arith, nat_lt, IsTrue, true, T, List, subst, unwrap_or, map, Ordering, Less, ◌++◌}
-use Rattle.std.proofs.Common.{flat_map, ◌||◌, true≢false}
+use Rattle.std.proofs.Common.{flat_map, ◌||◌, true≢false, ◌-◌, fold, not, ◌&&◌}
 use Rattle.allocative_graph.proofs.Common.{get, get-insert, same_map, Path, path_cmp, is_same_path, Entry, Bag, Node}
 use Rattle.allocative_graph.proofs.Common.{Sums, bytes_in, is_unique_in, is_entered_in, together, node_of, add, add_all}
 use Rattle.allocative_graph.proofs.Common.{sums_of, sum_by-cons, list_any, option_map, eq_by_cmp, is_eq, is_lt}
@@ -11,15 +11,87 @@ use Rattle.allocative_graph.proofs.Common.{entries_sorted, put, find, is_sorted,
 use Rattle.allocative_graph.proofs.Common.{first, second, AllByRecursion, list_any-append, tied_then, Key, key_cmp}
 use Rattle.allocative_graph.proofs.Common.{Identity, Forest, Empty, Inline, Unique, First, Again, AsInline, AsUnique}
 use Rattle.allocative_graph.proofs.Common.{AsShared, own, own_behind, contents, content_entries, all, IsTotalOrder}
-use Rattle.allocative_graph.proofs.Common.{Mark}
+use Rattle.allocative_graph.proofs.Common.{Mark, nil_from_length, keys, from_entries, len-entries, Graph, graph, sizes}
+use Rattle.allocative_graph.proofs.Common.{sum_of, text, text_of_entries, is_root}
 use Rattle.std.proofs.lemmas.Bool.Decides.{nat_tests}
-use Rattle.std.specs.FinMap.{empty, get-empty, FinMap}
+use Rattle.std.specs.FinMap.{empty, get-empty, FinMap, len-empty}
 use Rattle.allocative_graph.specs.Sums.{is_unique_mark, bytes_entered}
 use Rattle.allocative_graph.proofs.Basics.{path_total, path_antisymmetric, same_path, is_eq-Equal, each-append}
 use Rattle.allocative_graph.proofs.Basics.{same_path_itself}
 pub use Rattle.allocative_graph.specs.Sums.{below_in}
-use Rattle.allocative_graph.proofs.Computed.{below_list, entries-empty}
+use Rattle.allocative_graph.specs.Graph.{warning_line}
 
+-- ---- the maps of a bag as plain lists, on which texts compute
+abbrev pub nodes_add : List (Path × Node) → Entry → List (Path × Node)
+nodes_add es e = put path_cmp e.path (together (find path_cmp e.path es) (node_of e)) es
+
+abbrev pub nodes_add_all : List (Path × Node) → Bag → List (Path × Node)
+nodes_add_all es b = fold nodes_add es b
+
+-- Adding a bag to sums gives the entries that `nodes_add_all` computes from theirs and the bag.
+entries-add_all : (s : Sums) (b : Bag) → entries (add_all s b) ≡ nodes_add_all (entries s) b
+entries-add_all s [] = refl
+entries-add_all s (e ∷ b) = entries-add_all (add s e) b
+    ∙ ap (λ es. nodes_add_all es b) (entries-insert path_total s e.path _ ∙ ap
+    (λ o. put path_cmp e.path (together o (node_of e)) (entries s)) (get-entries s e.path))
+
+abbrev pub put_all : {X : Type 0} → List (Path × X) → List (Path × X)
+put_all [] = []
+put_all (e ∷ es) = put path_cmp e.0 e.1 (put_all es)
+
+-- An empty map has no entries, whatever its order of keys and its type of values.
+pub no_entries : {K : Type 0} (R : K → K → Ordering) (X : Type 0) → entries (empty {X = X} {R = R}) ≡ []
+no_entries R X = nil_from_length _ (sym (len-entries (empty {X = X} {R = R})) ∙ len-empty R X)
+
+-- An empty map from paths has no entries.
+pub entries-empty : {X : Type 0} → entries (empty {X = X} {R = path_cmp}) ≡ []
+entries-empty {X} = no_entries path_cmp X
+
+-- The entries of a map made from a list are those that `put_all` computes from the list.
+pub entries-from_entries : {X : Type 0} (es : List (Path × X)) → entries (from_entries {R = path_cmp} es) ≡ put_all es
+entries-from_entries [] = entries-empty
+entries-from_entries (e ∷ es) = entries-insert path_total _ e.0 e.1
+    ∙ ap (put path_cmp e.0 e.1) (entries-from_entries es)
+
+-- ---- the texts
+abbrev pub nodes_of : Bag → List (Path × Node)
+nodes_of b = nodes_add_all [] b
+
+-- The entries of the sums of a bag are those that `nodes_of` computes from the bag.
+pub entries-sums_of : (b : Bag) → entries (sums_of b) ≡ nodes_of b
+entries-sums_of b = entries-add_all empty b ∙ ap (λ es. nodes_add_all es b) entries-empty
+
+abbrev pub below_list : List (Path × Node) → Path → ℕ
+below_list es p = sum_by (λ e. cond (is_one_below p e.0) e.1.bytes 0) es
+
+abbrev pub sizes_list : List (Path × Node) → List (Path × ℕ)
+sizes_list es = put_all (([], 0) ∷ map (λ e. (e.0, cond e.1.is_unique e.1.bytes (e.1.bytes - below_list es e.0))) es)
+
+-- The entries of a bag's graph are those that `sizes_list` computes from the nodes of the bag.
+pub entries-graph : (b : Bag) → entries (graph (sums_of b)) ≡ sizes_list (nodes_of b)
+entries-graph b = entries-from_entries (sizes (sums_of b)) ∙ ap sizes_list (entries-sums_of b)
+
+abbrev pub warnings_list : List (Path × Node) → List ℕ
+warnings_list es = flat_map (λ e. cond (not (is_root e.0) && not e.1.is_unique && nat_lt e.1.bytes (below_list es e.0))
+    (warning_line e.0 e.1.bytes (below_list es e.0)) []) es
+
+abbrev pub added_list : List (Path × ℕ) → List (Path × ℕ) → List (Path × ℕ)
+added_list es fs = put_all (map (λ p. (p, unwrap_or (find path_cmp p es) 0 + unwrap_or (find path_cmp p fs) 0))
+    (map (λ e. e.0) es ++ map (λ e. e.0) fs))
+
+-- The entries of the sum of two graphs are those that `added_list` computes from theirs.
+entries-sum_of : (g h : Graph) → entries (sum_of g h) ≡ added_list (entries g) (entries h)
+entries-sum_of g h = entries-from_entries
+    _ ∙ (λ i. put_all (map (λ p. (p, unwrap_or (get-entries g p i) 0 + unwrap_or (get-entries h p i) 0))
+    (keys g ++ keys h)))
+
+-- The text of the sum of two bags' graphs is the text of the list that `added_list` computes.
+pub text_added : (b c : Bag) → text (sum_of (graph (sums_of b)) (graph (sums_of c)))
+    ≡ text_of_entries (added_list (sizes_list (nodes_of b)) (sizes_list (nodes_of c)))
+text_added b c = ap text_of_entries (entries-sum_of (graph (sums_of b)) (graph (sums_of c))
+    ∙ (λ i. added_list (entries-graph b i) (entries-graph c i)))
+
+-- ---- path by path
 -- What a bag has at a path.
 abbrev pub node_in : Bag → Path → Option Node
 node_in b q = cond (is_entered_in b q) (Some (record { bytes = bytes_in b q; is_unique = is_unique_in b q })) None
@@ -29,7 +101,7 @@ merge a None = a
 merge a (Some n) = Some (together a n)
 
 -- One entry more in a bag adds its bytes at its own path, and nothing at other paths.
-bytes-cons : (e : Entry) (b : Bag) (q : Path) →
+pub bytes-cons : (e : Entry) (b : Bag) (q : Path) →
     bytes_in (e ∷ b) q ≡ cond (is_same_path q e.path) e.size 0 + bytes_in b q
 bytes-cons e b q = sum_by-cons (λ e. cond (is_same_path q e.path) e.size 0) e b
 
@@ -42,9 +114,6 @@ bytes_none (e ∷ b) q h = grind (arith, bytes_none b q, bytes-cons e b q)
 unique_none : (b : Bag) (q : Path) → is_entered_in b q ≡ false → is_unique_in b q ≡ false
 unique_none [] q h = refl
 unique_none (e ∷ b) q h = grind (arith, unique_none b q)
-
-abbrev node : ℕ → Bool → Node
-node n u = record { bytes = n; is_unique = u }
 
 -- An entry added to sums is joined to what its path had there. Other paths stay as they were.
 pub get-add : (s : Sums) (e : Entry) (q : Path) →
@@ -80,8 +149,11 @@ any_same test b c h = any_counted test b ∙ ap (nat_lt 0) (h (λ e. cond (test 
 -- Two bags with the same sums have the same at each path.
 node_in-same : (b c : Bag) → SameSums b c → (q : Path) → node_in b q ≡ node_in c q
 node_in-same b c h q = λ i. cond (any_same (λ e. is_same_path q e.path) b c h i)
-    (Some (node (h (λ e. cond (is_same_path q e.path) e.size 0) i)
-    (any_same (λ e. cond (is_same_path q e.path) (is_unique_mark e.mark) false) b c h i))) None
+    (Some (record {
+      bytes = h (λ e. cond (is_same_path q e.path) e.size 0) i;
+      is_unique =
+          any_same (λ e. cond (is_same_path q e.path) (is_unique_mark e.mark) false) b c h i;
+    })) None
 
 -- Two bags with the same sums, each added to the same sums, give one result.
 pub add_all-same : (s : Sums) (b c : Bag) → SameSums b c → add_all s b ≡ add_all s c

@@ -1,20 +1,17 @@
 -- A text determines the sizes: it splits into lines at the line feeds, a line at its last space, and a path at each
 -- `;`. What the walk of `write` has written so far.
 use Rattle.std.proofs.Common.{◌≡◌, ◌≢◌, ℕ, zero, suc, ◌^◌, ◌<◌, ◌≤◌, ◌/◌, ◌%◌, ◌==◌, Bool, false, cond, not, ◌||◌, T}
-use Rattle.std.proofs.Common.{IsTrue, List, [], ◌∷◌, ◌++◌, map, flat_map, filter, refl, ap, sym, ◌∙◌, arith}
-use Rattle.std.proofs.Common.{unwrap_or, append_assoc, decimal, sum_by, eqb-true, if◌then◌else◌, ◌+◌, take, length}
-use Rattle.std.proofs.Common.{get_or, Bor, ◌-◌, length-append, append-nil, None}
+use Rattle.std.proofs.Common.{IsTrue, List, [], ◌∷◌, ◌++◌, map, flat_map, filter, refl, ap, sym, ◌∙◌, arith, unwrap_or}
+use Rattle.std.proofs.Common.{append_assoc, decimal, sum_by, if◌then◌else◌, ◌+◌, take, length, get_or, Bor, ◌-◌}
+use Rattle.std.proofs.Common.{length-append, append-nil, None}
 use Rattle.allocative_graph.proofs.Common.{AllByRecursion, entries, get-entries, entries_sorted, find, is_sorted}
 use Rattle.allocative_graph.proofs.Common.{below_all, first, second, Key, Path, path_cmp, is_same_path, Graph}
 use Rattle.allocative_graph.proofs.Common.{text_of_entries, joined, is_root, size_at, Lacks, sum_by-cons, Child}
-use Rattle.allocative_graph.proofs.Common.{under_rows, rows_of, rows_of_child, line_after}
-use Rattle.allocative_graph.proofs.Common.{flat_map-append, sum_by-filter_both}
+use Rattle.allocative_graph.proofs.Common.{under_rows, rows_of, rows_of_child, line_after, flat_map-append, Stack}
+use Rattle.allocative_graph.proofs.Common.{bytes_at}
 use Rattle.std.specs.Fmt.{digits, digits_onto, digit_glyph}
-use Rattle.std.proofs.lemmas.Bool.{not-false, not-true}
 use Rattle.std.proofs.lemmas.Bool.Decides.{nat_tests}
 use Rattle.std.proofs.lemmas.Grind.{common_steps}
-use Rattle.std.proofs.lemmas.List.Elements.{All-weaker, filter_passes}
-use Rattle.std.proofs.lemmas.List.Sums.{sum_by-le}
 use Rattle.allocative_graph.proofs.Basics.{each-append, each-implies, on_test, same_path}
 use Rattle.allocative_graph.proofs.Sums.{find-below_all}
 use Rattle.allocative_graph.specs.Graph.{line}
@@ -78,10 +75,6 @@ pub shown_lines : (es : List Sized) → text_of_entries es ≡ flat_map full (fi
 shown_lines [] = refl
 shown_lines (e ∷ es) = grind (arith, shown_lines es)
 
--- The line of an entry is its keys and its size, and after these a line feed.
-pub full_body : (e : Sized) (rest : List ℕ) → full e ++ rest ≡ body e ++ 10 ∷ rest
-full_body e rest = append_assoc (body e) (10 ∷ []) rest
-
 pub record Good (e : Sized) : Type 0 where
   pub shows : IsTrue (is_shown e)
   pub plain : AllByRecursion Plain e.0
@@ -107,37 +100,24 @@ good_entries (e ∷ es) a b =
     (λ h. (record { shows = h; plain = a.0; word = omega (arith, parts) }, rest)) (λ h. rest)
 
 -- ---- a size is that of the line at its path
--- The bytes of some entries at a path.
-abbrev pub bytes_in : List Sized → Path → ℕ
-bytes_in es q = sum_by (λ e. cond (is_same_path q e.0) e.1 0) es
+-- What an entry says.
+abbrev pub said : Sized → Stack
+said e = record { path = e.0; size = e.1 }
 
--- If an entry has no line, it has no bytes at a path that is not the root.
-unseen : (e : Sized) (k : Key) (p : Path) → is_shown e ≡ false → cond (is_same_path (k ∷ p) e.0) e.1 0 ≡ 0
-unseen ([], n) k p h = refl
-unseen (l ∷ q, n) k p h = let zero = eqb-true n 0 (not-false (n == 0) h) in grind arith
+-- The size found at a path but the root, among entries in order, is the bytes of the stacks shown there.
+shown-find : (k : Key) (p : Path) (es : List Sized) → T (is_sorted path_cmp es) →
+    bytes_at (map said (filter is_shown es)) (k ∷ p) ≡ unwrap_or (find path_cmp (k ∷ p) es) 0
+shown-find k p [] h = refl
+shown-find k p (([], n) ∷ es) h = shown-find k p es (second (below_all path_cmp [] es) _ h)
+shown-find k p ((l ∷ q, n) ∷ es) h =
+    let rest = shown-find k p es (second (below_all path_cmp (l ∷ q) es) _ h) in
+    let none = find-below_all path_cmp (l ∷ q) es (first (below_all path_cmp (l ∷ q) es) (is_sorted path_cmp es) h) in
+    grind (arith, nat_tests, rest, none, same_path (k ∷ p) (l ∷ q), sum_by-cons (λ (s : Stack). cond (is_same_path (k ∷ p) s.path) s.size 0) (said (l ∷ q, n)) (map said (filter is_shown es)))
 
--- If the items that fail a test have none, the sum over the other items is the sum over all.
-sum-filter : {X : Type 0} (t : X → Bool) (f : X → ℕ) → ((x : X) → t x ≡ false → f x ≡ 0) → (xs : List X) →
-    sum_by f (filter t xs) ≡ sum_by f xs
-sum-filter t f none xs =
-    let nothing = All-weaker _ (λ x. f x ≤ 0) (λ x h. omega (arith, none x (not-true (t x) h)))
-    _ (filter_passes (λ x. not (t x)) xs) in
-    omega (arith, sum_by-filter_both t (λ x. not (t x)) (λ x. refl) f xs, sum_by-le f 0 (filter (λ x. not (t x)) xs) nothing)
-
--- The bytes of entries in order at a path are the size that is found there.
-bytes-find : (q : Path) (es : List Sized) → T (is_sorted path_cmp es) → bytes_in es q ≡ unwrap_or (find path_cmp q es) 0
-bytes-find q [] h = refl
-bytes-find q (e ∷ es) h =
-    let rest = bytes-find q es (second (below_all path_cmp e.0 es) (is_sorted path_cmp es) h) in
-    let above = first (below_all path_cmp e.0 es) (is_sorted path_cmp es) h in
-    let none = find-below_all path_cmp e.0 es above in
-    grind (arith, rest, none, same_path q e.0, sum_by-cons (λ (x : Sized). cond (is_same_path q x.0) x.1 0) e es)
-
--- A size of a graph, but for the root's, is that of the lines.
-pub size_shown : (g : Graph) (k : Key) (p : Path) → size_at g (k ∷ p) ≡ bytes_in (written_entries g) (k ∷ p)
-size_shown g k p =
-    ap (λ o. unwrap_or o 0) (get-entries g (k ∷ p)) ∙ sym (bytes-find (k ∷ p) (entries g) (entries_sorted g))
-    ∙ sym (sum-filter is_shown (λ e. cond (is_same_path (k ∷ p) e.0) e.1 0) (λ e h. unseen e k p h) (entries g))
+-- A size of a graph, but for the root's, is that of the stacks that its lines say.
+pub size_said : (g : Graph) (k : Key) (p : Path) → size_at g (k ∷ p) ≡ bytes_at (map said (written_entries g)) (k ∷ p)
+size_said g k p = ap (λ o. unwrap_or o 0) (get-entries g (k ∷ p))
+    ∙ sym (shown-find k p (entries g) (entries_sorted g))
 
 -- ---- what the walk of `write` has written so far
 -- The texts of the keys, joined by `;`, are the path's text.

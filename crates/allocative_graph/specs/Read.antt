@@ -1,7 +1,6 @@
 -- What a text of collapsed stacks says, which line of it is none, and the graph that its lines add up to.
 use Rattle.std.specs.Prelude.{◌≡◌, ℕ, ◌+◌, ◌^◌, ◌<◌, ◌≤◌, ◌||◌, ◌==◌, Bool, not, cond, filter, List, [], ◌∷◌, ◌++◌}
 use Rattle.std.specs.Prelude.{length, Some, None, sum_by, Result, IsErrOf}
-use Rattle.std.specs.Bool.{⊤}
 use Rattle.std.specs.List.{AllByRecursion, list_any, slice_split}
 use Rattle.std.specs.Str.Lines.{lines}
 use Rattle.std.specs.Str.Parse.{IsNumeral, digits_value}
@@ -11,11 +10,11 @@ use Rattle.allocative_graph.specs.declared.read.Line.{Line}
 use Rattle.allocative_graph.specs.declared.read.LineFault.{LineFault}
 use Rattle.allocative_graph.specs.declared.read.LineFault.TheVariants.{NoSpace, NoPath, NoNumber, TooLarge, TooDeep}
 use Rattle.allocative_graph.specs.declared.read.ReadFault.{ReadFault}
-use Rattle.allocative_graph.specs.declared.read.ReadFault.TheVariants as faults
 use Rattle.allocative_graph.specs.Path.{Key, Path, is_same_path}
 use Rattle.allocative_graph.specs.Format.{semicolon, space}
 use Rattle.allocative_graph.specs.Graph.{Graph, size_at, total, begins, is_root, joined, text, Lacks, HasPlainKeys}
 use Rattle.allocative_graph.specs.Graph.{HasWords}
+use Rattle.allocative_graph.specs.declared.read.ReadFault.TheVariants as faults
 
 -- ---- lines
 -- A path with its bytes.
@@ -69,11 +68,9 @@ IsWrong TooDeep line = (path : List ℕ) × (number : List ℕ) × IsCut line pa
 -- ---- texts
 -- The lines are these stacks, one for each line that is not blank, in their order.
 abbrev pub AreStacks : List (List ℕ) → List Stack → Type 0
-AreStacks [] [] = ⊤
-AreStacks [] (s ∷ ss) = ⊥
+AreStacks [] ss = ss ≡ []
 AreStacks ([] ∷ ls) ss = AreStacks ls ss
-AreStacks ((b ∷ bs) ∷ ls) [] = ⊥
-AreStacks ((b ∷ bs) ∷ ls) (s ∷ ss) = IsStack (b ∷ bs) s × AreStacks ls ss
+AreStacks (line ∷ ls) ss = (s : Stack) × (rest : List Stack) × (ss ≡ s ∷ rest) × IsStack line s × AreStacks ls rest
 
 -- Each line of the text but the blank ones is a stack, and these are the stacks.
 abbrev pub SaysStacks : List ℕ → List Stack → Type 0

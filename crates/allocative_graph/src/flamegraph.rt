@@ -272,7 +272,7 @@ impl FlameGraph {
 
     /// The children of the root, in the order of their keys. No two have the same key. Together with the root's
     /// own size they are the whole graph. Each child has fewer paths, so a function may call itself on it.
-    #[tactic(auto, using(crate::proofs::Nodes::own_of_node, crate::proofs::Behind::smaller_child))]
+    #[tactic(auto, using(crate::proofs::Nodes::own_of_node, crate::proofs::Nodes::smaller_child))]
     pub fn children(&self) -> &[Child]
         ensures whole { self.now ≡ node (size_at self.now []) result.now }
         ensures children { AreChildren result.now }
@@ -558,7 +558,7 @@ fn interleave(
 
 // Takes the next child of the merge from the lists. If both have its key, one is added to the other.
 #[cycle(merge)]
-#[tactic(auto, using(crate::proofs::Children::front_total, crate::proofs::Children::front_rows))]
+#[tactic(auto, using(crate::proofs::Children::front_total, crate::proofs::Children::front_rows, crate::proofs::Children::front_there))]
 fn take_next(
     mine: &mut VecDeque<Child>,
     theirs: &mut VecDeque<Child>,

@@ -8,13 +8,13 @@ ghost use Rattle.std.specs.Cmp.{partial_equiv_from_equiv};
 ghost use Rattle.std.specs.Hash as fed;
 ghost use Rattle.allocative_graph.specs.Path.{fnv};
 
-use crate::static_text::StaticText;
+use crate::static_text::ReadRight;
 use allocative_described::Described;
 use std::alloc::AllocError;
 use std::cmp::Ordering;
-use std::fmt;
 use std::hash::{Hash, Hasher};
 use std::marker::Model;
+use std::{fmt, str};
 
 /// The name of an entry: a static text.
 ///
@@ -22,16 +22,25 @@ use std::marker::Model;
 /// bytes of the text. No call of a key allocates or fails.
 #[derive(Drop)]
 pub struct Key {
-    text: StaticText,
+    at: *const u8,
+    len: usize,
+    right: ReadRight,
 }
 
 impl Model for Key {
-    ghost use Rattle.std.specs.Prelude.{List, ℕ};
+    ghost use Rattle.std.specs.Prelude.{◌≡◌, ℕ, List, length, IsUtf8};
 
     ghost Value = { List ℕ };
 
-    ghost view = { λ k. k.text };
+    ghost view = { λ k. k.right.items };
+
+    ghost invariant = { λ k. (k.at ≡ k.right.ptr) × (k.len ≡ length k.right.items) × IsUtf8 k.right.items };
 }
+
+// The pointer owns nothing.
+unsafe impl Send for Key {}
+
+unsafe impl Sync for Key {}
 
 impl Key {
     /// The hash of a text: FNV-1a of 64 bits over its bytes.
@@ -49,8 +58,11 @@ impl Key {
     pub fn new(text: &'static str) -> Key
         ensures { result ≡ text.now }
     {
+        let (at, right) = ReadRight::forever(text.as_bytes());
         Key {
-            text: StaticText::new(text),
+            at,
+            len: text.len(),
+            right,
         }
     }
 
@@ -73,7 +85,7 @@ impl Key {
     pub fn as_str(&self) -> &'static str
         ensures { result.now ≡ self.now }
     {
-        self.text.as_str()
+        unsafe { str::from_utf8_unchecked(self.right.read(self.at, self.len)) }
     }
 
     /// A copy of the key. `clone` returns a `Result`, as every `clone` does, even though it never fails; this

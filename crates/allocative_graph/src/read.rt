@@ -75,7 +75,7 @@ impl FlameGraph {
     /// may be empty, and may have spaces, but a path has at least one byte. Blank lines are skipped. It returns `Line`
     /// for any other line that is not of this form, or whose path has more than [`LEVELS`] keys, and `TooLarge` only if
     /// the bytes of all lines together exceed `usize::MAX`. The only other error is that memory runs out.
-    #[tactic(auto, using(crate::proofs::StackSums::of_lines))]
+    #[tactic(auto, using(crate::proofs::ReadBack::of_lines))]
     pub fn read(alloc: Global, text: &'static str) -> Result<FlameGraph, ReadFault>
         ensures graph { IfOk result (λ graph. IsRead text.now graph) }
         ensures line { TellsFault text.now result }
@@ -167,7 +167,7 @@ fn total_of(lines: &[Line]) -> Option<usize>
 }
 
 // The sum of the graphs of some lines, whose bytes fit together.
-#[tactic(auto, using(std::proofs::Common::take_all, crate::proofs::StackSums::line_fits))]
+#[tactic(auto, using(std::proofs::Common::take_all, crate::proofs::ReadBack::line_fits))]
 fn add_up(alloc: Global, lines: &[Line]) -> Result<FlameGraph, AllocError>
     requires { sum_by (λ l. l.size) lines.now < 2 ^ 64 }
     ensures { IfOk result (λ graph. graph ≡ sum_of_stacks default (map line_stack lines.now)) }

@@ -1,4 +1,4 @@
-//! A static text whose type names no lifetime.
+//! The right to read a static text, whose type names no lifetime.
 //!
 //! A struct that holds a `&'static str` has a lifetime in its type. A `&mut` to such a struct, lent to a
 //! closure or kept in another struct, gets no generated proof. A key, which collectors hold, therefore keeps
@@ -6,12 +6,12 @@
 //!
 //! Proved by hand, in `proofs/static_text`, are the two functions of [`ReadRight`] that make the right and read
 //! by it, and that the right can be shared and sent to other threads. All other proofs are generated from these.
-ghost use Rattle.std.specs.Prelude.{◌≡◌, ℕ, ◌^◌, ◌<◌, List, length, IsUtf8};
+ghost use Rattle.std.specs.Prelude.{◌≡◌, ℕ, ◌^◌, ◌<◌, List, length};
 ghost use denote.RawPtr.{Ptr};
 ghost use Rattle.allocative_graph.specs.Static.{IsPlaced, static_owns};
 
 use std::marker::Model;
-use std::{slice, str};
+use std::slice;
 
 /// The right to read `items` at `ptr` forever. It has no field at run time.
 #[derive(Drop)]
@@ -42,49 +42,5 @@ impl ReadRight {
         ensures { result.now ≡ self.now.items }
     {
         unsafe { slice::from_raw_parts(ptr, len) }
-    }
-}
-
-/// A static text. A contract sees only its bytes.
-#[derive(Drop)]
-pub struct StaticText {
-    at: *const u8,
-    len: usize,
-    right: ReadRight,
-}
-
-impl Model for StaticText {
-    ghost use Rattle.std.specs.Prelude.{◌≡◌, ℕ, List, length, IsUtf8};
-
-    ghost Value = { List ℕ };
-
-    ghost view = { λ s. s.right.items };
-
-    ghost invariant = { λ s. (s.at ≡ s.right.ptr) × (s.len ≡ length s.right.items) × IsUtf8 s.right.items };
-}
-
-// The pointer owns nothing.
-unsafe impl Send for StaticText {}
-
-unsafe impl Sync for StaticText {}
-
-impl StaticText {
-    /// The text of a reference.
-    pub fn new(text: &'static str) -> StaticText
-        ensures { result ≡ text.now }
-    {
-        let (at, right) = ReadRight::forever(text.as_bytes());
-        StaticText {
-            at,
-            len: text.len(),
-            right,
-        }
-    }
-
-    /// The text as a reference again.
-    pub fn as_str(&self) -> &'static str
-        ensures { result.now ≡ self.now }
-    {
-        unsafe { str::from_utf8_unchecked(self.right.read(self.at, self.len)) }
     }
 }

@@ -54,9 +54,8 @@ impl<T: Drop> Clone for IdArc<T> {
 
     /// One more owner of the value, with its identity.
     fn clone(&self) -> Result<IdArc<T>, AllocError> {
-        let pointer = self.pointer.clone()?;
         Ok(IdArc {
-            pointer,
+            pointer: self.pointer.clone()?,
             id: self.id,
         })
     }

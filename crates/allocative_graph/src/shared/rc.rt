@@ -54,9 +54,8 @@ impl<T: Drop> Clone for IdRc<T> {
 
     /// One more owner of the value, with its identity.
     fn clone(&self) -> Result<IdRc<T>, AllocError> {
-        let pointer = self.pointer.clone()?;
         Ok(IdRc {
-            pointer,
+            pointer: self.pointer.clone()?,
             id: self.id,
         })
     }

@@ -1,8 +1,8 @@
 -- of merge, interleave, take_next and put_child: what they merge, and that sizes fit
-use Rattle.std.proofs.Common.{◌≡◌, rules, [], Some, refl, sym, ap, ◌∙◌, arith, is_ok}
+use Rattle.std.proofs.Common.{◌≡◌, [], Some, refl, sym, ap, ◌∙◌, arith, is_ok}
 use Rattle.allocative_graph.proofs.Common.{Child, nil_from_length, total, total_of, sum_by_push}
 use Rattle.allocative_graph.proofs.Children.{merges_then, merges_all, is_ok-and, merged_same, next_less, next_greater}
-use Rattle.allocative_graph.proofs.Children.{next_equal, front_is, front_there, one_of_length, put_at_found, put_at_gap}
+use Rattle.allocative_graph.proofs.Children.{next_equal, front_is, one_of_length, put_at_found, put_at_gap}
 use Rattle.allocative_graph.proofs.Nodes.{merged_graph, child_of_one}
 use Rattle.allocative_graph.proofs.flamegraph.+merge.Goals as goal
 
@@ -31,10 +31,6 @@ pub FlameGraph::merge-returns : goal.FlameGraph::merge-returns
 FlameGraph::merge-returns t c =
     merged_graph c.self.view_is c.self.invariant c.other.view_is c.other.invariant refl refl c.interleave.ensures.merged
 
-pub interleave-loop-child-init : goal.interleave-loop-child-init
-interleave-loop-child-init t c =
-    rw (c.from-mine.ensures.0, ap (λ v. v.items) c.replace.ensures.value, c.from-theirs.ensures.0, c.replace.ensures.after, c.in_ok-merged.ensures.items) (search rules)
-
 pub interleave-loop-child-preserved : goal.interleave-loop-child-preserved
 interleave-loop-child-preserved t c =
     record {
@@ -47,22 +43,6 @@ interleave-loop-child-preserved t c =
 pub interleave-returns-clause-merged : goal.interleave-returns-clause-merged
 interleave-returns-clause-merged t c = let end = c.in_default.ensures.end in
     merges_all c.loop-child.invariant.merged end.0 end.1
-
-pub take_next-unwrap-requires : goal.take_next-unwrap-requires
-take_next-unwrap-requires t c = c.pop_front.ensures.variant.1
-    (omega (arith, (front_there _ _ _ (sym c.fronts.ensures ∙ c.in_ok-fronts.was)).0 (λ e. cc (e, c.in-Less.is))))
-
-pub take_next-unwrap-requires-in-Greater : goal.take_next-unwrap-requires-in-Greater
-take_next-unwrap-requires-in-Greater t c = c.pop_front-in-Greater.ensures.variant.1
-    (omega (arith, (front_there _ _ _ (sym c.fronts.ensures ∙ c.in_ok-fronts.was)).1 (λ e. cc (e, c.in-Greater.is))))
-
-pub take_next-unwrap-child-requires : goal.take_next-unwrap-child-requires
-take_next-unwrap-child-requires t c = c.pop_front-in-Equal.ensures.variant.1
-    (omega (arith, (front_there _ _ _ (sym c.fronts.ensures ∙ c.in_ok-fronts.was)).0 (λ e. cc (e, c.in-Equal.is))))
-
-pub take_next-unwrap-requires-in-Equal : goal.take_next-unwrap-requires-in-Equal
-take_next-unwrap-requires-in-Equal t c = c.pop_front-in-Equal-2.ensures.variant.1
-    (omega (arith, (front_there _ _ _ (sym c.fronts.ensures ∙ c.in_ok-fronts.was)).1 (λ e. cc (e, c.in-Equal.is))))
 
 pub take_next-returns-in-Less-clause-next : goal.take_next-returns-in-Less-clause-next
 take_next-returns-in-Less-clause-next t c =

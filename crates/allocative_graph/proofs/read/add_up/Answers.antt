@@ -1,20 +1,16 @@
--- of add_up: that the next line fits, and the step of its loop
-use Rattle.std.proofs.Common.{◌≡◌, ◌++◌, [], List, Bor, ℕ, get_or, ap, ◌∙◌, lit<, Ok, map, take_all, arith}
+-- of add_up: the step of its loop
+use Rattle.std.proofs.Common.{◌≡◌, ◌++◌, [], List, Bor, ℕ, get_or, ap, ◌∙◌, lit<, Ok}
 use Rattle.std.proofs.lemmas.Iterator.Adapters.{fact_from_extend}
 use Rattle.std.proofs.lemmas.Iterator.Consumers.{YieldsList-at}
 use Rattle.allocative_graph.proofs.Common.{YieldsList-from_str_split, Line, Path, sum_of, graph_of_path, take_more}
-use Rattle.allocative_graph.proofs.Common.{default, line_stack, sum_of_stacks}
 use Rattle.allocative_graph.specs.Read.{keys_of}
 use Rattle.allocative_graph.proofs.Text.{texts}
-use Rattle.allocative_graph.proofs.StackSums.{line_more}
+use Rattle.allocative_graph.proofs.ReadBack.{line_more}
 use Rattle.allocative_graph.proofs.read.add_up.Goals as goal
 
 -- What the code reads behind the last line.
 abbrev no_line : Line
 no_line = record { path = record { ref_ptr = (0, 0); now = [] }; size = 0 }
-
-pub loop-line-init : goal.loop-line-init
-loop-line-init c = c.default-graph.ensures
 
 pub loop-line-preserved : goal.loop-line-preserved
 loop-line-preserved c =
@@ -32,7 +28,3 @@ loop-line-preserved c =
     c.loop-line.invariant
     (c.in_ok-add_at.ensures.sum ∙ ap (λ (ks : Path). sum_of c.loop-line.graph (graph_of_path ks line.size))
     (ap texts c.as_slice.ensures.value ∙ keys))
-
-pub returns : goal.returns
-returns c = c.loop-line.invariant ∙ ap (λ (ls : List Line). sum_of_stacks default (map line_stack ls))
-    (take_all c.loop-line.line-index c.args.lines.now (omega arith))

@@ -1,10 +1,9 @@
 -- The start of a line is cut back to its length, and the lines of each child follow those before.
-use Rattle.std.proofs.Common.{◌≡◌, ◌++◌, [], ◌∷◌, take, length, arith, ap, sym, subst, ◌∙◌, append_assoc}
-use Rattle.std.proofs.Common.{rules, take_all, string_bytes, flat_map, unwrap_or}
+use Rattle.std.proofs.Common.{◌≡◌, ◌++◌, [], ◌∷◌, take, length, arith, ap, sym, subst, ◌∙◌, append_assoc, rules}
+use Rattle.std.proofs.Common.{take_all, string_bytes, flat_map, unwrap_or}
 use Rattle.std.proofs.lemmas.Str.{IsUtf8-append, IsUtf8-from_ascii, IsCharBoundary-at_seam}
 use Rattle.std.specs.Str.{IsUtf8, IsCharBoundary}
-use Rattle.allocative_graph.proofs.Common.{entries, entries_sorted, find, get-entries, line_after, path_cmp}
-use Rattle.allocative_graph.proofs.Common.{rows_of}
+use Rattle.allocative_graph.proofs.Common.{entries, entries_sorted, find, get-entries, line_after, path_cmp, rows_of}
 use Rattle.allocative_graph.specs.Graph.{line}
 use Rattle.allocative_graph.proofs.Nodes.{entries_of_node}
 use Rattle.allocative_graph.proofs.Text.{child_lines, child_written}

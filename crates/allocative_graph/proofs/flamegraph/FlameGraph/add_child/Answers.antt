@@ -3,9 +3,6 @@ use Rattle.allocative_graph.proofs.Common.{Child}
 use Rattle.allocative_graph.proofs.Nodes.{added_under, sum_grown}
 use Rattle.allocative_graph.proofs.flamegraph.FlameGraph.add_child.Goals as goal
 
-pub returns-then-total_size-clause-part : goal.returns-then-total_size-clause-part
-returns-then-total_size-clause-part c e = absurd (cc)
-
 pub returns-in_err-put_child-clause-part : goal.returns-in_err-put_child-clause-part
 returns-in_err-put_child-clause-part c e =
     let child : Child = record { key = c.args.key; graph = c.args.child } in

@@ -1,8 +1,7 @@
 -- of read: too_large, graph and reads_back
 use Rattle.std.proofs.Common.{ℕ, List, map, ap, subst, ◌∙◌}
 use Rattle.allocative_graph.proofs.Common.{Line, default, IsRead, sum_of_stacks, line_stack}
-use Rattle.allocative_graph.proofs.ReadBack.{reads_back}
-use Rattle.allocative_graph.proofs.StackSums.{is_read, sum_exceeds}
+use Rattle.allocative_graph.proofs.ReadBack.{is_read, reads_back, sum_exceeds}
 use Rattle.allocative_graph.proofs.flamegraph.FlameGraph.read.Goals as goal
 
 pub returns-in_default-clause-too_large : goal.returns-in_default-clause-too_large

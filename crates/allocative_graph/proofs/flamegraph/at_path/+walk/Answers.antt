@@ -1,9 +1,8 @@
 -- At the end of the path the bytes are added to the node; before it, to the child with the next key.
 use Rattle.std.proofs.Common.{sym, ap, ◌∙◌, arith}
 use Rattle.std.proofs.lemmas.Result.{on_ok_weaker}
-use Rattle.allocative_graph.proofs.Common.{Child, Key, Path, sum_of, under, graph_of_path, child_of_path, nil_from_length}
-use Rattle.allocative_graph.proofs.Children.{put_at_gap}
-use Rattle.allocative_graph.proofs.Nodes.{node_grown, sum_grown, sum_raised, tree-path, total-path, path_merged}
+use Rattle.allocative_graph.proofs.Common.{Child, Key, Path, sum_of, under, graph_of_path}
+use Rattle.allocative_graph.proofs.Nodes.{node_grown, sum_grown, tree-path, total-path, path_merged}
 use Rattle.allocative_graph.proofs.Text.{texts}
 use Rattle.allocative_graph.proofs.flamegraph.at_path.+walk.Goals as goal
 
@@ -13,12 +12,6 @@ add_at-invariant_of-graph-2 t c =
     let bytes = total-path rest c.args.size in
     node_grown c.graph.view_is c.graph.invariant (tree-path rest c.args.size) c.in_ok-add_below.ensures.merged
     (sym bytes) (omega (arith, bytes, c.requires.fits))
-
-pub add_at-returns-in_default-clause-sum : goal.add_at-returns-in_default-clause-sum
-add_at-returns-in_default-clause-sum t c =
-    sum_raised c.graph.view_is c.graph.invariant c.args.size
-    ∙ ap (λ (p : Path). sum_of c.args.graph.now (graph_of_path p c.args.size))
-    (sym (ap texts (nil_from_length c.args.path.now c.in_default.ensures.cases)))
 
 pub add_at-returns-clause-sum : goal.add_at-returns-clause-sum
 add_at-returns-clause-sum t c =
@@ -35,11 +28,3 @@ add_below-returns-in-Ok-clause-merged t c =
     (path_merged c.args.key (texts c.args.rest.now) c.args.size x c.deref.ensures.value c.in-Ok.ensures.found
     c.index_mut-here.ensures.value c.requires.children)
     c.add_at.ensures.sum
-
-pub add_below-returns-in-Err-clause-merged : goal.add_below-returns-in-Err-clause-merged
-add_below-returns-in-Err-clause-merged t c =
-    let path = texts c.args.rest.now in
-    on_ok_weaker c.put_path.result
-    (λ put. put_at_gap (child_of_path c.args.key path c.args.size) c.deref.ensures.value c.in-Err.ensures.missing put
-    c.requires.children (tree-path path c.args.size))
-    c.put_path.ensures.items

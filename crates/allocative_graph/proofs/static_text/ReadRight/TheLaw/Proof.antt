@@ -1,14 +1,29 @@
 -- What a `ReadRight` owns can be copied, so a `&` holds it too. Assumes `Logic`.
-use mathlib.Core.List.{[], ◌∷◌}
-use base.Logic.{sep, wand, snd∗, apply∗}
+use Rattle.std.proofs.Common.{List, [], ◌∷◌, ℕ}
+use base.Logic.{sep, wand, snd∗, apply∗, ent}
 use base.Fml.{fbor}
 use base.Before.{before}
-use types.Logic.{sem, lfts}
+use types.Logic.{sem, lfts, Logic}
 use types.Kit.{‵, raw, ◌⊛◌, later, ◌$◌, ◌∵◌, !, qed, move, keep, use1, use2, split, await, updating, now, done}
 use denote.Struct.Lending.{of_Lends}
-use Rattle.allocative_graph.specs.contracts.static_text.ReadRight as C
-use Rattle.allocative_graph.proofs.Walks.{static_dup}
 use Rattle.allocative_graph.proofs.static_text.ReadRight.TheLaw.Statement.{statement}
+use seplogic.Ra.Ura.{Ura}
+use denote.SharingLaws.{contraction}
+use denote.Slice.{elements_shared, elements_shr_laws}
+use denote.Builtin.{u8}
+use denote.Plain.{uint_row_laws}
+use mir.Syntax.{w8}
+use denote.RawPtr.{block_of, count_of, Ptr}
+use Rattle.allocative_graph.specs.Static.{static_owns}
+use Rattle.allocative_graph.specs.contracts.static_text.ReadRight as C
+
+-- What a `ReadRight` owns can be copied.
+module _ {M : Type 1} {𝓤 : Ura M} (𝓛 : Logic 𝓤) where
+  static_dup : (p : Ptr) (xs : List ℕ) →
+      ent 𝓤 (sem 𝓛 (static_owns p xs)) (sep 𝓤 (sem 𝓛 (static_owns p xs)) (sem 𝓛 (static_owns p xs)))
+  static_dup p xs =
+      contraction 𝓛 (elements_shared u8 xs (block_of p) (count_of p))
+      (elements_shr_laws u8 (uint_row_laws w8) xs (block_of p) (count_of p)) []
 
 -- A `&ReadRight` holds the right to read that the `ReadRight` owns.
 pub shares : statement

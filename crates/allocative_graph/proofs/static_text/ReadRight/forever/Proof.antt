@@ -1,20 +1,30 @@
 -- `forever` keeps the right that a `&'static` slice holds. Assumes `Logic`.
 use Rattle.std.proofs.Common.{List, [], ◌∷◌, ◌++◌, length, refl, arith}
-use Rattle.allocative_graph.proofs.Walks.{Val, vptr, WpFn, tables, prop, owns, plain, types_at, alive, walk_of, Stays}
-use Rattle.allocative_graph.proofs.Walks.{stay_dropped, Goes-dropped, proved_at, ends_at, says, yes, none, block_ptr}
-use Rattle.allocative_graph.proofs.Walks.{slice_val, ‵, raw, ◌⊛◌, ◌$◌, ◌∵◌, !, qed, move, drop, keep, split, fsplit}
-use Rattle.allocative_graph.proofs.Walks.{fjoin, feq_i, feq_l, flt_l, regoal, suffices, done, unhide, nothing}
-use Rattle.allocative_graph.proofs.Walks.{none_made, agg, no_more, sets, enter, returns, and_then, alloc_all, pass_all}
-use Rattle.allocative_graph.proofs.Walks.{free_all, look_at, get, two, two_made, RawPtr}
-use types.Part.{sub, whole}
-use types.Run.{fld, stop, addr, from, hop}
-use types.ByLocal.{look_in_at}
-use denote.Builtin.{u8, SliceRefOf}
-use Rattle.allocative_graph.specs.contracts.static_text.ReadRight as ReadRight
+use mir.Val.{Val, vstruct, vnil, vptr, vcons}
+use prog.Wp.{WpFn}
+use contract.Running.{tables}
+use types.Kit.{prop, ‵, raw, ◌⊛◌, ◌$◌, ◌∵◌, !, qed, move, drop, keep, split, fsplit, fjoin, feq_i, feq_l, flt_l, regoal}
+use types.Kit.{suffices, done, fpack}
+use denote.RattleType.{RattleType, owns, Valss}
+use denote.Signature.{plain, types_at}
+use denote.Triple.Entry.{alive}
+use denote.Triple.Walked.{walk_of, Stays, stay_dropped, Goes-dropped, ends_at, says}
+use Rattle.std.proofs.raw_atomic.Walks.{proved_at}
+use denote.Exit.{yes}
+use denote.RawPtr.{block_ptr}
+use denote.Slice.{slice_val}
+use denote.Opens.{unhide}
+use denote.Steps.{nothing}
+use types.Part.{agg, sub, whole}
+use types.Run.{no_more, enter, returns, fld, stop, addr, from, hop, and_then}
+use types.ByLocal.{sets, alloc_all, pass_all, free_all, look_at, look_in_at, get}
+use denote.Builtin.{u8, SliceRefOf, RawPtr}
 use Rattle.allocative_graph.specs.contracts.static_text.ReadRight.forever.{ended, clauses}
 use Rattle.allocative_graph.specs.contracts.static_text.ReadRight.forever.Key.{name as #self}
 use Rattle.allocative_graph.proofs.static_text.ReadRight.forever.Statement.{statement}
 use Rattle.allocative_graph.proofs.static_text.ReadRight.forever.Code.{function, unfolded}
+use denote.Struct.Struct.{within}
+use Rattle.allocative_graph.specs.contracts.static_text.ReadRight as ReadRight
 
 abbrev stayed : Stays ended.signature.params ended.kept
 stayed = (stay_dropped _ yes, tt)
@@ -32,6 +42,9 @@ forever_spec 𝓤 𝓛 𝓜 𝓡 wired =
     let xs = a.0.now in
     let b = a.0.ref_ptr.0 in
     let o = a.0.ref_ptr.1 in
+    let none : Val = vstruct vnil in
+    let pair : Val = vstruct (vcons (vptr b o) (vcons none vnil)) in
+    let both : List RattleType = RawPtr ∷ ReadRight.the_row ∷ [] in
     qed 𝓛 ((raw (alive 𝓛 ended.signature z.0.0 z.0.1) ⊛ ‵ (owns (types_at ended.signature.params z.0.0) a z.0.4)) ∷ raw
     ((held z.0.0 a).requires z.1) ∷ []) ∵
     keep ! (0 ∷ []) $ split ! $ move ! (1 ∷ []) $ fsplit ! $ fsplit ! $ fsplit ! $
@@ -43,10 +56,14 @@ forever_spec 𝓤 𝓛 𝓜 𝓡 wired =
     sets ! (addr ! (from ! (fld ! refl (hop ! (look_in_at ! 1 (sub ! 0 refl (whole !))) (stop !))))) refl (tt, tt) $
     sets ! (agg ! (no_more !)) refl (tt, tt) $
     sets ! (agg ! (and_then ! (get ! refl) (and_then ! (get ! refl) (no_more !)))) refl (tt, (tt, (tt, tt))) $
-    none_made ! $ fjoin ! $
+    nothing ! $ feq_i ! (List Val) (none ∷ []) (none ∷ []) refl $ fjoin ! $
+    fpack ! (Valss []) (within (record { name = []; args = []; types = []; fields = [] }) tt (none ∷ [])) tt $ fjoin ! $
     feq_i ! (List Val) (vptr b o ∷ []) (vptr b o ∷ []) refl $
-    two_made ! RawPtr ReadRight.the_row (block_ptr b o) seen (vptr b o) none $
+    nothing ! $ move ! (2 ∷ 0 ∷ []) $ fjoin ! $ move ! (1 ∷ 0 ∷ []) $ fjoin ! $
+    feq_i ! (List Val) (pair ∷ []) (pair ∷ []) refl $ fjoin ! $
+    fpack ! (Valss both) (within (record { name = []; args = []; types = []; fields = both })
+    (block_ptr b o, (seen, tt)) (pair ∷ [])) (vptr b o ∷ [], (none ∷ [], tt)) $
     returns ! (look_at ! 0 refl) $ free_all ! refl $
-    suffices ! _ (ends_at 𝓛 ended stayed held z (two (vptr b o) none) (block_ptr b o, seen) (tt, tt) (tt, tt)) $
+    suffices ! _ (ends_at 𝓛 ended stayed held z pair (block_ptr b o, seen) (tt, tt) (tt, tt)) $
     says ! (refl, refl) $
     nothing ! $ nothing ! $ fjoin ! $ move ! (2 ∷ 0 ∷ 1 ∷ []) $ done !)))))

@@ -1,26 +1,31 @@
 -- `read` returns what a `ReadRight` holds. Assumes `Logic`.
 use Rattle.std.proofs.Common.{◌≡◌, ◌^◌, List, [], ◌∷◌, ◌++◌, length, refl, sym, ap, ◌∙◌, arith, ◌*◌, w64}
-use Rattle.allocative_graph.proofs.Walks.{Val, vptr, WpFn, tables, prop, owns, plain, types_at, alive, walk_of, Stays}
-use Rattle.allocative_graph.proofs.Walks.{stay_dropped, Goes-dropped, proved_at, ends_at, says, yes, block_ptr}
-use Rattle.allocative_graph.proofs.Walks.{slice_val, ‵, raw, ◌⊛◌, ◌$◌, ◌∵◌, !, qed, move, drop, split, fsplit, fjoin}
-use Rattle.allocative_graph.proofs.Walks.{feq_i, feq_l, flt_l, regoal, suffices, done, unhide, nothing, agg, no_more}
-use Rattle.allocative_graph.proofs.Walks.{sets, enter, returns, and_then, alloc_all, pass_all, free_all, look_at, get}
-use Rattle.allocative_graph.proofs.Walks.{RawPtr, RefOf}
+use mir.Val.{Val, vptr, vint}
+use prog.Wp.{WpFn}
+use contract.Running.{tables}
+use types.Kit.{prop, ‵, raw, ◌⊛◌, ◌$◌, ◌∵◌, !, qed, move, drop, split, fsplit, fjoin, feq_i, feq_l, flt_l, regoal}
+use types.Kit.{suffices, done, at_ret, flt_i}
+use denote.RattleType.{owns}
+use denote.Signature.{plain, types_at}
+use denote.Triple.Entry.{alive}
+use denote.Triple.Walked.{walk_of, Stays, stay_dropped, Goes-dropped, ends_at, says}
+use Rattle.std.proofs.raw_atomic.Walks.{proved_at}
+use denote.Exit.{yes}
+use denote.RawPtr.{block_ptr, block_of, count_of, ptr_val}
+use denote.Slice.{slice_val}
+use denote.Opens.{unhide, hide}
+use denote.Steps.{nothing, heard}
+use types.Part.{agg}
+use types.Run.{no_more, enter, returns, and_then, of_opd, first, blocks, exec}
+use types.ByLocal.{sets, alloc_all, pass_all, free_all, look_at, get, sets_last, env}
+use denote.Builtin.{RawPtr, RefOf, usize}
 use mir.Syntax.{seq, assign, place, rv_opd, copy, return}
-use mir.Val.{vint}
 use contract.Monad.{fact}
-use types.Kit.{at_ret, flt_i}
-use types.Run.{of_opd, first, blocks, exec}
-use types.ByLocal.{sets_last, env}
-use denote.Builtin.{usize}
-use denote.Opens.{hide}
-use denote.RawPtr.{block_of, count_of, ptr_val}
-use denote.Steps.{heard}
-use Rattle.allocative_graph.specs.contracts.static_text.ReadRight as ReadRight
 use Rattle.allocative_graph.specs.contracts.static_text.ReadRight.read.{ended, clauses}
 use Rattle.allocative_graph.specs.contracts.static_text.ReadRight.read.Key.{name as #self}
 use Rattle.allocative_graph.proofs.static_text.ReadRight.read.Statement.{statement}
 use Rattle.allocative_graph.proofs.static_text.ReadRight.read.Code.{function, unfolded}
+use Rattle.allocative_graph.specs.contracts.static_text.ReadRight as ReadRight
 
 abbrev stayed : Stays ended.signature.params ended.kept
 stayed = (stay_dropped _ yes, (stay_dropped _ yes, (stay_dropped _ yes, tt)))
