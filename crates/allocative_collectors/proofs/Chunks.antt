@@ -4,11 +4,9 @@ use Rattle.std.proofs.Common.{Result, Ok, Err, Some, IfOk, IfErr, sym, ap, subst
 use Rattle.std.proofs.Common.{take, append_assoc, append-nil}
 use Rattle.allocative_collectors.proofs.Common.{Less, Greater, is_lt, ordering_reverse, Key, key_cmp, key_in, KeysRise}
 use Rattle.allocative_collectors.proofs.Common.{IsKeyGap, get_or-map, length-map, flat_map-append, Chunk, numbers_in}
-use Rattle.allocative_collectors.proofs.Common.{flat, before, chunk_at}
-use Rattle.std.proofs.Math.Seq.{take-length, drop-length}
-use Rattle.std.specs.List.{slice_get, insert, Contains}
+use Rattle.allocative_collectors.proofs.Common.{flat, before, chunk_at, slice_get, insert, Contains, get_or_past}
+use Rattle.allocative_collectors.proofs.Common.{take_all, take-length, drop-length}
 use Rattle.std.specs.List.Sorted.{IsSearchInRange, IsBinarySearchResult, IsSortedBy}
-use Rattle.std.proofs.lemmas.List.{get_or_past, take_all}
 use Rattle.std.proofs.lemmas.Option.{get_or_from_slice_get, slice_get_within, slice_get-get_or}
 use Rattle.std.proofs.lemmas.List.Sorted.{searchable_from_sorted}
 use Rattle.allocative_collectors.proofs.Keys.{key_total, key_same}
@@ -44,9 +42,9 @@ module _ (K : ℕ → Key) (xs : List ℕ) where
 
   module _ (rise : KeysRise (map K xs)) (k : Key) where
     -- A key after that of the last number belongs behind the numbers.
-    pub behind_last : (n : ℕ) → slice_get xs (length xs - 1) ≡ Some n → is_lt (key_cmp (K n) k) ≡ true →
-        IsKeyGap (map K xs) k (length xs)
-    behind_last n last lt =
+    pub behind_last : (p n : ℕ) → p ≡ length xs → slice_get xs (length xs - 1) ≡ Some n →
+        is_lt (key_cmp (K n) k) ≡ true → IsKeyGap (map K xs) k p
+    behind_last p n behind last lt =
         let count = length-map xs K in
         let there = key_read (length xs - 1) n last in
         let less : key_cmp (K n) k ≡ Less = grind arith in
@@ -114,12 +112,25 @@ module _ (cs : List Chunk) (i : ℕ) (e : Chunk) (h : i < length cs) {xs : List 
     before_more = omega (arith, length-flat_map numbers_in (take (i + 1) cs), length-flat_map numbers_in (take i cs), sum_by_more (λ c. length (numbers_in c)) cs i e h, ap length is)
 
     -- number j of the chunk is one of all
-    pub number_read : (j n : ℕ) → slice_get xs j ≡ Some n → slice_get (flat cs) (before cs i + j) ≡ Some n
-    number_read j n at =
+    pub number_read : (p j n : ℕ) → p ≡ before cs i + j → slice_get xs j ≡ Some n → slice_get (flat cs) p ≡ Some n
+    number_read p j n place at =
         let within : j < length (numbers_in (get_or cs i e)) = omega (arith, ap length is, slice_get_within xs j n at) in
-        slice_get-get_or (flat cs) (before cs i + j) 0 (omega (arith, length-flat_map-take numbers_in cs i e h))
+        let inside = length-flat_map-take numbers_in cs i e h in
+        rw place (slice_get-get_or (flat cs) (before cs i + j) 0 (omega arith)
         ∙ ap Some (get_or-flat_map numbers_in cs i j e 0 h within ∙ (ap (λ (l : List ℕ). get_or l j 0) (sym is)
-        ∙ get_or_from_slice_get xs j n 0 at))
+        ∙ get_or_from_slice_get xs j n 0 at)))
+
+    pub contained : (n : ℕ) → Contains xs n → Contains (flat cs) n
+    contained n there = stands (flat cs) _ n
+        (number_read _ there.0 n refl (slice_get-get_or xs there.0 n there.1 ∙ ap Some there.2))
+
+    -- the last number of the last chunk is the last one of all
+    pub last_read : i + 1 ≡ length cs → (n : ℕ) → slice_get xs (length xs - 1) ≡ Some n →
+        slice_get (flat cs) (length (flat cs) - 1) ≡ Some n
+    last_read last n at =
+        let some = slice_get_within xs (length xs - 1) n at in
+        let all = before_all cs (i + 1) (omega arith) in
+        number_read (length (flat cs) - 1) (length xs - 1) n (omega (arith, before_more)) at
 
     module _ (K : ℕ → Key) (rise : KeysRise (map K (flat cs))) where
       -- the key of number j
@@ -127,7 +138,7 @@ module _ (cs : List Chunk) (i : ℕ) (e : Chunk) (h : i < length cs) {xs : List 
           × (key_in (map K xs) j ≡ key_in (map K (flat cs)) (before cs i + j))
       part_key j lt =
           let number = slice_get-get_or xs j 0 (omega (arith, length-map xs K)) in
-          let there = key_read K (flat cs) _ _ (number_read j _ number) in
+          let there = key_read K (flat cs) _ _ (number_read _ j _ refl number) in
           (there.0, (key_read K xs j _ number).1 ∙ sym there.1)
 
       pub part_rises : KeysRise (map K xs)
@@ -145,6 +156,9 @@ module _ (cs : List Chunk) (i : ℕ) (e : Chunk) (h : i < length cs) {xs : List 
         pub gap_part : m < length (map K xs) → IsKeyGap (map K (flat cs)) k (before cs i + m)
         gap_part lt = gap_here (map K (flat cs)) rise k (before cs i + m) (part_key m lt).0
             (ap (λ (l : Key). key_cmp l k) (sym (part_key m lt).1) ∙ gap.greater_after m (omega arith) lt) less_part
+
+-- What reads of numbers in chunks say.
+pub ruleset reads = (number_read, before_more, slice_get-get_or, get_or_from_slice_get)
 
 -- ---- a number that is put in
 -- a chunk with the same numbers

@@ -4,16 +4,14 @@ use Rattle.std.proofs.Common.{◌≡◌, ℕ, pred, ◌+◌, ◌^◌, ◌<◌, B
 use Rattle.std.proofs.Common.{◌∷◌, ◌++◌, map, reverse, length, refl, sym, ap, ◌∙◌, arith, length-append, ◌↔◌}
 use Rattle.allocative_collectors.proofs.Common.{contains, Key, Path, Live, go, leave_live, enter_live, Listed, path_at}
 use Rattle.allocative_collectors.proofs.Common.{map_of, live, IsPlaced, map-append, length-map, nil_from_length}
-use Rattle.allocative_collectors.proofs.Common.{nat_tests}
-use Rattle.std.specs.List.{list_any}
+use Rattle.allocative_collectors.proofs.Common.{nat_tests, list_any, IsAbove, reverse-append, length-reverse}
 use Rattle.std.specs.FinSet.{from_list, insert, same_set, contains-from_list, contains-insert}
-use Rattle.std.proofs.lemmas.List.{reverse-append, length-reverse}
+use Rattle.allocative_graph.proofs.Sums.{bytes_entered-empty}
 use Rattle.allocative_graph.specs.Identity.{Identity, identity_cmp, is_same_identity}
 use Rattle.allocative_graph.specs.Forest.{Entry}
 use Rattle.allocative_graph.specs.Sums as bag
 use Rattle.allocative_graph.specs.Collector.{last_of, without_last}
 use Rattle.allocative_graph.proofs.Basics.{identity_total, identity_antisymmetric, same_identity_turned}
-use Rattle.allocative_collectors.specs.Listed.{IsAbove}
 use Rattle.allocative_collectors.specs.Places.{to_root, outside, back_from, back_at, AddedAt}
 use Rattle.allocative_collectors.proofs.Entries.{bytes_more, length_entered, path_entered, map_of-entered, mark_of}
 use Rattle.allocative_collectors.proofs.Keys.{map_same}
@@ -186,3 +184,6 @@ module _ {t new : Listed} {current : ℕ} {places : List ℕ} {n : ℕ} (ok : Is
           ∙ (λ i. go (entered.is.path i) (live_added i))
           ∙ enter_is u k size (live t met current places rooted)
           ∙ ap (enter_live u k size) view
+
+-- Nothing is entered at first.
+pub ruleset nothing_entered = (bytes_entered-empty)

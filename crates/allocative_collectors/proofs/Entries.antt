@@ -1,11 +1,10 @@
 -- One more entry in the listed sums: what it leaves as it was, and what the map has at each place and after it.
 use Rattle.std.proofs.Common.{◌≡◌, ℕ, zero, suc, ◌+◌, ◌<◌, ◌≤◌, Bool, false, add-zero, zero-add, [], ◌∷◌, ◌++◌, length}
-use Rattle.std.proofs.Common.{refl, ap, ◌∙◌, arith, ◌≢◌, ◌-◌, true, cond, map, Some, None, sym, sum_by, List}
+use Rattle.std.proofs.Common.{refl, ap, ◌∙◌, arith, ◌≢◌, true, cond, map, Some, None, sym, sum_by, List}
 use Rattle.allocative_collectors.proofs.Common.{Key, Path, Sum, Listed, put, path_at, IsEntered, Sums, get, path_cmp}
 use Rattle.allocative_collectors.proofs.Common.{is_same_path, is_one_below, graph, sum_at, row, map_of, size_at_place}
-use Rattle.allocative_collectors.proofs.Common.{sum_by-cons, nat_tests, cond-true, bytes_entered}
+use Rattle.allocative_collectors.proofs.Common.{sum_by-cons, nat_tests, cond-true, bytes_entered, rows, raise}
 use Rattle.std.proofs.Math.Bool.{or-false}
-use Rattle.allocative_collectors.specs.Listed.{rows, raise}
 use Rattle.std.specs.FinMap.{from_entries, get-from_entries, insert, find}
 use Rattle.std.specs.Option.{option_map}
 use Rattle.allocative_graph.specs.Forest.{Mark, Entry, AsInline, AsUnique}
@@ -13,8 +12,7 @@ use Rattle.allocative_graph.specs.Sums.{Node, together, is_unique_mark}
 use Rattle.allocative_graph.specs.Sums as bag
 use Rattle.allocative_graph.specs.Graph.{remaining}
 use Rattle.allocative_graph.proofs.Basics.{path_total, same_path}
-use Rattle.allocative_graph.proofs.Sums.{get-add, same_sums, below-add, bytes_entered-add}
-use Rattle.allocative_graph.proofs.Computed.{entries-empty}
+use Rattle.allocative_graph.proofs.Sums.{get-add, same_sums, below-add, bytes_entered-add, entries-empty}
 use Rattle.allocative_graph.proofs.Showings.{get-graph, get-graph-root}
 use Rattle.allocative_collectors.proofs.Keys.{same_path-same, same_path-apart}
 

@@ -1,12 +1,10 @@
 -- An arena with one more node, which has no entry yet, and with a node that is written.
 use Rattle.std.proofs.Common.{◌≡◌, ◌≢◌, ℕ, ◌+◌, ◌-◌, ◌<◌, ◌≤◌, List, [], ◌∷◌, ◌++◌, length, get_or, set, refl, sym, ap}
 use Rattle.std.proofs.Common.{subst, ◌∙◌, arith, inl, inr, get_or-set_same, get_or-set_other, length-set}
-use Rattle.std.proofs.lemmas.List.{set_past}
 use Rattle.allocative_collectors.proofs.Common.{key_at, Less, ordering_reverse, Key, key_cmp, Node, leaf, no_node, at}
 use Rattle.allocative_collectors.proofs.Common.{children_at, keys_of, keys_at, key_in, parent_at, KeysRise, IsChild}
 use Rattle.allocative_collectors.proofs.Common.{IsArena, IsKeyGap, bytes_at, get_or_append_left, get_or_push}
-use Rattle.allocative_collectors.proofs.Common.{length_push, cases_eq}
-use Rattle.std.specs.List.{All, Contains, insert}
+use Rattle.allocative_collectors.proofs.Common.{length_push, cases_eq, All, Contains, insert, set_past}
 use Rattle.std.proofs.lemmas.List.Elements.{All-cons, All-weaker, Contains-append_right}
 use Rattle.std.proofs.lemmas.List.Sorted.{All-permutation, Contains-permutation, IsPermutation-insert}
 use Rattle.std.proofs.lemmas.List.Edits.{length-insert, get_or-insert_below, get_or-insert_at}

@@ -1,14 +1,13 @@
 -- Keys are in a total order, in which only equal ones tie; tests and equations of paths; the keys of numbered nodes.
-use Rattle.std.proofs.Common.{◌≡◌, true, false, refl, sym, ℕ, suc, set, ◌+◌, ◌-◌, ◌<◌, ◌≤◌, List, [], ◌∷◌, ◌++◌, length}
-use Rattle.std.proofs.Common.{map, get_or, drop, take, ◌∙◌, arith}
+use Rattle.std.proofs.Common.{◌≡◌, true, false, refl, sym, ℕ, suc, set, ◌-◌, ◌<◌, ◌≤◌, List, [], ◌∷◌, ◌++◌, length, map}
+use Rattle.std.proofs.Common.{get_or, drop, take, ◌∙◌, arith}
 use Rattle.allocative_collectors.proofs.Common.{Path, is_same_path, Node, at, children_at, key_at, keys_of}
-use Rattle.allocative_collectors.proofs.Common.{false_from_ne_true, map-append}
+use Rattle.allocative_collectors.proofs.Common.{false_from_ne_true, map-append, no_node, get_or_append_left}
+use Rattle.allocative_collectors.proofs.Common.{get_or_push, length_push, insert, take-map, drop-map, set_past}
+use Rattle.allocative_collectors.proofs.Common.{get_or_past, get_or-set_same, get_or-set_other}
 pub use Rattle.std.specs.Cmp.Lexicographic.{nat_list_cmp_total as key_total}
 pub use Rattle.std.proofs.lemmas.Map.Lookups.{exact_bytes as key_same}
 use Rattle.allocative_graph.proofs.Basics.{same_path, same_path_itself}
-use Rattle.std.specs.List.{insert}
-use Rattle.std.proofs.lemmas.List.{take-map, drop-map, set_past, get_or_past, get_or-set_same, get_or-set_other}
-use Rattle.allocative_collectors.proofs.Common.{no_node, get_or_append_left, get_or_push, length_push}
 use Rattle.std.proofs.lemmas.List.Edits.{get_or-insert_above}
 
 -- If two paths are equal, the test for the same path holds.

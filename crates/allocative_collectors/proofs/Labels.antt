@@ -4,10 +4,8 @@ use Rattle.std.proofs.Common.{append_assoc, append-nil, refl, sym, ap, ◌∙◌
 use Rattle.allocative_collectors.proofs.Common.{Key, Path, Sum, Listed, root_sum, put, path_at, Node, at, sums}
 use Rattle.allocative_collectors.proofs.Common.{children_at, key_at, key_in, keys_at, parent_at, IsArena, IsChild}
 use Rattle.allocative_collectors.proofs.Common.{length-map, get_or_append_left, get_or-map, tied_itself, get_or_default}
-use Rattle.allocative_collectors.proofs.Common.{length_push, same_from_push}
-use Rattle.allocative_collectors.specs.Listed.{raise}
+use Rattle.allocative_collectors.proofs.Common.{length_push, same_from_push, raise, grow, path_from, sum_from}
 use Rattle.allocative_collectors.proofs.Keys.{key_total}
-use Rattle.allocative_collectors.specs.Nodes.{grow, path_from, sum_from}
 
 -- an entry at the place after the last is added at the end
 pub put_push : (i : ℕ) (q : Path) (n : ℕ) (u : Bool) (s : Listed) → i ≡ length s →

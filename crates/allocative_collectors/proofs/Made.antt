@@ -10,17 +10,14 @@ use Rattle.allocative_collectors.proofs.Common.{path_at, map_of, below, bytes_en
 use Rattle.allocative_collectors.proofs.Common.{key_at, no_node, size_at_place, get_or-map, get_or_default}
 use Rattle.allocative_collectors.proofs.Common.{ordering_reverse, tied_itself, MakesPart, MakesGraph, rows_behind}
 use Rattle.allocative_collectors.proofs.Common.{is_short, tied_then, flat_map-append, sum_by-cons, ComesLast, numbers}
-use Rattle.allocative_collectors.proofs.Common.{Children}
+use Rattle.allocative_collectors.proofs.Common.{Children, nat_tests, common_steps, length-map, filter, cond_both}
 use Rattle.std.specs.FinMap.{FinMap, entries_sorted, find, get-entries, get-insert}
 use Rattle.std.specs.FinMap.Entries.{is_sorted, below_all, is_sorted-where_key, find-where_key, same_entries}
-use Rattle.std.specs.List.{filter}
-use Rattle.std.proofs.lemmas.Bool.{cond_both}
 use Rattle.std.proofs.Math.Facts.{and_yes}
 use Rattle.std.proofs.Math.Bool.{and-true, and-or_distrib_left}
 use Rattle.allocative_graph.proofs.Basics.{path_total, path_antisymmetric, same_path, is_eq-Equal}
 use Rattle.allocative_collectors.specs.Warned.{behind}
 use Rattle.allocative_collectors.proofs.Keys.{key_total, key_same}
-use Rattle.allocative_collectors.proofs.Common.{nat_tests}
 use Rattle.std.proofs.lemmas.List.Filters.{sum_by-filter_both}
 use Rattle.std.proofs.lemmas.List.Sums.{sum_by-append, sum_by-le-sum_by}
 use Rattle.allocative_graph.specs.Graph.{total, remaining, warned, size_at, Warned}
@@ -31,7 +28,8 @@ use Rattle.allocative_graph.proofs.Graphs.{total-under, total-add_at, total-defa
 use Rattle.allocative_collectors.specs.declared.tree.Node as nodes
 use Rattle.allocative_collectors.proofs.Entries.{IsListing, graph_hit, graph_none, get_at, get_none}
 use Rattle.allocative_collectors.proofs.Labels.{length_sums, step}
-use Rattle.allocative_collectors.proofs.NodeReads.{on_way, in_nodes, listing}
+use Rattle.allocative_collectors.proofs.NodeReads.{on_way, in_nodes, listing, listing_of, children_read, figures_read}
+use Rattle.allocative_collectors.proofs.NodeReads.{listed_bytes}
 
 -- ---- keys
 abbrev same_key : Key → Key → Bool
@@ -339,3 +337,18 @@ own_warning s i = let e = sum_at s i in
 -- If place i has no warning, its warnings add nothing to a list.
 pub none_warned : (s : Listed) (i : ℕ) (w : List Warned) → false ≡ is_short s i → w ≡ w ++ warned_at s i
 none_warned s i w e = sym (append-nil w) ∙ ap (λ (b : Bool). w ++ cond b (own_warning s i) []) e
+
+-- A node without children has the graph of its own size, and no warning.
+pub leaf_made : {items : List nodes.Node} {lists : List Children} (ok : IsTree items lists) {v : Listed} →
+    sums items ≡ v → (p : ℕ) → p < length v → {c : Children} → c ≡ get_or lists p c → numbers c ≡ [] →
+    {n : nodes.Node} → n ≡ get_or items p n → (g : Graph) → g ≡ add_self n.bytes default → (w : List Warned) →
+    MakesGraph v p w w g
+leaf_made {items} {lists} ok {v} view p hp {c} read empty {n} at g is w =
+    let figures = figures_read ok view p hp at in
+    let nothing : below (map_of v) (path_at v p) ≡ 0 = sym (listed_bytes ok view p hp read refl (sym empty)) in
+    let size : n.bytes ≡ size_at_place v p = grind (arith, common_steps, figures, nothing) in
+    let short : false ≡ is_short v p = grind (arith, nat_tests, common_steps, nothing) in
+    let none = ap length (children_read ok view p hp read ∙ empty) in
+    made_all ok view p hp w w g 0 (omega (arith, none, length-map (children_at (map numbers lists) p) (key_at items)))
+    (part_start v (listing_of ok view) p hp (keys_at items (map numbers lists) p) w w g
+    (is ∙ ap (λ (m : ℕ). add_self m default) size) (none_warned v p w short))

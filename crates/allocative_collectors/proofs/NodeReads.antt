@@ -1,27 +1,26 @@
 -- What a read of a node says of the arena and the sums, and what a search among its children says.
 use Rattle.std.proofs.Common.{◌≡◌, ◌≢◌, ℕ, zero, suc, ◌<◌, false, List, [], ◌∷◌, ◌++◌, length, sym, ap, subst, ◌∙◌}
 use Rattle.std.proofs.Common.{arith, refl, append_assoc, map, Bool, not, get_or, sum_by, cond, ltb, sum, lt-ltb, ◌+◌}
-use Rattle.std.proofs.Common.{◌≤◌, ◌||◌, set, length-set, get_or-set_same, get_or-set_other}
+use Rattle.std.proofs.Common.{◌≤◌, ◌||◌, set, length-set, get_or-set_same, get_or-set_other, subst₂}
 use Rattle.allocative_collectors.proofs.Common.{nat_tests, common_steps, Key, Path, path_at, IsEntered, Listed}
 use Rattle.allocative_collectors.proofs.Common.{root_sum, Node, put, leaf, sums, keys_at, key_in, key_at, parent_at}
 use Rattle.allocative_collectors.proofs.Common.{IsChild, IsArena, IsKeyGap, is_same_path, Sum, sum_at, map_of, no_node}
 use Rattle.allocative_collectors.proofs.Common.{at, bytes_at, is_one_below, is_root, below, children_at, get_or_default}
 use Rattle.allocative_collectors.proofs.Common.{IsTree, length-map, get_or-map, get_or_push, length_push}
 use Rattle.allocative_collectors.proofs.Common.{same_from_push, tied_itself, cond-false, entries, bytes_entered}
-use Rattle.allocative_collectors.proofs.Common.{sum_by-cons, Children, numbers}
-use Rattle.std.proofs.lemmas.List.{map-set, map_push}
-use Rattle.std.proofs.Math.Seq.{map-set_same}
+use Rattle.allocative_collectors.proofs.Common.{sum_by-cons, Children, numbers, HasKey, keys_of, KeysRise, insert, All}
+use Rattle.allocative_collectors.proofs.Common.{Contains, IsAbove, map-set, map_push, sum_from, map-set_same}
 use Rattle.allocative_graph.proofs.Sums.{one_below_is}
 use Rattle.allocative_collectors.proofs.Keys.{key_total, same_path-same, same_path-apart, map_same}
 use Rattle.allocative_collectors.proofs.Entries.{put_nothing, raise_nothing, IsListing, below_listed, not_below_root}
 use Rattle.allocative_collectors.proofs.Entries.{get_at, found_fits}
 use Rattle.allocative_collectors.proofs.Labels.{path_of, path_from-some, grow_push, grow_set, put_push, length_sums}
 use Rattle.allocative_collectors.proofs.Labels.{not_nil, root_at, step, key_place, distinct, figures-grow}
-use Rattle.allocative_collectors.proofs.Grown.{grown, arena_set, with_child}
+use Rattle.allocative_collectors.proofs.Grown.{grown, arena_set, arena_grown, with_child}
 use Rattle.std.specs.FinMap.{get-entries}
 use Rattle.std.proofs.lemmas.List.Sums.{sum_by-set, sum_by-le, sum-map}
-use Rattle.std.specs.List.{insert}
-use Rattle.allocative_collectors.specs.Nodes.{sum_from}
+use Rattle.std.proofs.lemmas.List.Elements.{All-contains, All-weaker}
+use Rattle.allocative_collectors.specs.declared.children.Children.TheVariants.{Empty}
 
 -- ---- what a search among a node's children says
 -- at a gap no child has the key
@@ -221,25 +220,22 @@ same_lists {items} {lists} ok i c d read same = tree_of items (set lists i d)
 abbrev plain : Node → Node
 plain n = record n { last = 0; next = 0; follower = 0 }
 
--- node i, which was read as n, becomes m, which differs by its guesses alone
-module _ (items : List Node) (i : ℕ) (n m : Node) (h : i < length items) (read : n ≡ get_or items i n)
-    (same : plain m ≡ plain n) where
-  as_before : plain m ≡ plain (at items i)
-  as_before = same ∙ ap plain (sym (at_read items i n h read))
+-- If a node is replaced by one that differs by its guesses alone, the sums are unchanged.
+pub same_view : (items : List Node) (i : ℕ) (n m : Node) → i < length items → n ≡ get_or items i n → plain m ≡ plain n
+    → {v : Listed} → sums items ≡ v → sums (set items i m) ≡ v
+same_view items i n m h read same view =
+    let as_before : plain m ≡ plain (at items i) = same ∙ ap plain (sym (at_read items i n h read)) in
+    grow_set [] items i m [] 0 false h (λ qs. ap (sum_from qs) as_before ∙ sym (raise_nothing _))
+    ∙ (put_nothing i [] (sums items) (omega (arith, length_sums items)) ∙ view)
 
-  -- the sums are unchanged
-  pub same_view : {v : Listed} → sums items ≡ v → sums (set items i m) ≡ v
-  same_view view = grow_set [] items i m [] 0 false h (λ qs. ap (sum_from qs) as_before ∙ sym (raise_nothing _))
-      ∙ (put_nothing i [] (sums items) (omega (arith, length_sums items)) ∙ view)
-
-  -- the nodes are still a tree
-  pub same_tree : {lists : List Children} → IsTree items lists → IsTree (set items i m) lists
-  same_tree ok = tree_of (set items i m) _ (arena_set items ok.arena i m (ap (λ (s : Node). s.key) as_before)
-      (ap (λ (s : Node). s.parent) as_before) (λ e. ap (λ (s : Node). s.bytes) as_before))
-
--- a node whose bytes grow, with a new mark
-abbrev pub raise_node : ℕ → Bool → Node → Node
-raise_node size b n = record n { bytes = n.bytes + size; is_unique = b }
+-- If a node is replaced by one with its key and its parent, and the root keeps its bytes, the nodes are still a tree.
+pub written_tree : {items : List Node} {lists : List Children} → IsTree items lists → (i : ℕ) (m : Node) {n : Node} →
+    i < length items → n ≡ get_or items i n → m.key ≡ n.key → m.parent ≡ n.parent → (0 ≡ i → m.bytes ≡ n.bytes) →
+    IsTree (set items i m) lists
+written_tree {items} ok i m h read key parent bytes =
+    let is = sym (at_read items i _ h read) in
+    tree_of (set items i m) _ (arena_set items ok.arena i m (key ∙ ap (λ (s : Node). s.key) is)
+    (parent ∙ ap (λ (s : Node). s.parent) is) (λ e. bytes e ∙ ap (λ (s : Node). s.bytes) is))
 
 -- a tree whose sums are v
 module _ {items : List Node} {lists : List Children} (ok : IsTree items lists) {v : Listed} (view : sums items ≡ v) where
@@ -256,24 +252,73 @@ module _ {items : List Node} {lists : List Children} (ok : IsTree items lists) {
     pub children_read : {c : Children} → c ≡ get_or lists i c → children_at (map numbers lists) i ≡ numbers c
     children_read {c} read = get_or-map numbers lists i c [] in_lists ∙ ap numbers (sym read)
 
-    -- the bytes of the children of a node, read one by one
-    pub below_read : sum_by (bytes_at items) (children_at (map numbers lists) i) ≡ below (map_of v) (path_at v i)
-    below_read = below_is items ok.arena i (in_nodes items i view h)
-        ∙ ap (λ (s : Listed). below (map_of s) (path_at s i)) view
+    -- the list c, which was read
+    module _ {c : Children} (read : c ≡ get_or lists i c) {ns : List Node} (same : ns ≡ items) where
+      -- The keys in it rise.
+      pub keys_rise : KeysRise (keys_of ns (numbers c))
+      keys_rise = subst₂ (λ (l : List Node) (xs : List ℕ). KeysRise (keys_of l xs)) (sym same) (children_read read)
+          (ok.arena.rise i)
 
-    -- the two writes of a new node's number, seen as numbers
-    pub grown_lists : {c : Children} (d fresh : Children) → c ≡ get_or lists i c → numbers fresh ≡ [] → (g n : ℕ) →
-        numbers d ≡ insert (numbers c) g n →
-        map numbers (set lists i d ++ fresh ∷ []) ≡ with_child (map numbers lists) i g n
-    grown_lists d fresh read none g n is =
-        map_push numbers (set lists i d) fresh ∙ (λ j. (map-set numbers lists i d
-        ∙ ap (set (map numbers lists) i) (is ∙ ap (λ (xs : List ℕ). insert xs g n) (sym (children_read read)))) j
-        ++ none j ∷ [])
+      -- Its numbers are those of nodes.
+      pub listed_within : {xs : List ℕ} → xs ≡ numbers c → All (λ a. a < length ns) xs
+      listed_within is =
+          subst₂ (λ (l : List Node) (xs : List ℕ). All (λ (a : ℕ). a < length l) xs) (sym same)
+          (children_read read ∙ sym is)
+          (All-weaker (IsChild items i) (λ (a : ℕ). a < length items) (λ a child. child.in_range)
+          _ (ok.arena.children i))
+
+      -- Its nodes have the bytes one key below the path of node i.
+      pub listed_bytes : {xs : List ℕ} → xs ≡ numbers c → sum_by (bytes_at ns) xs ≡ below (map_of v) (path_at v i)
+      listed_bytes is = (λ j. sum_by (bytes_at (same j)) ((is ∙ sym (children_read read)) j))
+          ∙ below_is items ok.arena i (in_nodes items i view h)
+          ∙ ap (λ (s : Listed). below (map_of s) (path_at s i)) view
+
+      -- A child that was found in it was entered.
+      pub found_entered : (k : Key) (a : ℕ) → HasKey ns (numbers c) k a → IsEntered v v i k 0 false a
+      found_entered k a found =
+          let listed = subst (λ (xs : List ℕ). Contains xs a) (sym (children_read read)) found.0 in
+          subst (λ (s : Listed). IsEntered s s i k 0 false a) view
+          (was_entered items ok.arena i (in_nodes items i view h) k a
+          (All-contains (IsChild items i) _ a (ok.arena.children i) listed)
+          (subst (λ (l : List Node). key_at l a ≡ k) same found.1))
+
+      module _ (k : Key) (g : ℕ) (gap : IsKeyGap (keys_of ns (numbers c)) k g) where
+        gap_is : IsKeyGap (keys_at items (map numbers lists) i) k g
+        gap_is = subst₂ (λ (l : List Node) (xs : List ℕ). IsKeyGap (keys_of l xs) k g) same (sym (children_read read))
+            gap
+
+        -- With a new node, whose number is put into the list, the nodes are a tree.
+        pub grown_tree : (d : Children) → numbers d ≡ insert (numbers c) g (length items) →
+            IsTree (items ++ leaf i k ∷ []) (set lists i d ++ Empty ∷ [])
+        grown_tree d is =
+            let made : map numbers (set lists i d ++ Empty ∷ []) ≡ with_child (map numbers lists) i g (length items) =
+            map_push numbers (set lists i d) Empty ∙ (λ j. (map-set numbers lists i d ∙ ap (set (map numbers lists) i)
+            (is ∙ ap (λ (xs : List ℕ). insert xs g (length items)) (sym (children_read read)))) j ++ [] ∷ []) in
+            tree_of _ _ (subst (IsArena (grown items i k)) (sym made)
+            (arena_grown items ok.arena i (in_nodes items i view h) k g gap_is))
+
+        -- The new node is an entry of 0 bytes.
+        pub grown_entered : (more : List Node) (n : ℕ) → more ≡ items ++ leaf i k ∷ [] → n ≡ length items →
+            IsEntered v (sums more) i k 0 false n
+        grown_entered more n is number =
+            subst (λ (e : Listed × (List Node × ℕ)). IsEntered e.0 (sums e.1.0) i k 0 false e.1.1)
+            (λ j. (view j, (sym is j, sym number j)))
+            (now_entered items ok.arena i (in_nodes items i view h) k g gap_is)
 
     -- the node i, which was read as n
     module _ {n : Node} (read : n ≡ get_or items i n) where
       node_is : at items i ≡ n
       node_is = at_read items i n (in_nodes items i view h) read
+
+      -- Its path is that of its parent with one more key.
+      pub above_is : i ≢ 0 → IsAbove v i n.parent
+      above_is some =
+          let inside = in_nodes items i view h in
+          subst₂ (λ (s : Listed) (p : ℕ). IsAbove s i p) view (ap (λ (s : Node). s.parent) node_is) (record {
+            key = key_at items i;
+            within = (let lt = ok.arena.parents i (omega arith) inside in omega (arith, length_sums items));
+            path = step items ok.arena i (omega arith) inside;
+          })
 
       -- what the sums say of it
       pub figures_read : let e = sum_at v i in
@@ -289,16 +334,18 @@ module _ {items : List Node} {lists : List Children} (ok : IsTree items lists) {
         pub bytes_fit : n.bytes ≤ bytes_entered (map_of v)
         bytes_fit = omega (arith, found_fits (path_at v i) (entries (map_of v)) (sym (get-entries (map_of v) (path_at v i)) ∙ get_at v listing_of i pos h), figures_read.0)
 
-        pub raised_tree : (size : ℕ) (b : Bool) → IsTree (set items i (raise_node size b n)) lists
-        raised_tree size b = tree_of _ _ (arena_set items ok.arena i _ (sym (ap (λ (s : Node). s.key) node_is))
-            (sym (ap (λ (s : Node). s.parent) node_is)) (λ e. absurd (omega arith)))
-
       -- the bytes are added at the node's place
       pub raised_view : (size : ℕ) (u b : Bool) → b ≡ (n.is_unique || u) →
-          sums (set items i (raise_node size b n)) ≡ put i (path_at v i) size u v
+          sums (set items i (record n { bytes = n.bytes + size; is_unique = b })) ≡ put i (path_at v i) size u v
       raised_view size u b mark =
           grow_set [] items i _ (path_at v i) size u (in_nodes items i view h) (λ qs. rw (mark, node_is) refl)
           ∙ ap (put i (path_at v i) size u) view
 
 -- What a node that was read says of its sum, beside tests of numbers.
 pub ruleset figures = (figures_read, nat_tests, common_steps)
+
+-- What a list of children that was read says of a tree.
+pub ruleset list_steps = (in_lists, children_read, same_lists, get_or_default)
+
+-- What a search for a child says of a tree.
+pub ruleset child_steps = (keys_rise, found_entered, grown_tree, grown_entered, list_steps)

@@ -52,6 +52,7 @@ impl Model for GraphCollector {
 
 impl GraphCollector {
     /// A collector with no entries and no open visitor, at the root. The only error is that memory runs out.
+    #[tactic(auto, using(crate::proofs::Collect::nothing_entered))]
     pub fn new(alloc: Global) -> Result<GraphCollector, AllocError>
         ensures { IfOk result (λ c. c ≡ no_entries) }
     {
@@ -107,6 +108,7 @@ impl GraphCollector {
     /// start at the root. The errors are those of `enter`: `TooLarge` exactly if the bytes would exceed `isize::MAX`,
     /// and `Memory`, also if there would be more than 2^32 - 1 paths. `TooLarge` changes nothing. After `Memory` the
     /// entry may have been counted.
+    #[tactic(auto, using(crate::proofs::Collect::met_is, crate::proofs::Collect::met_more, crate::proofs::Collect::gone_in))]
     pub fn enter_shared(&mut self, key: &Key, size: usize, id: Identity) -> Result<bool, Refusal>
         ensures ok { IfOk result (λ new. (bytes_entered self.old.sums + size < 2 ^ 63)
             × MeetsAs key.now size id self.old new self.new) }
@@ -126,6 +128,7 @@ impl GraphCollector {
     ///
     /// If the guess is right, the processor need not wait for the node to be read.
     #[inline(always)]
+    #[tactic(auto, using(crate::proofs::Collect::came_up))]
     pub fn leave(&mut self)
         ensures { self.new ≡ leave_live self.old }
     {
@@ -151,6 +154,7 @@ impl GraphCollector {
     }
 
     /// Whether no visitor is open.
+    #[tactic(auto, using(crate::proofs::Collect::closed_is, crate::proofs::Labels::not_nil, std::proofs::lemmas::List::nil_from_length))]
     pub fn is_closed(&self) -> bool
         ensures closed { IsTrue result ↔ IsClosed (OfGraph self.now) }
         ensures at_root { IsTrue result → IsAtRoot (OfGraph self.now) }
@@ -163,6 +167,7 @@ impl GraphCollector {
     }
 
     /// One more root visitor, when no visitor is open.
+    #[tactic(auto, using(crate::proofs::Collect::closed_is, crate::proofs::Collect::at_root))]
     pub fn begin(&mut self)
         requires { IsClosed (OfGraph self.old) }
         ensures { self.new ≡ go [] self.old }

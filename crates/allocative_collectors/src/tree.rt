@@ -130,6 +130,7 @@ impl Tree {
 
     /// Adds the bytes of an entry to a node, and takes them from the room.
     #[inline(always)]
+    #[tactic(auto, using(crate::proofs::NodeReads::bytes_fit, crate::proofs::NodeReads::raised_view))]
     fn add_bytes(&mut self, room: &mut usize, node: usize, size: usize, is_unique: bool)
         requires node { (0 < node) × (node < length self.old) }
         requires room { size ≤ room.old }
@@ -145,7 +146,7 @@ impl Tree {
 
     /// The node one key above, or None for the root.
     #[inline(always)]
-    #[tactic(auto, using(crate::proofs::Labels::root_at))]
+    #[tactic(auto, using(crate::proofs::Labels::root_at, crate::proofs::NodeReads::above_is))]
     pub(crate) fn parent(&self, node: usize) -> Option<usize>
         requires { node < length self.now }
         ensures above { IfSome result (IsAbove self.now node) }
@@ -161,6 +162,7 @@ impl Tree {
     /// The graph, the text of the warnings, and the paths that have one.
     ///
     /// One walk makes the graph and lists the paths that have a warning. The text is made from the list.
+    #[tactic(auto, using(crate::proofs::NodeReads::listing_of))]
     pub(crate) fn finish(&self) -> Result<FlameGraphOutput, Refusal>
         requires { bytes_entered (map_of self.now) < 2 ^ 63 }
         ensures made { IfOk result (IsProfile (map_of self.now)) }
@@ -276,17 +278,15 @@ impl Tree {
         node.next = next;
     }
 
-    /// Stores that `child` followed the one that was entered last.
-    fn follow_last(&mut self, at: usize, child: usize)
-        requires parent { at < length self.old }
-        requires child { child < length self.old }
+    /// Stores that `child` followed the node `last`, if there is one.
+    #[tactic(auto, using(crate::proofs::NodeReads::same_view))]
+    fn set_follower(&mut self, last: usize, child: usize)
         ensures { self.new ≡ self.old }
     {
-        let last = self.nodes[at].last as usize;
-        if last < self.nodes.len() {
-            self.nodes[last].follower = guess(child);
+        if last >= self.nodes.len() {
+            return;
         }
-        self.expect_follower(at, child);
+        self.nodes[last].follower = guess(child);
     }
 
     /// Enters under a key that was not expected. The room has the bytes.
@@ -309,13 +309,16 @@ impl Tree {
         ensures kept { OnErr result ((self.new ≡ self.old) × (room.new ≡ room.old)) }
     {
         let node = self.search_child(at, &Key::new(key))?;
-        self.follow_last(at, node);
+        let last = self.nodes[at].last as usize;
+        self.set_follower(last, node);
+        self.expect_follower(at, node);
         self.cut_long_list(at);
         self.add_bytes(room, node, size, is_unique);
         Ok(node)
     }
 
     /// The child of the node `at` that has the key, found by a search. It is made if there is none.
+    #[tactic(auto, using(crate::proofs::NodeReads::child_steps))]
     fn search_child(&mut self, at: usize, key: &Key) -> Result<usize, AllocError>
         requires { at < length self.old }
         ensures entered { IfOk result (IsEntered self.old self.new at key.now 0 false) }
@@ -339,6 +342,7 @@ impl Tree {
     }
 
     /// Cuts the list of a node's children into chunks if it is long. If memory runs out it stays one list.
+    #[tactic(auto, using(crate::proofs::NodeReads::list_steps))]
     fn cut_long_list(&mut self, at: usize)
         requires { at < length self.old }
         ensures { self.new ≡ self.old }
@@ -415,6 +419,7 @@ fn find_in_list(nodes: &[Node], list: &[u32], key: &Key) -> Result<u32, usize>
 /// The same for numbers in chunks. The starts of the keys give a place, which is tested. If it is not the one, all
 /// chunks are searched by the keys alone.
 #[inline(never)]
+#[tactic(auto, using(crate::proofs::Chunks::stands, crate::proofs::Keys::key_same))]
 fn find_in_chunks(nodes: &[Node], chunks: &[Chunk], key: &Key) -> Result<u32, Place>
     requires rise { KeysRise (keys_of nodes.now (flat chunks.now)) }
     ensures found { IfOk result (HasKey nodes.now (flat chunks.now) key.now) }
@@ -495,6 +500,7 @@ fn is_behind(nodes: &[Node], chunks: &[Chunk], key: &Key, place: Place) -> bool
 /// give the right place, so that this is needed only after starts were forgotten.
 #[cold]
 #[inline(never)]
+#[tactic(auto, using(crate::proofs::Chunks::part_rises))]
 fn search_chunks(nodes: &[Node], chunks: &[Chunk], key: &Key) -> Result<u32, Place>
     requires rise { KeysRise (keys_of nodes.now (flat chunks.now)) }
     ensures found { IfOk result (HasKey nodes.now (flat chunks.now) key.now) }

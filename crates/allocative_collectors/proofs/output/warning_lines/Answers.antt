@@ -1,7 +1,6 @@
 -- One more line.
 use Rattle.std.proofs.Common.{◌≡◌, [], ◌∷◌, ◌++◌, map, take, append_assoc, ap, ◌∙◌, arith, string_bytes, append-nil}
-use Rattle.allocative_collectors.proofs.Common.{newline, warning_text, warning_of, flat_map-append}
-use Rattle.std.proofs.lemmas.List.{map_more}
+use Rattle.allocative_collectors.proofs.Common.{newline, warning_text, warning_of, flat_map-append, map_more}
 use Rattle.allocative_collectors.proofs.output.warning_lines.Goals as goal
 
 pub loop-one-preserved : goal.loop-one-preserved

@@ -1,13 +1,14 @@
 -- A key above that of the last number is above all. What else the search finds among the keys of the numbers.
-use Rattle.std.proofs.Common.{ℕ, Ok, Err, sym, ap, ◌∙◌, rules}
+use Rattle.std.proofs.Common.{refl, ℕ, Ok, Err, sym, ap, ◌∙◌, rules}
 use Rattle.allocative_collectors.proofs.Common.{is_lt, key_cmp, key_at, always_returns_same}
 use Rattle.std.proofs.lemmas.List.Elements.{Contains-get_or}
 use Rattle.allocative_collectors.proofs.Chunks.{behind_last, searched}
 use Rattle.allocative_collectors.proofs.tree.find_in_list.Goals as goal
 
 pub returns-clause-absent : goal.returns-clause-absent
-returns-clause-absent c = behind_last (key_at c.args.nodes.now) c.args.list.now c.requires.rise
-    c.args.key.now c.in-Some.last.now (sym c.in-Some.ensures.value) (ap is_lt (sym c.compare.ensures) ∙ (sym c.is_lt.ensures ∙ c.if-is_lt.true))
+returns-clause-absent c = behind_last (key_at c.args.nodes.now) c.args.list.now c.requires.rise c.args.key.now
+    _ c.in-Some.last.now refl (sym c.in-Some.ensures.value)
+    (ap is_lt (sym c.compare.ensures) ∙ (sym c.is_lt.ensures ∙ c.if-is_lt.true))
 
 pub returns-in-Ok-clause-found : goal.returns-in-Ok-clause-found
 returns-in-Ok-clause-found c =

@@ -1,22 +1,20 @@
 -- A node's own size and warning, and then the graph of each child with the paths that have a warning.
-use Rattle.std.proofs.Common.{◌≡◌, ◌-◌, ◌+◌, ◌<◌, ℕ, Bool, cond, List, [], ◌∷◌, ◌++◌, map, length, get_or, sum_by, Bor}
-use Rattle.std.proofs.Common.{Vec, Global, arith, sym, ap, subst, ◌∙◌, refl, Err, IfErr, ◌^◌, ◌≤◌, add-one}
-use Rattle.allocative_collectors.proofs.Common.{Key, IsChild, below, bytes_at, map_of, under, sum_of, default, add_self}
-use Rattle.allocative_collectors.proofs.Common.{WarnedPath, path_at, keys_at, key_at, children_at, key_in}
-use Rattle.allocative_collectors.proofs.Common.{size_at_place, warning_of, Refusal, Memory, length-map, map-append}
-use Rattle.allocative_collectors.proofs.Common.{ComesLast, numbers, MakesGraph, MakesPart}
-use Rattle.std.specs.List.{All}
-use Rattle.std.proofs.lemmas.List.Elements.{All-weaker}
+use Rattle.std.proofs.Common.{◌≡◌, ◌-◌, ◌+◌, ◌<◌, ℕ, Bool, cond, List, [], ◌∷◌, ◌++◌, map, length, get_or, Bor, Vec}
+use Rattle.std.proofs.Common.{Global, arith, sym, ap, subst, ◌∙◌, refl, Err, IfErr, ◌^◌, ◌≤◌, add-one}
+use Rattle.allocative_collectors.proofs.Common.{map_of, Key, under, sum_of, default, add_self, WarnedPath, path_at}
+use Rattle.allocative_collectors.proofs.Common.{keys_at, key_at, children_at, key_in, size_at_place, warning_of}
+use Rattle.allocative_collectors.proofs.Common.{Refusal, Memory, length-map, map-append, ComesLast, numbers, MakesGraph}
+use Rattle.allocative_collectors.proofs.Common.{MakesPart, Node}
 use Rattle.allocative_graph.specs.Graph.{Graph, Warned, total}
-use Rattle.allocative_collectors.specs.declared.tree.Node.{Node}
-use Rattle.allocative_collectors.proofs.NodeReads.{in_nodes, children_read, below_read, figures_read, listing_of}
+use Rattle.allocative_collectors.proofs.NodeReads.{in_nodes, children_read, figures_read, listing_of, listed_within}
+use Rattle.allocative_collectors.proofs.NodeReads.{listed_bytes}
 use Rattle.allocative_collectors.proofs.Made.{part_start, part_more, part_fits, made_all, child_read, none_warned}
-use Rattle.allocative_collectors.proofs.Made.{own_warning, own_fits, warned_at, comes_last, begun, below_fits}
+use Rattle.allocative_collectors.proofs.Made.{below_fits, own_warning, own_fits, warned_at, comes_last, begun}
 use Rattle.allocative_graph.proofs.Graphs.{total-default}
 use Rattle.allocative_graph.proofs.Text.{popped, texts}
 use Rattle.allocative_collectors.proofs.tree.Tree.+build_graph.Goals as goal
 use Rattle.allocative_collectors.proofs.tree.Tree.+build_graph.Goals.{then-is_short+in_ok-push_warned, else-is_short}
-use Rattle.allocative_collectors.proofs.tree.Tree.+build_graph.Goals.{In_ok-children, After-bytes_of-size_below}
+use Rattle.allocative_collectors.proofs.tree.Tree.+build_graph.Goals.{In_ok-children}
 
 -- the numbers of all children, and the keys of the node's own
 abbrev lists : (t : ℕ) → In_ok-children t → List (List ℕ)
@@ -43,42 +41,25 @@ child : (t : ℕ) (c : In_ok-children t) (j : ℕ) → j < length c.in_ok-childr
     × ((d : Node) → (let m = get_or c.self.inside.nodes.items i d in m.key ≡ key_in (keys t c) j))
 child t c = child_read c.self.invariant c.self.view_is c.args.at c.in_ok-children.children.now (children t c)
 
--- the bytes of the children
-whole : (t : ℕ) (c : In_ok-children t) → sum_by (bytes_at c.self.inside.nodes.items)
-    c.in_ok-children.children.now ≡ below (map_of c.args.self.now) (path_at c.args.self.now c.args.at)
-whole t c = ap (sum_by (bytes_at c.self.inside.nodes.items)) (sym (children t c))
-    ∙ below_read c.self.invariant c.self.view_is c.args.at c.requires.within
-
 pub bytes_of-size_below-requires-clause-within : goal.bytes_of-size_below-requires-clause-within
-bytes_of-size_below-requires-clause-within t c =
-    let items = c.self.inside.nodes.items in
-    let all = All-weaker (IsChild items c.args.at) (λ (i : ℕ). i < length items) (λ i is. is.in_range)
-    (children_at (map numbers c.self.inside.children.items) c.args.at)
-    (c.self.invariant.arena.children c.args.at) in
-    subst (λ (l : List Node). All (λ (i : ℕ). i < length l) c.in_ok-children.children.now) (sym c.deref.ensures.value)
-    (subst (All (λ (i : ℕ). i < length items))
-    (children t (goal.at.bytes_of-size_below-requires-clause-within t c).In_ok-children) all)
+bytes_of-size_below-requires-clause-within t c = listed_within c.self.invariant c.self.view_is c.args.at
+    c.requires.within c.index.ensures c.deref.ensures.value c.in_ok-children.ensures
 
 pub bytes_of-size_below-requires-clause-fits : goal.bytes_of-size_below-requires-clause-fits
 bytes_of-size_below-requires-clause-fits t c =
-    omega (arith, ap (λ (l : List Node). sum_by (bytes_at l) c.in_ok-children.children.now) c.deref.ensures.value, whole t (goal.at.bytes_of-size_below-requires-clause-fits t c).In_ok-children, below_fits (map_of c.args.self.now) (path_at c.args.self.now c.args.at), c.requires.fits)
-
--- so many bytes were found
-found_below : (t : ℕ) (c : After-bytes_of-size_below t) →
-    (sum_by (bytes_at c.self.inside.nodes.items) c.in_ok-children.children.now
-    ≡ below (map_of c.args.self.now) (path_at c.args.self.now c.args.at)) →
-    c.bytes_of-size_below.result ≡ below (map_of c.args.self.now) (path_at c.args.self.now c.args.at)
-found_below t c is = c.bytes_of-size_below.ensures
-    ∙ (ap (λ (l : List Node). sum_by (bytes_at l) c.in_ok-children.children.now) c.deref.ensures.value ∙ is)
+    let whole = listed_bytes c.self.invariant c.self.view_is c.args.at c.requires.within c.index.ensures
+    c.deref.ensures.value c.in_ok-children.ensures in
+    omega (arith, whole, below_fits (map_of c.args.self.now) (path_at c.args.self.now c.args.at), c.requires.fits)
 
 pub figures-size-requires-clause-below : goal.figures-size-requires-clause-below
-figures-size-requires-clause-below t c =
-    let here = goal.at.figures-size-requires-clause-below t c in
-    found_below t here.After-bytes_of-size_below (whole t here.In_ok-children)
+figures-size-requires-clause-below t c = c.bytes_of-size_below.ensures
+    ∙ listed_bytes c.self.invariant c.self.view_is c.args.at c.requires.within c.index.ensures c.deref.ensures.value
+    c.in_ok-children.ensures
 
 pub index-requires-in-loop-child : goal.index-requires-in-loop-child
 index-requires-in-loop-child t c =
-    let there = child t (goal.at.index-requires-in-loop-child t c).In_ok-children c.loop-child.child-index c.loop-child-test.true in
+    let there = child t (goal.at.index-requires-in-loop-child t c).In_ok-children c.loop-child.child-index
+    c.loop-child-test.true in
     omega (arith, c.self.inside.nodes.ok.0, in_nodes c.self.inside.nodes.items (get_or c.in_ok-children.children.now c.loop-child.child-index 0) c.self.view_is there.1)
 
 pub returns-in_err-add_self-clause-err : goal.returns-in_err-add_self-clause-err
@@ -94,7 +75,9 @@ returns-in_err-add_self-clause-err t c =
 pub loop-child-init : goal.loop-child-init
 loop-child-init t c =
     let here = goal.at.loop-child-init t c in
-    let size_below = found_below t here.After-bytes_of-size_below (whole t here.In_ok-children) in
+    let size_below = c.bytes_of-size_below.ensures
+    ∙ listed_bytes c.self.invariant c.self.view_is c.args.at c.requires.within c.index.ensures c.deref.ensures.value
+    c.in_ok-children.ensures in
     let v = c.args.self.now in
     let i = c.args.at in
     let start = map warning_of c.args.warned.now.items in
@@ -114,7 +97,8 @@ loop-child-init t c =
     record { keys = refl; made = part_start v (listing_of c.self.invariant c.self.view_is) i c.requires.within (keys t here.In_ok-children) _ _ _ is found }
 
 pub leaf-requires : goal.leaf-requires
-leaf-requires t c = (child t (goal.at.leaf-requires t c).In_ok-children c.loop-child.child-index c.loop-child-test.true).1
+leaf-requires t c =
+    (child t (goal.at.leaf-requires t c).In_ok-children c.loop-child.child-index c.loop-child-test.true).1
 
 pub build_graph-requires : goal.build_graph-requires
 build_graph-requires t c =

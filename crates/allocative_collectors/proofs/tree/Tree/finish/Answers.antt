@@ -1,14 +1,14 @@
 -- The walk from the root has all paths.
-use Rattle.std.proofs.Common.{arith, ◌≡◌, ◌<◌, ◌^◌, ℕ, true, List, ◌++◌, map, Bor, sym, ap, subst, ◌∙◌, flat_map, []}
-use Rattle.std.proofs.Common.{◌∷◌, refl, append-nil}
+use Rattle.std.proofs.Common.{arith, ◌≡◌, ◌<◌, ◌^◌, true, List, ◌++◌, map, sym, ap, subst, ◌∙◌, flat_map, [], ◌∷◌, refl}
+use Rattle.std.proofs.Common.{append-nil}
 use Rattle.allocative_collectors.proofs.Common.{get, Path, Graph, graph, map_of, warning_of, warning_lines, entries}
 use Rattle.allocative_collectors.proofs.Common.{newline, Sums, below, warning_text, rows_behind, flat_map-append}
+use Rattle.allocative_collectors.proofs.Common.{filter}
 use Rattle.std.specs.FinMap.{same_map}
 use Rattle.allocative_graph.specs.Graph.{total, warned, warning, warning_line, warned_paths}
 use Rattle.allocative_graph.proofs.Basics.{path_total, path_antisymmetric}
 use Rattle.allocative_collectors.proofs.Made.{part_fits}
 use Rattle.allocative_collectors.proofs.NodeReads.{listing_of}
-use Rattle.std.specs.List.{filter}
 use Rattle.allocative_graph.specs.Sums.{Node}
 use Rattle.allocative_collectors.proofs.tree.Tree.finish.Goals as goal
 
@@ -28,14 +28,6 @@ lines_of s [] = refl
 lines_of s (e ∷ es) =
     flat_map-append (λ w. warning_text w ++ newline ∷ []) (warned s e) (flat_map (warned s) es)
     ∙ (λ i. line_of s e i ++ lines_of s es i)
-
-pub build_graph-requires-clause-within : goal.build_graph-requires-clause-within
-build_graph-requires-clause-within c = (listing_of c.self.invariant c.self.view_is).rooted
-
-pub build_graph-requires-clause-keys : goal.build_graph-requires-clause-keys
-build_graph-requires-clause-keys c =
-    ap (map (λ (k : Bor (List ℕ)). k.now)) c.new-keys.ensures.items
-    ∙ sym (listing_of c.self.invariant c.self.view_is).root_path
 
 pub returns-clause-made : goal.returns-clause-made
 returns-clause-made c =
