@@ -1,8 +1,8 @@
 -- What a visit shows that takes the collector out of its visitor and enters by hand.
 use Rattle.std.proofs.Common.{◌≡◌, ℕ, suc, Bool, true, false, Some, Result, Ok, refl, ap, subst, arith}
-use Rattle.allocative.proofs.Common.{Refusal, Key, Identity, Live, Restore, State, Showing, Nothing, Both, Inside}
-use Rattle.allocative.proofs.Common.{Unique, AddsForest, forgotten, OpensEntry, ClosesEntry, OpensShared}
-use Rattle.allocative.proofs.Common.{enters_first, Visitor, with_state, Visited, Entered, Means, OnlyIf}
+use Rattle.allocative.proofs.Common.{Refusal, Key, Identity, Live, Restore, State, Showing, Nothing, Both, InsideAs}
+use Rattle.allocative.proofs.Common.{AddsForest, forgotten, OpensEntry, ClosesEntry, OpensShared, enters_first, Visitor}
+use Rattle.allocative.proofs.Common.{with_state, Visited, Entered, Means, OnlyIf}
 use Rattle.allocative.specs.Visited.{AnyEffect}
 use Rattle.allocative.proofs.Strict.{not_strict}
 use Rattle.allocative.proofs.Meaning.{entered_if, means_same, visited_as}
@@ -24,14 +24,9 @@ shown_before {p} {a = a} {t = t} {u = u} e h k =
     record { same_reference = k.same_reference; same_outer = k.same_outer; shown = adds_both (subst P e h) k.shown; only_if_full = not_strict; takes_effect = tt }
 
 -- An entry with nothing inside it.
-pub inline_alone : {k : Key} {n : ℕ} {o q : Restore} {s t d : State} {x : Unit {0}} →
-    OpensEntry false k (Some n) s (Ok o) t → ClosesEntry q t d → q ≡ o → AddsForest (Inside k n Nothing) s (Ok x) d
-inline_alone g l e = adds_entry g refl (adds_nothing _ tt) l e
-
--- Opening a unique entry and closing it at once shows a unique entry with nothing inside it.
-pub unique_alone : {k : Key} {n : ℕ} {o q : Restore} {s t d : State} {x : Unit {0}} →
-    OpensEntry true k (Some n) s (Ok o) t → ClosesEntry q t d → q ≡ o → AddsForest (Unique k n Nothing) s (Ok x) d
-unique_alone g l e = adds_entry g refl (adds_nothing _ tt) l e
+pub entry_alone : {u : Bool} {k : Key} {n : ℕ} {o q : Restore} {s t d : State} {x : Unit {0}} →
+    OpensEntry u k (Some n) s (Ok o) t → ClosesEntry q t d → q ≡ o → AddsForest (InsideAs u k n Nothing) s (Ok x) d
+entry_alone g l e = adds_entry g refl (adds_nothing _ tt) l e
 
 -- A shared value's content whose visitor is forgotten: more visitors are open than before.
 pub content_forgotten : {q : Showing} {k : Key} {n : ℕ} {i : Identity} {s t : State} {v : Unit {0}} →
@@ -48,4 +43,4 @@ pub visited_at : {d e : Bool} {T : Type 0} (show : T → Showing) {x y : T} {p :
 visited_at show is h o m = rw is (visited_as (entered_if h o means_same) m)
 
 -- The rules for implementations that enter by hand.
-pub ruleset by_hand = (shown_by_hand, shown_before, inline_alone, unique_alone, content_forgotten)
+pub ruleset by_hand = (shown_by_hand, shown_before, entry_alone, content_forgotten)

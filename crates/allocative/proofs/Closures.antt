@@ -1,11 +1,14 @@
 -- What a caller of `visit_field_with` learns from the closure's outcome.
-use Rattle.std.proofs.Common.{◌≡◌, ℕ, Result, Ok, Err, MutBor, subst, refl}
+use Rattle.std.proofs.Common.{◌≡◌, ℕ, false, Some, Result, Ok, Err, IfErr, MutBor, subst, refl, ◌∙◌}
 use Rattle.allocative.proofs.Common.{Restore, Refusal, Key, Forest, held, ShowsNoContent, State, Going, OfSum}
-use Rattle.allocative.proofs.Common.{nothing_held, close_entry, Showing, Inside, AddsForest, Settles}
-use Rattle.allocative.proofs.Common.{Visitor, called, refused_inside, IsSum, ClosesEntry}
+use Rattle.allocative.proofs.Common.{nothing_held, close_entry, Showing, Inside, AddsForest, Settles, Visitor, IsSum}
+use Rattle.allocative.proofs.Common.{ClosesEntry, FnOnceReturnsAtMut, HasFailed, OpensEntry, with_state}
 use Rattle.std.specs.Fn.{Once}
-use Rattle.allocative.specs.Closures.{CallShows, CallsInside, not_called, CalledAtRoot, AnswersSum, after_told}
-use Rattle.allocative.proofs.Visits.{adds_entry, entry_err, not_entered, adds_refused_err}
+use Rattle.allocative.specs.Closures.{KeepsVisitor, CallShows, CallsInside, CalledInside, not_called, called_inside}
+use Rattle.allocative.specs.Closures.{CalledAt, Tells, told_ok, told_err, CalledAtRoot, AnswersSum}
+use Rattle.allocative.specs.Visited.{Refused}
+use Rattle.allocative.proofs.Visits.{adds_entry, entry_err, not_entered, not_entered_cause, adds_refused_err}
+use Rattle.allocative.proofs.Visits.{close_cause}
 use Rattle.allocative.proofs.Roots.{visits_root, held_by_visit}
 
 -- what is answered once the visitor is left
@@ -19,29 +22,71 @@ pub refusal_answered : (o : Restore) (c : State) {e : Refusal} {r : Result ℕ R
     AnswersSum (close_entry o c) r
 refusal_answered o c {t = t} is l k f = rw (← l.closes, is) (subst (Settles t) f k)
 
--- what a closure showed, with its refusal as the first cause
-told_shows : {p : Showing} {s c : State} (r : Result (Unit {0}) Refusal) → AddsForest p s r c →
-    AddsForest p s r (after_told r c)
-told_shows (Ok u) h = h
-told_shows (Err e) h = adds_refused_err e h refl
+-- Closing an entry keeps the cause that is returned.
+closed_cause : {o : Restore} {c d : State} (r : Result (Unit {0}) Refusal) → ClosesEntry o c d →
+    IfErr r (HasFailed c) → IfErr r (HasFailed d)
+closed_cause (Ok u) l h = tt
+closed_cause (Err e) l h = close_cause l h
 
 module _ {F : Type 0} (g : Once F (MutBor Visitor × Unit {0}) (Result (Unit {0}) Refusal × (MutBor Visitor × Unit {0})))
     (f : F) where
+  -- What a call of a closure returned, and what it left.
+  pub returned : {m n : MutBor Visitor} {x y : Visitor} {q r : Result (Unit {0}) Refusal} →
+      g.post f (m, tt) (q, (n, tt)) → m.now ≡ x → q ≡ r → n.now ≡ y → FnOnceReturnsAtMut g f x r y
+  returned {m} {n} h at is left = rw (← is) (record { shown = m; shows = at; left = n; met = h; leaves = left })
+
+  -- A call of a closure that told Ok.
+  pub called_ok : {x y : Visitor} {u : Unit} → KeepsVisitor g f → FnOnceReturnsAtMut g f x (Ok u) y →
+      CalledAt g f x y (Ok u)
+  called_ok keeps h =
+      let kept = keeps _ _ _ h in
+      record { tells = told_ok h; same_reference = kept.0; same_outer = kept.1; cause = tt }
+
+  -- A call of a closure that told an error, which was refused.
+  pub called_err : {x y z : Visitor} {e cause : Refusal} → KeepsVisitor g f → FnOnceReturnsAtMut g f x (Err e) y →
+      Refused e y z cause → CalledAt g f x z (Err cause)
+  called_err keeps h q = let kept = keeps _ _ _ h in record {
+    tells = told_err h q;
+    same_reference = q.same_reference ∙ kept.0;
+    same_outer = q.same_outer ∙ kept.1;
+    cause = q.is_cause;
+  }
+
+  -- The closure's entry was refused.
+  pub inside_refused : {k : Key} {n : ℕ} {a : Visitor} {t : State} {e : Refusal} {r : Result (Unit {0}) Refusal} →
+      r ≡ Err e → OpensEntry false k (Some n) a.collector.now (Err e) t → CalledInside g f k n a (with_state a t) r
+  inside_refused is w = rw is
+      (record { same_reference = refl; same_outer = refl; calls = not_called w; cause = not_entered_cause w })
+
+  -- The closure's entry was opened, the closure was called there, and the entry was closed.
+  pub inside_called : {k : Key} {n : ℕ} {o : Restore} {a b : Visitor} {t d : State} {r : Result (Unit {0}) Refusal} →
+      OpensEntry false k (Some n) a.collector.now (Ok o) t → CalledAt g f (with_state a t) b r →
+      ClosesEntry o b.collector.now d → CalledInside g f k n a (with_state b d) r
+  inside_called {r = r} w h l = record {
+    same_reference = h.same_reference;
+    same_outer = h.same_outer;
+    calls = called_inside w h l;
+    cause = closed_cause r l h.cause;
+  }
+
+  -- A call shows what each call of the closure shows.
+  called_shows : {p : Showing} {x y : Visitor} {r : Result (Unit {0}) Refusal} → Tells g f x y r → CallShows g f p →
+      AddsForest p x.collector.now r y.collector.now
+  called_shows (told_ok h) each = each _ _ _ h
+  called_shows (told_err {e = e} h q) each = adds_refused_err e (each _ _ _ h) q.after
+
   -- The call shows an entry with the closure's forest inside it, if each call of the closure shows one of p.
   pub with_shows : (p : Showing) {k : Key} {n : ℕ} {s t : State} {r : Result (Unit {0}) Refusal} →
       CallsInside g f k n s t r → CallShows g f p → AddsForest (Inside k n p) s r t
   with_shows p (not_called w) each = not_entered w
-  with_shows p (called x y w i c l o) each = adds_entry w i (each x y _ c) l o
-  with_shows p (refused_inside x y z c w i m e l) each = entry_err {z = c} w i (adds_refused_err c (each x y _ m) e) l
+  with_shows p {r = Ok u} (called_inside w h l) each = adds_entry w refl (called_shows h.tells each) l refl
+  with_shows p {r = Err e} (called_inside w h l) each = entry_err w refl (called_shows h.tells each) l
 
   -- the sum of a closure's entries, if each call of it shows one of p
   pub held_with_shows : (p : Showing) (n : ℕ) → CalledAtRoot g f (Ok n) → CallShows g f p →
       (t : Forest) × p t × ShowsNoContent t × (n ≡ held t)
   held_with_shows p n h each =
-      let c = h.called in
-      let shown : AddsForest p h.before.collector.now c.told h.after.collector.now =
-      rw c.now (told_shows c.told (each h.before c.after c.told c.calls)) in
       let begun = Going (OfSum nothing_held) in
       let end = close_entry h.after.outer h.after.collector.now in
-      held_by_visit p begun end tt n refl (visits_root begun (Ok tt) h.begun refl shown (record { closes = refl })
-      c.same_outer h.answers.0) h.answers.1
+      held_by_visit p begun end tt n refl (visits_root begun (Ok tt) h.begun refl (called_shows h.called.1.tells each)
+      (record { closes = refl }) h.called.1.same_outer h.answers.0) h.answers.1

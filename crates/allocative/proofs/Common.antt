@@ -26,16 +26,15 @@ pub use Rattle.serde_json.specs.declared.value.Value.TheOpen.{Value-F}
 pub use Rattle.slab.specs.Slab.{values}
 pub use Rattle.allocative.specs.Bodies.{are_shown_each, buffer_shows, bytes_shown, table_shows, with_room, without_room}
 pub use Rattle.allocative.specs.Bodies.{without_size}
-pub use Rattle.allocative.specs.Closures.{called, refused_inside}
 pub use Rattle.allocative.specs.Strict.{CanTake, HasRoomFor, IsDeclared, MayRefuse, FailsOnlyIfFull, RootFailsOnlyIfFull}
 pub use Rattle.allocative.specs.Strict.{ShowsContents, all_bytes, has_added, has_refused}
 pub use Rattle.allocative.specs.Kinds.{IsSum}
 pub use Rattle.allocative.specs.Levels.{levels_shown}
 pub use Rattle.allocative.specs.Making.{Done, Entry, Makes, MakesPlan, Plan, entry_refused, gives, inside_refused, made}
 pub use Rattle.allocative.specs.Making.{made_none, makes, one}
-pub use Rattle.allocative.specs.Lending.{EndsWith, EndsWithout, IsRefused, LendsCollector, LendsNested, Nests, with_state}
+pub use Rattle.allocative.specs.Lending.{IsRefused, LendsCollector, LendsNested, Nests, VisitorEnds, with_state}
 pub use Rattle.allocative.specs.Runs.{CountsRun}
-pub use Rattle.allocative.specs.Lending.{AnswersShared, answer_without_visitor, transpose}
+pub use Rattle.allocative.specs.Lending.{AnswersShared, CollectorEnds, answer_without_visitor, visitor_or}
 pub use Rattle.allocative.specs.StdShows.{in_any_order}
 pub use Rattle.allocative.specs.Visited.{Entered, Means, OnlyIf, Visited}
 pub use Rattle.allocative.specs.declared.visitor.Visitor.{Visitor}

@@ -16,7 +16,7 @@ use Rattle.allocative.specs.PackShows.{once_inside, is_not_set, is_set, small_ve
 use Rattle.allocative.specs.PackShows.{index_data_shows, is_index_data}
 use Rattle.allocative.specs.StdShows.{some_value, is_value, cell_inside, not_had, is_had}
 use Rattle.allocative.proofs.Strict.{declared_nothing, declared_both, declared_entry, each_append, declared_append}
-use Rattle.allocative.proofs.Strict.{entry_fits, only_if_full_as}
+use Rattle.allocative.proofs.Strict.{entry_fits, only_if_full_as, none_of_it}
 use Rattle.allocative.proofs.Visits.{adds_weaker}
 use Rattle.allocative.proofs.Meaning.{loosely, entered_loosely, visited_as, visited_of_strict, means_same, means_both}
 use Rattle.allocative.proofs.Meaning.{means_unique, means_field, means_then, means_either}
@@ -27,10 +27,6 @@ field_of_product : (k : Key) (p : Showing) (m : ℕ) (b : Bool) (f : Forest) →
     IsField k p (if b then Some m else None) f → Inside k m p f
 field_of_product k p m true f (sized h) = h
 field_of_product k p m false f h = elim h [ ]
-
--- If there is no size, there is no forest.
-pub none_of_it : {k : Key} {p : Showing} {f : Forest} → IsField k p None f → ⊥
-none_of_it h = elim h [ ]
 
 -- If the items are not shown one by one, the entry of their bytes is a forest of their slice.
 pub plain_slice : {T : Type 0} (name : Key) (size : Option ℕ) (needs_drop : Bool) (p : T → Showing) (xs : List T) →

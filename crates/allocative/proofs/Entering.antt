@@ -1,18 +1,18 @@
 -- A call that enters: it lends the visitor's collector to a call of `by_hand`, and a nested visitor may hold it.
 use Rattle.allocative.proofs.Lent.{visitor_row, collector_row, refusal_row, result_row, key_row, Lender, Answer}
-use Rattle.allocative.proofs.Lent.{key_laws, refusal_laws, result_laws, visitor_laws, nest, one_value, at_values, ◌≡◌}
-use Rattle.allocative.proofs.Lent.{List, [], ◌∷◌, refl, ap, subst, MutBor, proved_at, says_two, Goes-blank, id⊢, ftrue}
-use Rattle.allocative.proofs.Lent.{flft, named, Val, fact, tables, ‵, raw, ◌⊛◌, some, later, ◌$◌, ◌∵◌, !, qed, done}
-use Rattle.allocative.proofs.Lent.{move, keep, drop, use1, use2, split, join, fsplit, fjoin, feq_i, feq_l, pick, await}
+use Rattle.allocative.proofs.Lent.{key_laws, refusal_laws, result_laws, visitor_laws, one_value, at_values, ◌≡◌, List}
+use Rattle.allocative.proofs.Lent.{[], ◌∷◌, refl, ap, subst, MutBor, proved_at, says_two, Goes-blank, id⊢, ftrue, flft}
+use Rattle.allocative.proofs.Lent.{named, Val, fact, tables, ‵, raw, ◌⊛◌, some, later, ◌$◌, ◌∵◌, !, qed, done, move}
+use Rattle.allocative.proofs.Lent.{keep, drop, use1, use2, split, join, fsplit, fjoin, feq_i, feq_l, pick, await}
 use Rattle.allocative.proofs.Lent.{suffices, frame, enter, addr, stop, no_more, and_then, returns, alloc_all, pass_all}
 use Rattle.allocative.proofs.Lent.{free_all, look_at, get, through, sets, lands_as, yes, no, shows, MutRef, mut_vals}
 use Rattle.allocative.proofs.Lent.{mut_Tells, plain, named_lft, nothing, heard, peeks, only, calls_at, Lasts, lasts}
 use Rattle.allocative.proofs.Lent.{triple_of, framed, Stays, stay_dropped, Goes-spent_ref, ends_at, Result, Ok, Err}
-use Rattle.allocative.proofs.Lent.{IfOk, IfErr, OnOk, OnErr, name_if_ok, Refusal, Key, State, Visitor, LendsCollector}
-use Rattle.allocative.proofs.Lent.{with_state, Fml, RestsIfErr, follows_so, Ura, sep, emp, Logic, sem, Running, WpFn}
-use Rattle.allocative.proofs.Lent.{Closed, Ty, Lifetime, erased, Fn, Callee, local, value_local, seq, assign, addr_of}
-use Rattle.allocative.proofs.Lent.{deref, call, copy, place, return, Is, Typed, RattleType, RefMutOf, rest, layout}
-use Rattle.allocative.proofs.Lent.{Laws, Ended, Clauses, closing, Meets, walk_of, Goes}
+use Rattle.allocative.proofs.Lent.{IfOk, IfErr, Refusal, Key, State, Visitor, LendsCollector, Ura, sep, emp, Logic, sem}
+use Rattle.allocative.proofs.Lent.{Running, WpFn, Closed, Ty, Lifetime, erased, Fn, Callee, local, value_local, seq}
+use Rattle.allocative.proofs.Lent.{assign, addr_of, deref, call, copy, place, return, Is, Typed, RattleType, RefMutOf}
+use Rattle.allocative.proofs.Lent.{rest, layout, Laws, Ended, Clauses, closing, Meets, walk_of, Goes, lent_on}
+use Rattle.allocative.proofs.Lent.{VisitorEnds, CollectorEnds}
 use mathlib.Core.List.{map}
 use Rattle.allocative_graph.specs.Collector as model
 use prog.Model.{Model}
@@ -23,21 +23,6 @@ use Rattle.allocative.specs.contracts.visitor.by_hand.enter as i
 -- A visitor at a lifetime, as the code names it.
 abbrev At : Lifetime → RattleType
 At ℓ = visitor_row (record { mir = ℓ; lft = [] })
-
--- How the lender ends, with a loan and without.
-ends_entered : (s : Visitor) (r : Result Visitor Refusal) (w z : State) → OnOk r (z ≡ w) →
-    OnOk r (with_state s z ≡ with_state s w)
-ends_entered s (Ok v) w z h = ap (with_state s) h
-ends_entered s (Err e) w z h = h
-
-module _ (Step : State → Result model.Restore Refusal → State → Type 0) (s : Visitor) where
-  abbrev EndsRefused : Result Visitor Refusal → Visitor → Type 0
-  EndsRefused r v = IfErr r (λ e. Step s.collector.now (Err e) v.collector.now × (v ≡ with_state s v.collector.now))
-
-  ends_refused : (c : State) → c ≡ s.collector.now → (r : Result Visitor Refusal) (z : State) →
-      OnErr r (IfErr r (λ e. Step c (Err e) z)) → EndsRefused r (with_state s z)
-  ends_refused c i (Ok v) z h = h
-  ends_refused c i (Err e) z h = let P : State → Type 0 = λ x. Step x (Err e) z in (subst P i h, refl)
 
 -- N is the type of the last parameter. In says what entering does, and No how it is refused.
 module _ (N : RattleType) (told : Laws N) (In : Key → N.Denot → State → Result model.Restore Refusal → State → Type 0)
@@ -77,22 +62,12 @@ module _ (N : RattleType) (told : Laws N) (In : Key → N.Denot → State → Re
     kept = (no, (yes, (yes, tt)));
   }
 
-  abbrev NestsBy : Key → N.Denot → MutBor Visitor → Result Visitor Refusal → Fml
-  NestsBy k n s r =
-      follows_so (visitor_row (record { mir = named 1; lft = [] })) collector_row s.ghost_name
-      (name_if_ok (λ v. v.collector.ghost_name) r)
-      (λ w v. OnOk r (v ≡ with_state s.now w)) (λ v. IfErr r
-      (λ e. In k n s.now.collector.now (Err e) v.collector.now × (v ≡ with_state s.now v.collector.now)))
-
-  abbrev LendsBy : Key → N.Denot → MutBor State → Result Visitor Refusal → Fml
-  LendsBy k n s r = RestsIfErr collector_row s (λ v. v.collector.ghost_name) r
-      (λ t. IfErr r (λ e. In k n s.now (Err e) t))
-
   abbrev outer : {M : Type 1} {𝓤 : Ura M} → Logic 𝓤 → Clauses 𝓤 Restore
   outer {𝓤 = 𝓤} 𝓛 κs a = record {
     ghost = Unit {0};
     requires = λ g. emp 𝓤;
-    ensures = λ g r e. sep 𝓤 (sem 𝓛 (NestsBy a.1.0 a.1.1.0 a.0 r)) (sep 𝓤
+    ensures = λ g r e. sep 𝓤
+        (sem 𝓛 (VisitorEnds (λ e. In a.1.0 a.1.1.0 a.0.now.collector.now (Err e)) a.0 r)) (sep 𝓤
         (fact 𝓤 (IfOk r (λ v. In a.1.0 a.1.1.0 a.0.now.collector.now (Ok v.outer) v.collector.now)))
         (fact 𝓤 (IfErr r (No a.1.0 a.1.1.0 a.0.now.collector.now))));
   }
@@ -101,7 +76,8 @@ module _ (N : RattleType) (told : Laws N) (In : Key → N.Denot → State → Re
   inner {𝓤 = 𝓤} 𝓛 κs a = record {
     ghost = Unit {0};
     requires = λ g. emp 𝓤;
-    ensures = λ g r e. sep 𝓤 (sem 𝓛 (LendsBy a.1.0 a.1.1.0 a.0 r)) (sep 𝓤
+    ensures = λ g r e. sep 𝓤
+        (sem 𝓛 (CollectorEnds (λ e. In a.1.0 a.1.1.0 a.0.now (Err e)) a.0 r)) (sep 𝓤
         (fact 𝓤 (IfOk r (λ v. v.collector.ghost_name ≡ a.0.ghost_name))) (sep 𝓤
         (fact 𝓤 (IfOk r (λ v. In a.1.0 a.1.1.0 a.0.now (Ok v.outer) v.collector.now)))
         (fact 𝓤 (IfErr r (No a.1.0 a.1.1.0 a.0.now)))));
@@ -149,6 +125,7 @@ module _ (N : RattleType) (told : Laws N) (In : Key → N.Denot → State → Re
       use2 𝓛 (raw (G.pre x)) (id⊢ 𝓤 _) $
       calls_at ! fm G lent x
       (and_then ! (get ! refl) (no_more !)) (λ v.
+      let Ends : State → Refusal → State → Type 0 = λ x e. In k n x (Err e) in
       let Tokens = ‵ (flft κ q) ⊛ ‵ (flft κs.1.0 qs.1.0) ⊛ ‵ ftrue in
       let Part = MutRef (named 0) κ collector_row in
       use1 𝓛 (later (some (λ (r : MutBor State). (Tokens ⊛ ‵ (Part.own_val r (v ∷ []))) ⊛
@@ -168,19 +145,14 @@ module _ (N : RattleType) (told : Laws N) (In : Key → N.Denot → State → Re
       calls_at ! fm H met z
       (and_then ! (get ! refl) (and_then ! (get ! refl) (and_then ! (get ! refl) (no_more !)))) (λ u.
       use1 𝓛 (later (some (λ (res : Result Visitor Refusal). ((‵ (flft κ q) ⊛ ‵ ftrue) ⊛ ‵ ((Answer κs).own_val res (u ∷ []))) ⊛
-      some (λ (vs : Lasts Inner (κ, tt) z.0.3). ‵ (lasts Inner (κ, tt) z.0.3 vs) ⊛ ‵ (LendsBy k n r res) ⊛
-      raw (fact 𝓤 (IfOk res (λ w. w.collector.ghost_name ≡ r.ghost_name))) ⊛ raw
+      some (λ (vs : Lasts Inner (κ, tt) z.0.3). ‵ (lasts Inner (κ, tt) z.0.3 vs) ⊛
+      ‵ (CollectorEnds (Ends r.now) r res) ⊛ raw (fact 𝓤 (IfOk res (λ w. w.collector.ghost_name ≡ r.ghost_name))) ⊛ raw
       (fact 𝓤 (IfOk res (λ w. In k n r.now (Ok w.outer) w.collector.now))) ⊛
       raw (fact 𝓤 (IfErr res (No k n r.now))))))) (id⊢ 𝓤 _) $
       await ! tt $ pick ! (λ res. split ! $ split ! $ move ! (2 ∷ []) $ pick ! (λ vs. split ! $ drop ! $ split ! $
       move ! (1 ∷ []) $ split ! $ heard ! _ (λ _. split ! $ heard ! _ (λ entered. heard ! _ (λ refused.
       -- [what the part ends as; the token; the result; the other tokens; what self ends as]
-      move ! (4 ∷ 0 ∷ []) $ use2 𝓛 (‵ (NestsBy k n s res))
-      (nest 𝓛 (visitor_row (record { mir = named 1; lft = [] })) collector_row (with_state s.now) s.ghost_name r.ghost_name
-      (λ w x'. OnOk res (x' ≡ w)) (λ x'. OnErr res (IfErr res (λ w. In k n r.now (Err w) x')))
-      (λ w x'. OnOk res (x' ≡ with_state s.now w)) (EndsRefused (In k n) s.now res) (ends_entered s.now res)
-      (ends_refused (In k n) s.now r.now same res)
-      (name_if_ok (λ w. w.collector.ghost_name) res)) $
+      move ! (4 ∷ 0 ∷ []) $ use2 𝓛 (‵ (VisitorEnds (Ends s.now.collector.now) s res)) (lent_on 𝓛 Ends s r same res) $
       move ! (2 ∷ []) $ peeks ! (Answer κs) _ (shows 𝓛 (Answer κs)) res (u ∷ []) (λ told.
       let good = (((result_laws _ _ (visitor_laws (named_lft 2 0 tt κs)) refusal_laws).lawful 𝓛).typed res (u ∷ [])
       told).0 in

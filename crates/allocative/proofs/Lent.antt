@@ -1,7 +1,7 @@
 -- What the hand-written proofs of calls that lend a collector cite: the steps of a walk, the one machine value of a
 -- parameter, and what such a call passes on.
 pub use Rattle.std.proofs.Common.{◌≡◌, ℕ, List, [], ◌∷◌, refl, sym, ap, subst, MutBor, Result, Ok, Err, IfOk}
-pub use Rattle.std.proofs.Common.{IfErr, OnOk, OnErr, true, false, Option, None, Some, IfSome}
+pub use Rattle.std.proofs.Common.{IfErr, OnOk, OnErr, true, false, Option, Some}
 pub use Rattle.std.proofs.raw_atomic.Walks.{proved, proved_at}
 pub use Rattle.std.proofs.mem.Facts.{says_two}
 pub use Rattle.std.proofs.alloc.Calls.{Goes-blank}
@@ -45,13 +45,12 @@ use denote.Param.Shared.{copy_shared}
 use denote.Struct.Field.{usize-field}
 use denote.Struct.Laws.{usize-laws, usize-copy}
 pub use Rattle.allocative.proofs.Common.{name_if_ok, Refusal, Key, State, Visitor, LendsCollector, with_state}
-pub use Rattle.allocative.proofs.Common.{OpensRoot, Settles, OpensShared, EndsWith, EndsWithout}
-pub use Rattle.allocative.proofs.Common.{AnswersShared, answer_without_visitor, transpose, Identity, enters_first, LendsNested, Nests}
+pub use Rattle.allocative.proofs.Common.{OpensRoot, Settles, OpensShared, VisitorEnds, CollectorEnds, AnswersShared}
+pub use Rattle.allocative.proofs.Common.{answer_without_visitor, visitor_or, Identity, LendsNested, Nests}
 pub use Rattle.allocative.proofs.Common.{IsRefused, OpensEntry, RefusesEntry}
-pub use Rattle.std.specs.Borrow.{RestsIfErr}
 pub use prog.Wp.{WpFn, Closed}
 pub use denote.Param.{layout, bounded, param}
-pub use Rattle.allocative.specs.Lending.{LendsBegun, LendsPointed, OpensSharedAt}
+pub use Rattle.allocative.specs.Lending.{LendsBegun, OpensSharedAt}
 pub use contract.BorrowLft.{◌⊑◌}
 pub use mir.MapTy.{inst_fn}
 pub use Rattle.allocative.specs.contracts.visitor.collector.Collector.{the_row as collector_row}
@@ -128,3 +127,28 @@ module _ {M : Type 1} {𝓤 : Ura M} (𝓛 : Logic 𝓤) (V C : RattleType) (F :
       let t : Both = ((λ w. F (s.0.0 w), F s.0.1), λ w. kept w (s.0.0 w) (s.1 w), kept₀ s.0.1 s.2) in
       move ! (1 ∷ 0 ∷ []) $ use2 𝓛 (‵ (follows V C γ δ (λ w. F (s.0.0 w)))) (follows_then 𝓛 V C C F s.0.0 γ γ' δ) $
       fpack ! Both (Whole (maybe.some δ)) t $ done !)
+
+-- How a visitor ends whose collector is lent to a call that returns a visitor. `Ends` says how the collector ends if
+-- none is returned.
+module _ {E : Type 0} (Ends : State → E → State → Type 0) (s : Visitor) where
+  with_loan : (r : Result Visitor E) (w z : State) → OnOk r (z ≡ w) → OnOk r (with_state s z ≡ with_state s w)
+  with_loan (Ok v) w z h = ap (with_state s) h
+  with_loan (Err e) w z h = h
+
+  abbrev Refused : Result Visitor E → Visitor → Type 0
+  Refused r v = IfErr r (λ e. Ends s.collector.now e v.collector.now × (v ≡ with_state s v.collector.now))
+
+  without_loan : (c : State) → c ≡ s.collector.now → (r : Result Visitor E) (z : State) →
+      OnErr r (IfErr r (λ e. Ends c e z)) → Refused r (with_state s z)
+  without_loan c i (Ok v) z h = h
+  without_loan c i (Err e) z h = let P : State → Type 0 = λ x. Ends x e z in (subst P i h, refl)
+
+pub lent_on : {M : Type 1} {𝓤 : Ura M} (𝓛 : Logic 𝓤) {E : Type 0} (Ends : State → E → State → Type 0)
+    (s : MutBor Visitor) (c : MutBor State) → c.now ≡ s.now.collector.now → (r : Result Visitor E) →
+    ent 𝓤 (sep 𝓤 (sem 𝓛 (LendsCollector s c)) (sem 𝓛 (CollectorEnds (Ends c.now) c r)))
+    (sem 𝓛 (VisitorEnds (Ends s.now.collector.now) s r))
+lent_on 𝓛 Ends s c same r =
+    nest 𝓛 (visitor_row (record { mir = named 1; lft = [] })) collector_row (with_state s.now) s.ghost_name c.ghost_name
+    (λ w z. OnOk r (z ≡ w)) (λ z. OnErr r (IfErr r (λ e. Ends c.now e z))) (λ w v. OnOk r (v ≡ with_state s.now w))
+    (Refused Ends s.now r) (with_loan Ends s.now r) (without_loan Ends s.now c.now same r)
+    (name_if_ok (λ v. v.collector.ghost_name) r)

@@ -5,8 +5,7 @@ use Rattle.allocative.proofs.Common.{in_any_order, IsDeclared, ShowsContents, Me
 use Rattle.std.proofs.Math.Nat.{add_comm}
 use Rattle.allocative.specs.Levels.{Level, plain, child, both, inside, unique, field, buffer, optional, each, unordered}
 use Rattle.allocative.specs.Levels.{level_shows, recursive, opened}
-use Rattle.allocative.proofs.Meaning.{means_same, means_inside, means_unique, means_field, means_both, means_then}
-use Rattle.allocative.proofs.Meaning.{loosely}
+use Rattle.allocative.proofs.Meaning.{means_same, means_inside, means_unique, means_field, means_both, loosely}
 use Rattle.allocative.proofs.ContainerMeaning.{means_buffer}
 
 -- ---- when p allows less than q
@@ -40,19 +39,13 @@ means_level m (each w xs) = means_each (λ x. means_level m (w x)) xs
 means_level m (unordered w xs) = means_unordered (λ x. means_level m (w x)) xs
 
 -- ---- more levels allow more
--- Each forest of a value of at most k levels is one of at most k + 1 levels.
-levels_step : {T : Type 0} (w : T → Level T) (k : ℕ) (x : T) →
-    Means false (levels_shown w k x) (levels_shown w (suc k) x)
-levels_step w zero x = loosely (λ f y. absurd y)
-levels_step w (suc k) x = means_level (levels_step w k) (w x)
-
 -- Each forest of a value of at most k levels is one of at most k + j levels.
 levels_more : {T : Type 0} (w : T → Level T) (k j : ℕ) (x : T) →
     Means false (levels_shown w k x) (levels_shown w (k + j) x)
-levels_more w k zero x = let e : k + 0 ≡ k = omega arith in rw e means_same
-levels_more w k (suc j) x =
-    let e : k + suc j ≡ suc (k + j) = omega arith in
-    rw e (means_then (levels_more w k j x) (levels_step w (k + j) x))
+levels_more w zero j x = loosely (λ f y. absurd y)
+levels_more w (suc k) j x =
+    let e : suc k + j ≡ suc (k + j) = omega arith in
+    rw e (means_level (levels_more w k j) (w x))
 
 -- ---- one number of levels is enough for all parts
 -- The parts of q, each with some number of levels.
@@ -100,24 +93,20 @@ level_found w (unordered v xs) f y =
     (m.0, (y.0, y.1, m.1))
 
 -- What has a number of levels has one level more than its parts.
-one_level : {T : Type 0} (w : T → Level T) (x : T) → IsDeclared (recursive w x) →
+one_level : {T : Type 0} (w : T → Level T) (x : T) (k : ℕ) (f : Forest) → levels_shown w k x f → ShowsContents f →
     IsDeclared (level_shows (recursive w) (w x))
-one_level w x (f, y, s) = by_depth y.depth f y.shown s
-  where
-    by_depth : (k : ℕ) (f : Forest) → levels_shown w k x f → ShowsContents f →
-        IsDeclared (level_shows (recursive w) (w x))
-    by_depth zero f z c = absurd z
-    by_depth (suc k) f z c =
-        let up : (v : _) → Means false (levels_shown w k v) (recursive w v) =
-        λ v. loosely (λ g h. record { depth = k; shown = h }) in
-        (f, (means_level up (w x)).means f z, c)
+one_level w x zero f z c = absurd z
+one_level w x (suc k) f z c =
+    let up : (v : _) → Means false (levels_shown w k v) (recursive w v) =
+    λ v. loosely (λ g h. record { depth = k; shown = h }) in
+    (f, (means_level up (w x)).means f z, c)
 
 -- What means one level of a value, whose children have any number of levels, means the value.
 pub means_recursive : {T : Type 0} {e : Bool} {w : T → Level T} {x : T} {p : Showing} →
     Means e p (level_shows (recursive w) (w x)) → Means e p (recursive w x)
 means_recursive {w = w} {x = x} m = record {
   means = λ f y. let k = level_found w (w x) f (m.means f y) in record { depth = suc k.0; shown = k.1 };
-  declared = λ h d. m.declared h (one_level w x d);
+  declared = λ h d. m.declared h (one_level w x d.1.depth d.0 d.1.shown d.2);
 }
 
 -- What means one level of what `out` opens means the value t whose level it is.

@@ -1,15 +1,14 @@
 -- How entries are opened and made, one after another and inside each other, by calls that visit no part.
 use Rattle.std.proofs.Common.{ℕ, ◌+◌, ◌<◌, ◌^◌, Bool, true, false, List, [], ◌∷◌, ◌≡◌, Option, Some, Result, Ok, Err}
 use Rattle.std.proofs.Common.{refl, sym, ◌∙◌, subst, ap}
-use Rattle.allocative.proofs.Common.{Restore, Yields, Refusal, Key, Identity, Live, Kind, OfGraph, State, Failed, Going}
-use Rattle.allocative.proofs.Common.{close_entry, HasFailed, OpensEntry, stays_failed, is_refused, is_entered}
-use Rattle.allocative.proofs.Common.{OpensShared, stays_shared, is_refused_shared, is_too_large_shared}
-use Rattle.allocative.proofs.Common.{counts, enters_first, enters_again, ClosesEntry, Nothing, Field, already}
-use Rattle.allocative.proofs.Common.{FailsOnlyIfFull, Entered, Visitor, with_state, Plan, Done, Entry, Makes, MakesPlan}
-use Rattle.allocative.proofs.Common.{made_none, made, entry_refused, inside_refused, makes, gives, one, Showing}
-use Rattle.std.proofs.lemmas.Bool.{false≢true}
+use Rattle.allocative.proofs.Common.{Restore, Yields, Refusal, Key, Identity, Live, OfGraph, OfSum, State, Failed}
+use Rattle.allocative.proofs.Common.{Going, close_entry, HasFailed, OpensEntry, stays_failed, is_refused, is_entered}
+use Rattle.allocative.proofs.Common.{OpensShared, stays_shared, is_refused_shared, is_too_large_shared, counts}
+use Rattle.allocative.proofs.Common.{enters_first, enters_again, ClosesEntry, Nothing, Field, already, FailsOnlyIfFull}
+use Rattle.allocative.proofs.Common.{Entered, Visitor, with_state, Plan, Done, Entry, Makes, MakesPlan, made_none, made}
+use Rattle.allocative.proofs.Common.{entry_refused, inside_refused, makes, gives, one, Showing}
 use Rattle.allocative_collectors.specs.Places.{MeetsAs}
-use Rattle.allocative_graph.specs.Collector.{enter, leave, outer_of}
+use Rattle.allocative_graph.specs.Collector.{Kind, enter, leave, outer_of}
 use Rattle.allocative_graph.specs.Sums.{bytes_entered}
 use Rattle.allocative_graph.specs.Visits.{HasRoom}
 use Rattle.allocative.specs.Making.{followed_by_plan, had_failed, KeepsFailure, MakesPlanOrGives}
@@ -18,20 +17,15 @@ use Rattle.allocative.proofs.Strict.{only_if_full_nothing, only_if_full_field, o
 use Rattle.allocative.proofs.Visits.{adds_nothing, adds_field, not_entered, not_entered_cause, refuses_entry}
 
 -- ---- what was made goes on, and what was refused has failed
-abbrev pub is_going : State → Bool
-is_going (Failed r) = false
-is_going (Going b) = true
-
--- If entries were made and Ok was returned, the collector has not failed.
-pub goes_on : {p : Plan} {s t : State} {u : Unit} → Makes p s (Ok u) t → is_going t ≡ true
-goes_on made_none = refl
+-- If entries were made and Ok was returned, making no entry then returns Ok.
+goes_on : {p : Plan} {s t : State} {u : Unit} → Makes p s (Ok u) t → Makes Done t (Ok u) t
+goes_on made_none = made_none
 goes_on (made g i l a) = goes_on a
 
--- After an entry is closed in a collector that has not failed, making no entry returns Ok.
-going_closed : (o : Restore) (t : State) (v : Unit) → is_going t ≡ true →
+-- If making no entry returns Ok, so it does after an entry is closed.
+going_closed : (o : Restore) {s t : State} {v : Unit} → Makes Done s (Ok v) t →
     Makes Done (close_entry o t) (Ok v) (close_entry o t)
-going_closed o (Failed r) v e = absurd (false≢true e)
-going_closed o (Going b) v e = made_none
+going_closed o made_none = made_none
 
 -- If making entries returns an error, the collector has failed with that error.
 pub makes_failed : {p : Plan} {s t : State} {e : Refusal} → Makes p s (Err e) t → HasFailed t e
@@ -46,13 +40,6 @@ pub nothing_inside : {k : Key} {size : Option ℕ} {s t : State} {o : Restore} (
     OpensEntry false k size s (Ok o) t → Makes Done t (Ok u) t
 nothing_inside u (is_entered r f e) = made_none
 
--- If an inline entry is opened, its inside is made, and it is closed, then the entry is made.
-pub makes_entry : {k : Key} {size : Option ℕ} {inside : Plan} {s t c d : State} {o q : Restore} {v x : Unit} →
-    OpensEntry false k size s (Ok o) t → Makes inside t (Ok v) c → ClosesEntry q c d → q ≡ o →
-    Makes (Entry k size inside Done) s (Ok x) d
-makes_entry {c = c} {o = o} {x = x} g m l e =
-    rw (l.closes, e) (made g m (record { closes = refl }) (going_closed o c x (goes_on m)))
-
 -- Making one entry of a declared size, whatever it returns, enters a field with nothing inside it.
 pub entered_alone_sized : {x : Bool} {k : Key} {size : Option ℕ} {a : Visitor} {t : State} {r : Result Unit Refusal} →
     Makes (one k size) a.collector.now r t → Entered x (Field k size Nothing) a (with_state a t) r
@@ -61,12 +48,13 @@ entered_alone_sized {a = a} (made g made_none l made_none) =
     record { same_reference = refl; same_outer = refl; shown = adds_field g refl (adds_nothing _ tt) l refl; cause = tt; only_if_full = λ y. only_if_full_field g (only_if_full_nothing _ tt) l }
 entered_alone_sized (made g made_none l had_failed) = absurd (cc l.closes)
 entered_alone_sized (entry_refused g) = record { same_reference = refl; same_outer = refl; shown = not_entered g; cause = not_entered_cause g; only_if_full = λ y. only_if_full_not_field g }
-entered_alone_sized (inside_refused g had_failed) = absurd (false≢true (goes_on (nothing_inside tt g)))
+entered_alone_sized (inside_refused g had_failed) = elim g [ ]
 
 -- If an inline entry is opened, a plan is made inside it, and it is closed, the entry with the plan is made.
 pub makes_within : {k : Key} {size : Option ℕ} {inside : Plan} {o : Restore} {s t c d : State} {r : Result Unit Refusal} →
     OpensEntry false k size s (Ok o) t → Makes inside t r c → ClosesEntry o c d → Makes (Entry k size inside Done) s r d
-makes_within {r = Ok v} g m e = makes_entry g m e refl
+makes_within {o = o} {r = Ok v} g m e =
+    rw e.closes (made g m (record { closes = refl }) (going_closed o (goes_on m)))
 makes_within {o = o} {r = Err x} g m e =
     let h = makes_failed m in
     rw (e.closes ∙ ap (close_entry o) h ∙ sym h) (inside_refused g m)
@@ -119,18 +107,14 @@ failed_makes (inside_refused g m) = elim g [ ]
 
 -- Making entries keeps the cause of a failed collector.
 pub makes_keeps : {p : Plan} {a b : Visitor} {r : Result Unit Refusal} → MakesPlan p a b r → KeepsFailure a b r
-makes_keeps {p = p} {b = b} {r = r} m = record {
-  keeps =
-      λ e h. failed_makes (subst (λ s. Makes p s r b.collector.now) h m);
-}
+makes_keeps {p = p} {b = b} {r = r} m =
+    record { keeps = λ e h. failed_makes (subst (λ s. Makes p s r b.collector.now) h m) }
 
 -- A collector that went on had not failed.
 pub kept_after : {a b : Visitor} {t : State} {u : Unit} {r : Result Unit Refusal} →
     Makes Done a.collector.now (Ok u) t → KeepsFailure a b r
-kept_after {t = t} {u = u} m = record {
-  keeps =
-      λ e h. let i = (failed_makes (subst (λ s. Makes Done s (Ok u) t) h m)).0 in cc;
-}
+kept_after {t = t} {u = u} m =
+    record { keeps = λ e h. let i = (failed_makes (subst (λ s. Makes Done s (Ok u) t) h m)).0 in cc }
 
 -- Nothing is asked of a collector that had failed.
 pub only_if_full_failed : {p : Showing} {s t : State} {e : Refusal} {r : Result Unit Refusal} → Makes Done s (Err e) t →

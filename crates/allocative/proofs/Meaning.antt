@@ -1,13 +1,14 @@
 -- How the showing of a value follows from the part that enters it, word by word.
 use Rattle.std.proofs.Common.{◌≡◌, ℕ, Bool, true, false, ◌&&◌, Option, Some, None, Result, inl, inr, Ok, Err, refl, ◌∙◌}
 use Rattle.allocative.proofs.Common.{Refusal, TooLarge, Key, Identity, Forest, Showing, Nothing, Both, InsideAs, Inside}
-use Rattle.allocative.proofs.Common.{Unique, Field, IsField, sized, Shared, IsDeclared, Visitor, Visited}
+use Rattle.allocative.proofs.Common.{Unique, Field, sized, Shared, IsDeclared, Visitor, Visited}
 use Rattle.allocative.proofs.Common.{Entered, Means, OnlyIf}
 use Rattle.std.proofs.lemmas.Bool.{false≢true, and_parts, and_from}
 use Rattle.allocative.specs.Visited.{AnyEffect, Refused}
 use Rattle.allocative.proofs.Strict.{declared_first, declared_second, declared_both, declared_inside, declared_entry}
 use Rattle.allocative.proofs.Strict.{declared_content, declared_shared, only_if_full_nothing, only_if_full_weaker}
 use Rattle.allocative.proofs.Strict.{only_if_full_undeclared, not_strict, only_if_full_first, only_if_full_both}
+use Rattle.allocative.proofs.Strict.{none_of_it}
 use Rattle.allocative.proofs.Visits.{adds_weaker, adds_nothing, adds_both, adds_err, adds_refused}
 
 -- ---- which visits are strict
@@ -70,24 +71,16 @@ pub means_unique : {x : Bool} {k j : Key} {n : ℕ} {p q : Showing} → k ≡ j 
     Means x (Unique k n p) (Unique j n q)
 means_unique {j = j} {n = n} e m = rw e (inside_as true j n m)
 
--- If p means q, each forest of a field with p inside it is a forest of the same field with q inside it.
-in_field : (k : Key) (y : Option ℕ) {x : Bool} {p q : Showing} → Means x p q → (f : Forest) → IsField k p y f →
-    IsField k q y f
-in_field k y m f (sized {n} a) = sized ((inside_as false k n m).means f a)
-
--- If p is declared whenever q is, a field with p inside it is declared whenever the field with q is.
-field_declared : (k : Key) (y : Option ℕ) {p q : Showing} → (IsDeclared q → IsDeclared p) → IsDeclared (Field k y q) →
-    IsDeclared (Field k y p)
-field_declared k (Some n) up (f, sized a, s) =
-    let d = declared_entry false k n (up (declared_inside false k n (f, a, s))) in
-    (d.0, sized d.1, d.2)
-field_declared k None up (f, a, s) = elim a [ ]
+-- If p means q, a field with p inside it means the same field with q inside it.
+field_as : (k : Key) (y : Option ℕ) {x : Bool} {p q : Showing} → Means x p q → Means x (Field k y p) (Field k y q)
+field_as k None m = means_either (λ f a. absurd (none_of_it a)) (λ f a. absurd (none_of_it a))
+field_as k (Some n) m = means_then (means_either (λ f x. elim x [ sized y ↦ y ]) (λ f x. sized x))
+    (means_then (inside_as false k n m) (means_either (λ f x. sized x) (λ f x. elim x [ sized y ↦ y ])))
 
 -- If p means q, a field with p inside it means the field of equal key and size with q inside it.
 pub means_field : {x : Bool} {k j : Key} {y z : Option ℕ} {p q : Showing} → k ≡ j → y ≡ z → Means x p q →
     Means x (Field k y p) (Field j z q)
-means_field {j = j} {z = z} e h m = rw (e, h)
-    (record { means = λ f a. in_field j z m f a; declared = λ i d. field_declared j z (m.declared i) d })
+means_field {j = j} {z = z} e h m = rw (e, h) (field_as j z m)
 
 -- If p means q and r means s, then p followed by r means q followed by s.
 pub means_both : {x : Bool} {p q r s : Showing} → Means x p q → Means x r s → Means x (Both p r) (Both q s)

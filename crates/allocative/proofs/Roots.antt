@@ -10,7 +10,7 @@ use Rattle.allocative.proofs.Common.{ClosesEntry, all_bytes, HasRoomFor, CanTake
 use Rattle.allocative.specs.SizeOf.{AnswersVisitOf}
 use Rattle.allocative.specs.RefusedVisits.{RefusesVisit, RefusesVisits}
 use Rattle.allocative.proofs.Visits.{err_or, same_err}
-use Rattle.allocative.specs.Visited.{Effect, WasVisited, VisitsRootWithEffect, not_begun, root_visited}
+use Rattle.allocative.specs.Visited.{Effect, VisitsRootWithEffect, not_begun, root_visited}
 use Rattle.allocative_graph.specs.Forest.{met_after, Fits, own, all}
 use Rattle.allocative_graph.specs.Sums.{sums_of}
 use Rattle.allocative_graph.specs.Meaning.{content_of}
@@ -47,44 +47,38 @@ takes_begin (OfGraph c) f t = t
 takes_begin (OfSum s) f t = t
 
 -- A step of `visits_root`: adding at the root visitor, and then leaving it, is a visit of a root.
-visits_going : {p : Showing} (b e : Kind) {c : State} {r : Result Unit Refusal} (q : Result Unit Refusal) → IsClosed b →
-    IsAtRoot b → e ≡ begin b → AddsForest p (Going e) r c → Settles (close_entry (outer_of 0 b) c) q →
+visits_going : {p : Showing} (b : Kind) {c : State} {r : Result Unit Refusal} (q : Result Unit Refusal) → IsClosed b →
+    IsAtRoot b → AddsForest p (Going (begin b)) r c → Settles (close_entry (outer_of 0 b) c) q →
     VisitsRoot p (Going b) q (close_entry (outer_of 0 b) c)
-visits_going b e q h here i refused k = rw k (h, refl)
-visits_going b e q h here i hidden k = rw k (h, refl)
-visits_going b e (Err x) h here i (forgotten {c = c} j l) k =
-    (k.0, k.1, (λ n. absurd (n h)), is_graph-leave (outer_of 0 b) c ∙ j ∙ ap is_graph i ∙ is_graph-begin b)
-visits_going b e (Ok u) h here i (forgotten {c = c} j l) k =
-    let d : visitors e ≡ 1 = ap visitors i ∙ visitors-begin b h in
-    let z : visitors (leave (outer_of 0 b) c) ≡ 0 = closed-visitors (leave (outer_of 0 b) c) k in
-    let g = visitors-leave (outer_of 0 b) c in
-    absurd (omega (arith, d, z, g, l))
-visits_going b e (Err x) h here i (added {c = c} f p t g) k = (k.0, k.1, (λ n. absurd (n h)), is_graph-leave (outer_of 0 b) c ∙ ap is_graph g ∙ is_graph-plus e f ∙ ap is_graph i ∙ is_graph-begin b)
-visits_going b e (Ok u) h here i (added {c = c} f p t g) k =
-    let t' : Takes (begin b) f = subst (λ (x : Kind). Takes x f) i t in
-    (k, f, p, takes_begin b f t', cc (out_of_begin b f here))
+visits_going b q h here refused k = rw k (h, refl)
+visits_going b q h here hidden k = rw k (h, refl)
+visits_going b (Err x) h here (forgotten {c = c} j l) k =
+    (k.0, k.1, (λ n. absurd (n h)), is_graph-leave (outer_of 0 b) c ∙ j ∙ is_graph-begin b)
+visits_going b (Ok u) h here (forgotten {c = c} j l) k =
+    let left = leave (outer_of 0 b) c in
+    absurd (omega (arith, visitors-begin b h, closed-visitors left k, visitors-leave (outer_of 0 b) c, l))
+visits_going b (Err x) h here (added {c = c} f p t g) k =
+    let same = is_graph-leave (outer_of 0 b) c ∙ ap is_graph g ∙ is_graph-plus (begin b) f ∙ is_graph-begin b in
+    (k.0, k.1, (λ n. absurd (n h)), same)
+visits_going b (Ok u) h here (added f p t g) k = (k, f, p, takes_begin b f t, cc (out_of_begin b f here))
 
 -- A root visitor that was opened, what was shown there, leaving, and the result are a run.
 pub visits_root : (s : State) (q : Result Unit Refusal) {p : Showing} {t a c d : State} {o w : Restore}
     {r : Result Unit Refusal} → OpensRoot s (Ok o) t → a ≡ t → AddsForest p a r c → ClosesEntry w c d → w ≡ o →
     Settles d q → VisitsRoot p s q d
 visits_root (Failed x) q h i v l e k = absurd h
-visits_root (Going b) q {p} {c = c} {r = r} h i v l e k =
+visits_root (Going b) q {c = c} h i v l e k =
     let d = l.closes ∙ ap (λ (o : Restore). close_entry o c) (e ∙ h.2) in
-    let v' : AddsForest p (Going (begin b)) r c = subst (λ (z : State). AddsForest p z r c) (i ∙ h.3) v in
-    let k' : Settles (close_entry (outer_of 0 b) c) q = rw d at k in
-    rw d (visits_going b (begin b) q h.0 h.1 refl v' k')
+    rw d (visits_going b q h.0 h.1 (rw (i ∙ h.3) at v) (rw d at k))
 
 -- A strict visit that was opened by a root visitor leaves its collector closed, or failed with what it returned.
-only_if_full_going : {p : Showing} (b e : Kind) {c : State} {r : Result Unit Refusal} (q : Refusal) → IsClosed b →
-    IsAtRoot b → e ≡ begin b → FailsOnlyIfFull p (Going e) r c → Settles (close_entry (outer_of 0 b) c) (Err q) →
+only_if_full_going : {p : Showing} (b : Kind) {c : State} {r : Result Unit Refusal} (q : Refusal) → IsClosed b →
+    IsAtRoot b → FailsOnlyIfFull p (Going (begin b)) r c → Settles (close_entry (outer_of 0 b) c) (Err q) →
     (close_entry (outer_of 0 b) c ≡ Failed q) × MayRefuse p (begin b) q
-only_if_full_going {p} b e q h here i (has_added {c = c} f x t g) k =
+only_if_full_going b q h here (has_added {c = c} f x t g) k =
     let same : leave (outer_of 0 b) c ≡ plus b f = cc (out_of_begin b f here) in
-    absurd (k.1 (subst IsClosed (sym same) (closed-plus b f h)))
-only_if_full_going {p} b e q h here i (has_refused {e = y} m) k =
-    let is : q ≡ y = cc in
-    (ap Failed (sym is), subst (MayRefuse p (begin b)) (sym is) (subst (λ (z : Kind). MayRefuse p z y) i m))
+    absurd (k.1 (rw same (closed-plus b f h)))
+only_if_full_going b q h here (has_refused {e = y} m) k = let is : q ≡ y = cc in rw is (refl, m)
 
 -- A root visitor that was opened, a strict visit there, leaving, and the result refuse only if they must.
 pub root_only_if_full : (s : State) (q : Result Unit Refusal) {x : Bool} {p : Showing} {t a c d : State} {o w : Restore}
@@ -92,12 +86,9 @@ pub root_only_if_full : (s : State) (q : Result Unit Refusal) {x : Bool} {p : Sh
     ClosesEntry w c d → w ≡ o → Settles d q → RootFailsOnlyIfFull x p s q d
 root_only_if_full (Failed z) q h i v l e k = tt
 root_only_if_full (Going b) (Ok u) h i v l e k = tt
-root_only_if_full (Going b) (Err z) {p} {c = c} {d = d} {r = r} h i v l e k = λ strict closed.
-    let g : d ≡ close_entry (outer_of 0 b) c = l.closes ∙ ap (λ (o : Restore). close_entry o c) (e ∙ h.2) in
-    let v' : FailsOnlyIfFull p (Going (begin b)) r c =
-    subst (λ (y : State). FailsOnlyIfFull p y r c) (i ∙ h.3) (v strict) in
-    let k' : Settles (close_entry (outer_of 0 b) c) (Err z) = rw g at k in
-    rw g (only_if_full_going b (begin b) z closed h.1 refl v' k')
+root_only_if_full (Going b) (Err z) {c = c} h i v l e k = λ strict closed.
+    let g = l.closes ∙ ap (λ (o : Restore). close_entry o c) (e ∙ h.2) in
+    rw g (only_if_full_going b z closed h.1 (rw (i ∙ h.3) at (v strict)) (rw g at k))
 
 -- The sum of a run of held bytes.
 pub held_by_visit : (p : Showing) (s t : State) (u : Unit) (n : ℕ) → s ≡ Going (OfSum nothing_held) →
@@ -106,32 +97,26 @@ held_by_visit p (Failed r) t u n e h k = absurd (cc)
 held_by_visit p (Going b) (Failed r) u n e h k = absurd h
 held_by_visit p (Going b) (Going c) u n e (z, f, a, t, g) k =
     let i : b ≡ OfSum nothing_held = cc in
-    let t' : Takes (OfSum nothing_held) f = subst (λ (x : Kind). Takes x f) i t in
-    let g' : c ≡ plus (OfSum nothing_held) f = rw i at g in
-    let k' : n ≡ 0 + (held f + 0) = subst (λ (x : Kind). IsSum (Going x) n) g' k in
-    (f, a, t', omega (arith, k'))
+    let k' : n ≡ 0 + (held f + 0) = rw (g, i) at k in
+    (f, a, rw i at t, omega (arith, k'))
 
 -- After a visit at a closed collector, the result is what is answered of the collector that the visit left.
 pub visit_answered : {T : Type 0} {z : Kind} {p : Showing} {effect : Effect} {answers : State → Result T Refusal → Type 0}
     {s t : State} {q : Result Unit Refusal} {r : Result T Refusal} →
-    IsClosed z → VisitsRootWithEffect p effect s t q → s ≡ Going z → (Settles t q → answers t r) →
+    VisitsRootWithEffect p effect s t q → s ≡ Going z → IsClosed z → (Settles t q → answers t r) →
     AnswersVisitOf z p effect answers r
-visit_answered closed (not_begun x b) is up = absurd ((rw is at b).1 closed)
-visit_answered {z = z} {p} {effect} {answers} {r = r} closed (root_visited {o = o} {a = a} {c = c} b v l e k) is up =
+visit_answered (not_begun x b) is closed up = absurd ((rw is at b).1 closed)
+visit_answered {z = z} (root_visited {o = o} {a = a} {c = c} b v l e k) is closed up =
     let b' : OpensRoot (Going z) (Ok o) a = rw is at b in
-    record {
-      after = c;
-      visited = subst (λ (x : State). WasVisited p effect x c) b'.3 v;
-      answer = subst (λ (x : State). answers x r) (l.closes ∙ ap (λ (w : Restore). close_entry w c) (e ∙ b'.2))
-          (up k);
-    }
+    let left = l.closes ∙ ap (λ (w : Restore). close_entry w c) (e ∙ b'.2) in
+    record { after = c; visited = rw b'.3 at v; answer = rw left at (up k) }
 
 -- If the visit returns an error, so does the call, with that error.
 pub visit_refused : {T : Type 0} {z : Kind} {p : Showing} {effect : Effect} {answers : State → Result T Refusal → Type 0}
     {s t : State} {e : Refusal} {r : Result T Refusal} →
-    IsClosed z → VisitsRootWithEffect p effect s t (Err e) → s ≡ Going z → (Settles t (Err e) → answers t (Err e)) →
+    VisitsRootWithEffect p effect s t (Err e) → s ≡ Going z → IsClosed z → (Settles t (Err e) → answers t (Err e)) →
     IsErr r → e ≡ err_or e r → AnswersVisitOf z p effect answers r
-visit_refused closed v is up h i = rw (same_err _ h i) (visit_answered closed v is up)
+visit_refused v is closed up h i = rw (same_err _ h i) (visit_answered v is closed up)
 
 -- A root is refused with what a collector in this state refuses, or with what its visit left.
 pub root_refused : {p : Showing} {effect : Effect} (s t : State) (r : Result Unit Refusal) → VisitsRoot p s r t →
@@ -141,7 +126,7 @@ root_refused (Failed x) t (Err e) v h = inl v.0
 root_refused (Going b) (Failed x) (Err e) v (not_begun y k) = absurd (k.1 v.0)
 root_refused (Going b) (Going c) (Err e) v (not_begun y k) = inl (v.0, k.1)
 root_refused (Going b) t (Err e) v (root_visited o w l i k) =
-    inr (b, refl, visit_answered o.0 (root_visited o w l i k) refl (λ y. y))
+    inr (b, refl, visit_answered (root_visited o w l i k) refl o.0 (λ y. y))
 
 -- Two runs are one of all that r allows, if r allows what both show.
 visits_joined : {p q r : Showing} (s m t : State) (u v w : Unit) → ((f : Forest) → Both p q f → r f) →
@@ -150,8 +135,8 @@ visits_joined (Failed x) m t u v w up g h = absurd (cc)
 visits_joined (Going b) (Failed x) t u v w up g h = absurd g
 visits_joined (Going b) (Going c) (Failed x) u v w up g h = h
 visits_joined (Going b) (Going c) (Going d) u v w up (z, f, a, t, k) (y, g, b', t', k') =
-    let taken : Takes (plus b f) g = subst (λ (x : Kind). Takes x g) k t' in
-    (y, followed_by f g, up (followed_by f g) (f, g, a, b', refl), takes_both b f g t taken, cc (plus-following b f g))
+    let taken = takes_both b f g t (rw k at t') in
+    (y, followed_by f g, up (followed_by f g) (f, g, a, b', refl), taken, cc (plus-following b f g))
 
 -- One step of a loop runs one more root, and a root that is refused ends it.
 pub visits_one_more : {T : Type 0} (p : T → Showing) (xs : List T) (i : ℕ) (x : T) (s m t : State) (u v w : Unit) →
@@ -178,7 +163,6 @@ only_if_full_among w y p front x back (Failed r) m t u e only g h = tt
 only_if_full_among w y p front x back (Going b) (Failed r) t u e only g h = absurd g
 only_if_full_among w y p front x back (Going b) (Going c) t u e only (z, f, a, k, i) h = λ strict closed.
     let r = h (only strict) z in
-    let m : MayRefuse (p x) (begin (plus b f)) e = subst (λ (v : Kind). MayRefuse (p x) (begin v) e) i r.1 in
     let same : is_graph (begin b) ≡ is_graph (begin (plus b f)) =
     is_graph-begin b ∙ sym (is_graph-plus b f) ∙ sym (is_graph-begin (plus b f)) in
     let can : CanTake (begin b) (each_shows p (front ++ x ∷ back)) → CanTake (begin (plus b f)) (p x) = λ w.
@@ -186,7 +170,7 @@ only_if_full_among w y p front x back (Going b) (Going c) t u e only (z, f, a, k
     (declared_append p front (x ∷ back) w.0, λ g y. w.1 g (each_append p front (x ∷ back) g y)) in
     let after = can_second (begin b) f a both in
     can_first (begin (plus b f)) (after.0, λ g y. room_begun b f g (after.1 g y)) in
-    (r.0, may_refuse (begin (plus b f)) (begin b) can same e m)
+    (r.0, may_refuse (begin (plus b f)) (begin b) can same e (rw i at r.1))
 
 -- The root with this index is refused after the roots before it were visited.
 pub only_if_full_indexed : {T : Type 0} (w y : Bool) (p : T → Showing) (xs : List T) (i : ℕ) (x : T) (s m t : State)
@@ -224,10 +208,8 @@ profile_ended p (Going b) (Failed x) u r h e k = absurd h
 profile_ended p (Going b) (Going c) u (Err x) h e k = tt
 profile_ended p (Going b) (Going c) u (Ok o) (z, f, a, t, g) e k =
     let i : b ≡ OfGraph no_entries = cc in
-    let w : Fits no_entries.met f = subst (λ (x : Kind). Takes x f) i t in
-    let g' : c ≡ plus (OfGraph no_entries) f = rw i at g in
-    let k' : Ends IsProfile (Going (plus (OfGraph no_entries) f)) (Ok o) =
-    subst (λ (x : Kind). Ends IsProfile (Going x) (Ok o)) g' k in
+    let w : Fits no_entries.met f = rw i at t in
+    let k' : Ends IsProfile (Going (plus (OfGraph no_entries) f)) (Ok o) = rw (g, i) at k in
     let is = all_is_meaning f w in
     record {
       shown = f;
@@ -257,6 +239,9 @@ sum_of_profiles p q o o' m a b e =
       is_one = λ apart can.
           (whole_following a.shown b.shown a.whole b.whole apart, is ∙ graphs_add a.shown b.shown can);
     }
+
+-- The rules for what is answered of a collector of a sum.
+pub ruleset answering = (visit_answered, visit_refused)
 
 -- The rules for visits of roots.
 pub ruleset running = (visits_one_more, profile_ended, sum_of_profiles, root_refused)

@@ -21,10 +21,10 @@ use Rattle.allocative.proofs.Meaning.{strict_same}
 use Rattle.allocative.specs.Making.{EntersRun, EntersData, MakesPlanOrGives, Done, first_refused, first_entered}
 use Rattle.allocative.proofs.Strict.{declared_nothing, declared_first, declared_second, declared_both, declared_append}
 use Rattle.allocative.proofs.Strict.{each_append, each_one, entry_fits, not_strict, only_if_full_as, only_if_full_within}
-use Rattle.allocative.proofs.Strict.{only_if_full_not_within, around_item}
+use Rattle.allocative.proofs.Strict.{only_if_full_not_within, around_item, none_of_it}
 use Rattle.allocative.proofs.Visits.{adds_entry, adds_weaker, entry_err, close_cause, not_entered, not_entered_cause}
 use Rattle.allocative.proofs.Making.{gives_within, gives_refused}
-use Rattle.allocative.proofs.ContainerMeaning.{plain_slice, slice_is_each, entry_declared, checked_fits, none_of_it}
+use Rattle.allocative.proofs.ContainerMeaning.{plain_slice, slice_is_each, entry_declared, checked_fits}
 
 -- Items in two runs are the items one after another.
 means_append : {T : Type 0} {d : Bool} (p : T → Showing) (xs ys : List T) →

@@ -1,10 +1,10 @@
 -- How visits that refuse only if they must compose: one after another, inside an entry, and as a shared content.
-use Rattle.std.proofs.Common.{◌≡◌, ℕ, ◌+◌, ◌<◌, ◌^◌, Bool, true, false, ◌&&◌, IsTrue, List, [], ◌∷◌, ◌++◌, flat_map, suc, length, get_or, take, drop}
+use Rattle.std.proofs.Common.{◌≡◌, ◌↔◌, ℕ, ◌+◌, ◌<◌, ◌^◌, Bool, true, false, ◌&&◌, IsTrue, List, [], ◌∷◌, ◌++◌, flat_map, suc, length, get_or, take, drop}
 use Rattle.std.proofs.Common.{Option, Some, None, inl, inr, Result, Ok, Err, refl, sym, ◌∙◌, ap, subst, arith}
 use Rattle.allocative.proofs.Common.{Restore, Refusal, Memory, TooLarge, Key, Identity, Forest, Empty, First, Again}
 use Rattle.allocative.proofs.Common.{followed_by, entry_of, add_all, Live, Kind, OfGraph, OfSum, State, Failed, Going}
-use Rattle.allocative.proofs.Common.{plus, enter, enter_first, Takes, is_graph, outer_of, leave, failed_with, Showing}
-use Rattle.allocative.proofs.Common.{Nothing, Both, InsideAs, Inside, sized, Field, Shared, each_shows, HasFailed}
+use Rattle.allocative.proofs.Common.{plus, enter, enter_first, is_graph, outer_of, leave, failed_with, Showing}
+use Rattle.allocative.proofs.Common.{Nothing, Both, InsideAs, Inside, sized, Field, IsField, Shared, each_shows, HasFailed}
 use Rattle.allocative.proofs.Common.{OpensEntry, stays_failed, is_refused, is_entered, OpensShared, stays_shared}
 use Rattle.allocative.proofs.Common.{is_refused_shared, enters_first, enters_again, all_bytes, HasRoomFor}
 use Rattle.allocative.proofs.Common.{ShowsContents, IsDeclared, CanTake, MayRefuse, FailsOnlyIfFull, has_added}
@@ -87,34 +87,32 @@ room_apart (OfSum s) f g (h, l) =
     let w = words_both s.open_visitors f g l in
     ((omega (arith, h, sum), w.0), (omega (arith, h, sum), w.1))
 
--- An entry has room, and so has then what is inside it.
+-- An entry's bytes fit a word, it has room, and so has then what is inside it.
 room_within : (u : Bool) (k : Key) (n : ℕ) (b : Kind) (f : Forest) → HasRoomFor b (entry_of u k n f) →
-    HasRoom u n b × HasRoomFor (enter u k n b) f
-room_within true k n (OfGraph c) f h = (omega (arith, h), omega (arith, h, bytes_entered-plus c (Unique k n Empty Empty)))
-room_within false k n (OfGraph c) f h = (omega (arith, h), omega (arith, h, bytes_entered-plus c (Inline k n Empty Empty)))
+    (n < 2 ^ 64) × HasRoom u n b × HasRoomFor (enter u k n b) f
+room_within true k n (OfGraph c) f h =
+    (omega (arith, h), omega (arith, h), omega (arith, h, bytes_entered-plus c (Unique k n Empty Empty)))
+room_within false k n (OfGraph c) f h =
+    (omega (arith, h), omega (arith, h), omega (arith, h, bytes_entered-plus c (Inline k n Empty Empty)))
 room_within true k n (OfSum s) f (h, l) =
     let sum = forest_bytes-entry s.figure true k n f in
-    ((omega (arith, h, sum), l.1), (omega (arith, h, sum), l.2))
+    (l.0, (omega (arith, h, sum), l.1), (omega (arith, h, sum), l.2))
 room_within false k n (OfSum s) f (h, l) =
     let sum = forest_bytes-entry s.figure false k n f in
-    ((omega (arith, h, sum), l.1), (omega (arith, h, sum), l.2))
+    (l.0, (omega (arith, h, sum), l.1), (omega (arith, h, sum), l.2))
 
 -- ---- contents
--- If two forests one after the other show all their contents, each of them does.
-contents_apart : (f g : Forest) → ShowsContents (followed_by f g) → ShowsContents f × ShowsContents g
-contents_apart Empty g h = (tt, h)
-contents_apart (Inline k n f after) g h = let r = contents_apart after g h.1 in ((h.0, r.0), r.1)
-contents_apart (Unique k n f after) g h = let r = contents_apart after g h.1 in ((h.0, r.0), r.1)
-contents_apart (First k n i f after) g h = let r = contents_apart after g h.1 in ((h.0, r.0), r.1)
-contents_apart (Again k n i after) g h = absurd h
+-- What holds in front of a pair holds in front of its first part.
+in_front : {A B C D : Type 0} → C ↔ (A × B) → (D × C) ↔ ((D × A) × B)
+in_front r = (λ h. let w = r.0 h.1 in ((h.0, w.0), w.1), λ h. (h.0.0, r.1 (h.0.1, h.1)))
 
--- If two forests each show all their contents, so do both one after the other.
-contents_both : (f g : Forest) → ShowsContents f → ShowsContents g → ShowsContents (followed_by f g)
-contents_both Empty g h l = l
-contents_both (Inline k n f after) g h l = (h.0, contents_both after g h.1 l)
-contents_both (Unique k n f after) g h l = (h.0, contents_both after g h.1 l)
-contents_both (First k n i f after) g h l = (h.0, contents_both after g h.1 l)
-contents_both (Again k n i after) g h l = absurd h
+-- Two forests one after the other show all their contents exactly if each of them does.
+contents_both : (f g : Forest) → ShowsContents (followed_by f g) ↔ (ShowsContents f × ShowsContents g)
+contents_both Empty g = (λ h. (tt, h), λ h. h.1)
+contents_both (Inline k n f after) g = in_front (contents_both after g)
+contents_both (Unique k n f after) g = in_front (contents_both after g)
+contents_both (First k n i f after) g = in_front (contents_both after g)
+contents_both (Again k n i after) g = (λ h. absurd h, λ h. absurd h.0)
 
 -- ---- what is declared
 -- A showing of no entry is declared.
@@ -123,15 +121,15 @@ declared_nothing = (Empty, refl, tt)
 
 -- If two showings one after the other are declared, the first is.
 pub declared_first : {p q : Showing} → IsDeclared (Both p q) → IsDeclared p
-declared_first (f, (g, h, x, y, e), s) = (g, x, (contents_apart g h (subst ShowsContents e s)).0)
+declared_first (f, (g, h, x, y, e), s) = (g, x, ((contents_both g h).0 (rw e at s)).0)
 
 -- If two showings one after the other are declared, the second is.
 pub declared_second : {p q : Showing} → IsDeclared (Both p q) → IsDeclared q
-declared_second (f, (g, h, x, y, e), s) = (h, y, (contents_apart g h (subst ShowsContents e s)).1)
+declared_second (f, (g, h, x, y, e), s) = (h, y, ((contents_both g h).0 (rw e at s)).1)
 
 -- If two showings are declared, so are both one after the other.
 pub declared_both : {p q : Showing} → IsDeclared p → IsDeclared q → IsDeclared (Both p q)
-declared_both (f, x, s) (g, y, t) = (followed_by f g, (f, g, x, y, refl), contents_both f g s t)
+declared_both (f, x, s) (g, y, t) = (followed_by f g, (f, g, x, y, refl), (contents_both f g).1 (s, t))
 
 -- If an entry with p inside it is declared, p is.
 pub declared_inside : (u : Bool) (k : Key) (n : ℕ) {p : Showing} → IsDeclared (InsideAs u k n p) → IsDeclared p
@@ -164,11 +162,13 @@ pub can_second : {p q : Showing} (b : Kind) (f : Forest) → p f → CanTake b (
 can_second b f x (d, room) =
     (declared_second d, λ g y. (room_apart b f g (room (followed_by f g) (f, g, x, y, refl))).1)
 
--- A collector that can take an entry with p inside it has room for the entry.
-can_entry : {p : Showing} (u : Bool) (k : Key) (n : ℕ) (b : Kind) → CanTake b (InsideAs u k n p) → HasRoom u n b
+-- A collector that can take an entry with p inside it has room for the entry, whose bytes fit a word.
+can_entry : {p : Showing} (u : Bool) (k : Key) (n : ℕ) (b : Kind) → CanTake b (InsideAs u k n p) →
+    (n < 2 ^ 64) × HasRoom u n b
 can_entry u k n b (d, room) =
     let r = declared_inside u k n d in
-    (room_within u k n b r.0 (room (entry_of u k n r.0) (r.0, r.1, refl))).0
+    let w = room_within u k n b r.0 (room (entry_of u k n r.0) (r.0, r.1, refl)) in
+    (w.0, w.1)
 
 -- If the collector of a flame graph can take a shared entry, it can take the content once the entry is opened.
 can_content : {p : Showing} (k : Key) (n : ℕ) (i : Identity) (c : Live) → CanTake (OfGraph c) (Shared k n i p) →
@@ -190,13 +190,10 @@ may_refuse b c up same Open m = m
 -- If a collector refuses an entry with e, a visit that shows the entry may be refused with e.
 entry_refuses : (p : Showing) (u : Bool) (k : Key) (n : ℕ) (b : Kind) (e : Refusal) → Refuses u n b e →
     MayRefuse (InsideAs u k n p) b e
-entry_refuses p u k n (OfGraph c) e (inl (i, h)) =
-    subst (MayRefuse (InsideAs u k n p) (OfGraph c)) (sym i) (λ w. omega (arith, h, can_entry u k n (OfGraph c) w))
-entry_refuses p u k n (OfGraph c) e (inr (i, h)) = subst (MayRefuse (InsideAs u k n p) (OfGraph c)) (sym i) refl
-entry_refuses p u k n (OfSum s) e (i, inl h) =
-    subst (MayRefuse (InsideAs u k n p) (OfSum s)) (sym i) (λ w. omega (arith, h, (can_entry u k n (OfSum s) w).0))
-entry_refuses p u k n (OfSum s) e (i, inr h) =
-    subst (MayRefuse (InsideAs u k n p) (OfSum s)) (sym i) (λ w. omega (arith, h, (can_entry u k n (OfSum s) w).1))
+entry_refuses p u k n (OfGraph c) e (inl (i, h)) = rw i (λ w. omega (arith, h, (can_entry u k n (OfGraph c) w).1))
+entry_refuses p u k n (OfGraph c) e (inr (i, h)) = rw i refl
+entry_refuses p u k n (OfSum s) e (i, inl h) = rw i (λ w. omega (arith, h, (can_entry u k n (OfSum s) w).1.0))
+entry_refuses p u k n (OfSum s) e (i, inr h) = rw i (λ w. omega (arith, h, (can_entry u k n (OfSum s) w).1.1))
 
 -- ---- visits
 -- A visit that shows nothing, changes nothing and returns Ok fails only if full.
@@ -219,22 +216,16 @@ only_if_full_weaker up down = only_if_full_as up (λ k w. down w.0)
 
 -- The bytes of an entry that can be added fit a word.
 pub entry_fits : {p : Showing} (u : Bool) (k : Key) (n : ℕ) (b : Kind) → CanTake b (InsideAs u k n p) → n < 2 ^ 64
-entry_fits u k n (OfGraph c) w = omega (arith, can_entry u k n (OfGraph c) w)
-entry_fits true k n (OfSum s) w = let r = declared_inside true k n w.0 in
-    (w.1 (entry_of true k n r.0) (r.0, r.1, refl)).1.0
-entry_fits false k n (OfSum s) w = let r = declared_inside false k n w.0 in
-    (w.1 (entry_of false k n r.0) (r.0, r.1, refl)).1.0
+entry_fits u k n b w = (can_entry u k n b w).0
 
 -- A visit of p that returns Ok, followed by one of q, fails only if full, if each of the two does.
 pub only_if_full_both : {p q : Showing} {a b c : State} {u : Unit} {r : Result Unit Refusal} →
     FailsOnlyIfFull p a (Ok u) b → FailsOnlyIfFull q b r c → FailsOnlyIfFull (Both p q) a r c
 only_if_full_both had_failed s = had_failed
-only_if_full_both (has_added {b = b} f x t e) (has_added {c = c} g y s k) =
-    let s' : Takes (plus b f) g = subst (λ (z : Kind). Takes z g) e s in
-    has_added (followed_by f g) (f, g, x, y, refl) (takes_both b f g t s') (cc (plus-following b f g))
-only_if_full_both {q = q} (has_added {b = b} f x t e) (has_refused {e = r} m) =
-    let m' : MayRefuse q (plus b f) r = subst (λ (z : Kind). MayRefuse q z r) e m in
-    has_refused (may_refuse (plus b f) b (can_second b f x) (sym (is_graph-plus b f)) r m')
+only_if_full_both (has_added {b = b} f x t e) (has_added g y s k) =
+    has_added (followed_by f g) (f, g, x, y, refl) (takes_both b f g t (rw e at s)) (cc (plus-following b f g))
+only_if_full_both (has_added {b = b} f x t e) (has_refused {e = r} m) =
+    has_refused (may_refuse (plus b f) b (can_second b f x) (sym (is_graph-plus b f)) r (rw e at m))
 
 -- If a visit of p returns Err and fails only if full, it fails only if full as a visit of p and then q.
 pub only_if_full_first : {p q : Showing} {a b : State} {e : Refusal} → FailsOnlyIfFull p a (Err e) b →
@@ -247,15 +238,13 @@ pub only_if_full_within : {u : Bool} {p : Showing} {k : Key} {n : ℕ} {o : Rest
     {r : Result Unit Refusal} →
     OpensEntry u k (Some n) s (Ok o) t → FailsOnlyIfFull p t r c → ClosesEntry o c d →
     FailsOnlyIfFull (InsideAs u k n p) s r d
-only_if_full_within {u} {p} {k} {n} (is_entered {b = b} h f e) (has_added {c = c} g x t i) l =
-    let t' : Takes (enter u k n b) g = subst (λ (z : Kind). Takes z g) e t in
-    rw (l.closes, f) (has_added {c = leave (outer_of n b) c} (entry_of u k n g) (g, x, refl) (takes_entry u k n b g t')
-    (cc (inside_entry u k n b g)))
-only_if_full_within {u} {p} {k} {n} (is_entered {b = b} h f e) (has_refused {e = r} m) l =
-    let m' : MayRefuse p (enter u k n b) r = subst (λ (z : Kind). MayRefuse p z r) e m in
+only_if_full_within {u} {k = k} {n = n} (is_entered {b = b} h f e) (has_added {c = c} g x t i) l =
+    rw (l.closes, f) (has_added {c = leave (outer_of n b) c} (entry_of u k n g) (g, x, refl)
+    (takes_entry u k n b g (rw e at t)) (cc (inside_entry u k n b g)))
+only_if_full_within {u} {k = k} {n = n} (is_entered {b = b} h f e) (has_refused {e = r} m) l =
     rw l.closes (has_refused (may_refuse (enter u k n b) b (λ w.
-    (declared_inside u k n w.0, λ f x. (room_within u k n b f (w.1 (entry_of u k n f) (f, x, refl))).1))
-    (sym (is_graph-enter u k n b)) r m'))
+    (declared_inside u k n w.0, λ f x. (room_within u k n b f (w.1 (entry_of u k n f) (f, x, refl))).2))
+    (sym (is_graph-enter u k n b)) r (rw e at m)))
 
 -- If opening an entry is refused, the visit that shows the entry fails only if full.
 pub only_if_full_not_within : {u : Bool} {p : Showing} {k : Key} {n : ℕ} {s t : State} {e : Refusal} →
@@ -267,9 +256,9 @@ only_if_full_not_within {u} {k = k} {n = n} (is_refused {b = b} {e = e} h) = has
 in_sized : {k : Key} {n : ℕ} {p : Showing} → IsDeclared (Field k (Some n) p) → IsDeclared (Inside k n p)
 in_sized (f, sized x, s) = (f, x, s)
 
--- A field without a size is not declared.
-not_declared : {k : Key} {p : Showing} → IsDeclared (Field k None p) → ⊥
-not_declared (f, x, s) = elim x [ ]
+-- If there is no size, there is no forest.
+pub none_of_it : {k : Key} {p : Showing} {f : Forest} → IsField k p None f → ⊥
+none_of_it h = elim h [ ]
 
 -- If a visit fails only if full inside a field that is opened and closed, so does the visit of the field.
 pub only_if_full_field : {p : Showing} {k : Key} {y : Option ℕ} {o : Restore} {s t c d : State}
@@ -282,8 +271,7 @@ only_if_full_field {y = Some n} g h e = only_if_full_weaker (λ f x. sized x) in
 pub only_if_full_not_field : {p : Showing} {k : Key} {y : Option ℕ} {s t : State} {e : Refusal} →
     OpensEntry false k y s (Err e) t → FailsOnlyIfFull (Field k y p) s (Err e) t
 only_if_full_not_field stays_failed = had_failed
-only_if_full_not_field {p} {k} {y = None} (is_refused {b = b} i) =
-    has_refused (subst (MayRefuse (Field k None p) b) (sym i) (λ w. not_declared w.0))
+only_if_full_not_field {y = None} (is_refused i) = has_refused (rw i (λ w. none_of_it w.0.1))
 only_if_full_not_field {k = k} {y = Some n} (is_refused h) =
     only_if_full_weaker (λ f x. sized x) in_sized (only_if_full_not_within {u = false} {k = k} (is_refused h))
 
@@ -342,12 +330,10 @@ pub only_if_full_content : {p : Showing} {k : Key} {n : ℕ} {i : Identity} {o :
     {r : Result Unit Refusal} →
     OpensShared k n i s (Ok true) t → FailsOnlyIfFull p t r c → ClosesEntry o c d → FailsOnlyIfFull (Shared k n i p) s r d
 only_if_full_content {k = k} {n} {i} {o} (enters_first {c = b} room new e) (has_added {c = c} f x t j) m =
-    let t' : Takes (OfGraph (enter_first k n i b)) f = subst (λ (z : Live). Takes (OfGraph z) f) e t in
     rw m.closes (has_added {b = OfGraph b} {c = leave o c} (First k n i f Empty) (inl (f, x, refl))
-    (takes_shared k n i b f new t') (cc (inside_first k n i b f o)))
-only_if_full_content {p} {k} {n} {i} (enters_first {c = b} room new e) (has_refused {e = r} w) m =
-    let w' : MayRefuse p (OfGraph (enter_first k n i b)) r = subst (λ (z : Live). MayRefuse p (OfGraph z) r) e w in
-    rw m.closes (has_refused (may_refuse (OfGraph (enter_first k n i b)) (OfGraph b) (can_content k n i b) refl r w'))
+    (takes_shared k n i b f new (rw e at t)) (cc (inside_first k n i b f o)))
+only_if_full_content {k = k} {n} {i} (enters_first {c = b} room new e) (has_refused {e = r} w) m = rw m.closes
+    (has_refused (may_refuse (OfGraph (enter_first k n i b)) (OfGraph b) (can_content k n i b) refl r (rw e at w)))
 
 -- If the content of an opened shared entry is not to be shown, a visit that returns Ok then fails only if full.
 pub only_if_full_again : {p : Showing} {k : Key} {n : ℕ} {i : Identity} {is_first : Bool} {s t : State} {x : Unit} →
@@ -362,15 +348,11 @@ only_if_full_again (enters_first r h e) is = absurd (false≢true (sym is))
 pub only_if_full_not_shared : {p : Showing} {k : Key} {n : ℕ} {i : Identity} {s t : State} {e : Refusal} →
     OpensShared k n i s (Err e) t → FailsOnlyIfFull (Shared k n i p) s (Err e) t
 only_if_full_not_shared stays_shared = had_failed
-only_if_full_not_shared {p} {k} {n} {i} (is_refused_shared {c = c} (inl (j, h))) =
-    has_refused (subst (MayRefuse (Shared k n i p) (OfGraph c)) (sym j)
-    (λ w. let room = w.1 (Again k n i Empty) (inr refl) in omega (arith, h, room)))
-only_if_full_not_shared {p} {k} {n} {i} (is_refused_shared {c = c} (inr (j, h))) =
-    has_refused (subst (MayRefuse (Shared k n i p) (OfGraph c)) (sym j) refl)
-only_if_full_not_shared {p} {k} {n} {i} (is_too_large_shared {a = a} j h) =
-    has_refused (subst (MayRefuse (Shared k n i p) (OfSum a)) (sym j)
-    (λ w. let room = (w.1 (Again k n i Empty) (inr refl)).0 in
-    omega (arith, h.1, room, forest_bytes-again a.figure k n i)))
+only_if_full_not_shared {k = k} {n} {i} (is_refused_shared (inl (j, h))) =
+    has_refused (rw j (λ w. omega (arith, h, w.1 (Again k n i Empty) (inr refl))))
+only_if_full_not_shared (is_refused_shared (inr (j, h))) = has_refused (rw j refl)
+only_if_full_not_shared {k = k} {n} {i} (is_too_large_shared {a = a} j h) = has_refused (rw j (λ w.
+    omega (arith, h.1, (w.1 (Again k n i Empty) (inr refl)).0, forest_bytes-again a.figure k n i)))
 
 -- Of a visit that is not strict nothing is asked.
 pub not_strict : {p : Showing} {a b : State} {r : Result Unit Refusal} → IsTrue false → FailsOnlyIfFull p a r b
@@ -381,9 +363,7 @@ not_strict h = absurd (false≢true h)
 pub only_if_full_refused : {p : Showing} {a b : State} {y : Refusal} (c : State) (x : Refusal) →
     FailsOnlyIfFull p a (Err y) b → c ≡ failed_with y b → HasFailed c x → FailsOnlyIfFull p a (Err x) c
 only_if_full_refused c x had_failed e h = had_failed
-only_if_full_refused {p} c x (has_refused {b = b} {e = y} m) e h =
-    let i : y ≡ x = cc in
-    rw h (has_refused (subst (MayRefuse p b) i m))
+only_if_full_refused c x (has_refused {e = y} m) e h = let i : y ≡ x = cc in rw h (has_refused (rw i at m))
 
 -- What is declared nowhere may be refused as TooLarge.
 pub only_if_full_undeclared : {p : Showing} (a b : State) (e : Refusal) → (IsDeclared p → ⊥) →

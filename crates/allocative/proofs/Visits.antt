@@ -30,14 +30,6 @@ adds_weaker up hidden = hidden
 adds_weaker up (forgotten g h) = forgotten g h
 adds_weaker up (added f p t e) = added f (up f p) t e
 
--- A collector with a forest added is a flame graph's exactly if it was before.
-same_graph : (b c : Kind) (f : Forest) → c ≡ plus b f → is_graph c ≡ is_graph b
-same_graph b c f e = ap is_graph e ∙ is_graph-plus b f
-
--- Adding a forest does not change the number of open visitors.
-same_visitors : (b c : Kind) (f : Forest) → c ≡ plus b f → visitors c ≡ visitors b
-same_visitors b c f e = ap visitors e ∙ visitors-plus b f
-
 -- If a visit that shows p returns Ok and a visit that shows q follows, both together show p followed by q.
 pub adds_both : {p q : Showing} {a b c : State} {u : Unit} {r : Result Unit Refusal} → AddsForest p a (Ok u) b →
     AddsForest q b r c → AddsForest (Both p q) a r c
@@ -47,12 +39,14 @@ adds_both {r = Err e} hidden already = refused
 adds_both (forgotten i h) refused = refused
 adds_both (forgotten i h) hidden = hidden
 adds_both (forgotten i h) (forgotten j k) = forgotten (j ∙ i) (omega arith)
-adds_both (forgotten i h) (added g p t e) = let d = same_visitors _ _ g e in
-    forgotten (same_graph _ _ g e ∙ i) (omega (arith, d))
+adds_both (forgotten {c = c} i h) (added g p t e) =
+    let d = ap visitors e ∙ visitors-plus c g in
+    forgotten (ap is_graph e ∙ is_graph-plus c g ∙ i) (omega (arith, d))
 adds_both (added f p t e) refused = refused
 adds_both (added f p t e) hidden = hidden
-adds_both (added f p t e) (forgotten j k) = let d = same_visitors _ _ f e in
-    forgotten (j ∙ same_graph _ _ f e) (omega (arith, d))
+adds_both (added {b = b} f p t e) (forgotten j k) =
+    let d = ap visitors e ∙ visitors-plus b f in
+    forgotten (j ∙ ap is_graph e ∙ is_graph-plus b f) (omega (arith, d))
 adds_both (added {b = b} f p t e) (added {c = c} g q s k) =
     let s' : Takes (plus b f) g = subst (λ (x : Kind). Takes x g) e s in
     added (followed_by f g) (f, g, p, q, refl) (takes_both b f g t s') (cc (plus-following b f g))

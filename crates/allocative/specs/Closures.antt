@@ -4,17 +4,12 @@ use Rattle.std.specs.Borrow.{MutBor}
 use Rattle.std.specs.Fn.{Once, FnOnceReturnsAtMut}
 use Rattle.allocative_graph.specs.declared.refusal.Refusal.{Refusal}
 use Rattle.allocative_graph.specs.Path.{Key}
-use Rattle.allocative_graph.specs.Collector.{State, Going, OfSum, Restore, nothing_held, failed_with, close_entry}
+use Rattle.allocative_graph.specs.Collector.{State, Going, OfSum, Restore, nothing_held, close_entry}
 use Rattle.allocative_graph.specs.Shows.{Showing}
 use Rattle.allocative_graph.specs.Visits.{AddsForest, HasFailed, OpensEntry, Settles, ClosesEntry}
 use Rattle.allocative.specs.declared.visitor.Visitor.{Visitor}
 use Rattle.allocative.specs.Kinds.{IsSum}
-use Rattle.allocative.specs.Visited.{OpensRootAt}
-
--- The collector after a closure told this: its own refusal is the first cause if nothing had failed.
-abbrev pub after_told : Result (Unit {0}) Refusal → State → State
-after_told (Ok u) s = s
-after_told (Err e) s = failed_with e s
+use Rattle.allocative.specs.Visited.{OpensRootAt, Refused}
 
 -- What is answered of a collector of a sum: the sum if it has not failed and no visitor is out, else the first
 -- cause, or Open.
@@ -34,18 +29,27 @@ module _ {F : Type 0}
   CallShows p = (x y : Visitor) (r : Result (Unit {0}) Refusal) → FnOnceReturnsAtMut g f x r y
       → AddsForest p x.collector.now r y.collector.now
 
-  -- The closure's entry is refused as entering says. Or the closure is called at the entry's visitor and returns Ok,
-  -- and the visitor is left. Or the closure returns Err with a cause, the collector fails with that cause unless it
-  -- had failed before, and the visitor is left.
+  -- The closure was called at the visitor and told Ok. Or it told an error, with which the collector failed unless it
+  -- had failed before; the first cause is returned.
+  pub data Tells (old new : Visitor) : Result (Unit {0}) Refusal → Type 0 where
+    told_ok : {u : Unit} → FnOnceReturnsAtMut g f old (Ok u) new → Tells old new (Ok u)
+    told_err : {after : Visitor} {e cause : Refusal} → FnOnceReturnsAtMut g f old (Err e) after
+        → Refused e after new cause → Tells old new (Err cause)
+
+  -- The closure was called at the visitor, which stays where it was, and an Err is the collector's first cause.
+  pub record CalledAt (old new : Visitor) (r : Result (Unit {0}) Refusal) : Type 0 where
+    pub tells : Tells old new r
+    pub same_reference : new.collector.ghost_name ≡ old.collector.ghost_name
+    pub same_outer : new.outer ≡ old.outer
+    pub cause : IfErr r (HasFailed new.collector.now)
+
+  -- The closure's entry is refused as entering says. Or the closure is called at a visitor at the entry, and the entry
+  -- is closed.
   pub data CallsInside (k : Key) (n : ℕ) (s : State) (t : State) : Result (Unit {0}) Refusal → Type 0 where
     not_called : {e : Refusal} → OpensEntry false k (Some n) s (Err e) t → CallsInside k n s t (Err e)
-    called : {o : Restore} {w : State} {u : Unit} (x y : Visitor) → OpensEntry false k (Some n) s (Ok o) w →
-        x.collector.now ≡ w
-        → FnOnceReturnsAtMut g f x (Ok tt) y → ClosesEntry y.outer y.collector.now t → y.outer ≡ o
-        → CallsInside k n s t (Ok u)
-    refused_inside : {o q : Restore} {w : State} {e : Refusal} (x y : Visitor) (z : State) (cause : Refusal)
-        → OpensEntry false k (Some n) s (Ok o) w → x.collector.now ≡ w → FnOnceReturnsAtMut g f x (Err cause) y
-        → z ≡ failed_with cause y.collector.now → ClosesEntry q z t → CallsInside k n s t (Err e)
+    called_inside : {o : Restore} {x y : Visitor} {r : Result (Unit {0}) Refusal}
+        → OpensEntry false k (Some n) s (Ok o) x.collector.now → CalledAt x y r → ClosesEntry o y.collector.now t
+        → CallsInside k n s t r
 
   -- The visitor stays where it was, the closure was called inside an entry as `CallsInside` says, and an Err is the
   -- collector's first cause.
@@ -55,21 +59,11 @@ module _ {F : Type 0}
     pub calls : CallsInside k n old.collector.now new.collector.now r
     pub cause : IfErr r (HasFailed new.collector.now)
 
-  -- The closure was called at the visitor, which stays where it was; the closure's own refusal is the first cause if
-  -- nothing had failed.
-  pub record CalledAt (old new : Visitor) : Type 0 where
-    pub told : Result (Unit {0}) Refusal
-    pub after : Visitor
-    pub calls : FnOnceReturnsAtMut g f old told after
-    pub same_reference : new.collector.ghost_name ≡ old.collector.ghost_name
-    pub same_outer : new.outer ≡ old.outer
-    pub now : new.collector.now ≡ after_told told after.collector.now
-
   -- The closure was called at a root visitor of a collector that holds nothing, and the visitor was left; the answer
   -- is what is answered of the collector then.
   pub record CalledAtRoot (answer : Result ℕ Refusal) : Type 0 where
     pub before : Visitor
     pub after : Visitor
     pub begun : OpensRootAt (Going (OfSum nothing_held)) before
-    pub called : CalledAt before after
+    pub called : (r : Result (Unit {0}) Refusal) × CalledAt before after r
     pub answers : AnswersSum (close_entry after.outer after.collector.now) answer

@@ -1,9 +1,8 @@
 -- What entering a shared value returns, and how a collector or a visitor ends after a nested visitor borrowed it.
 use Rattle.std.specs.Prelude.{◌≡◌, ℕ, ◌+◌, ◌<◌, ◌^◌, [], Bool, true, false, not, Option, None, Some, Result, Ok, Err}
-use Rattle.std.specs.Prelude.{IfErr, IfOk, IfSome, OnOk, ⊤}
-use Rattle.std.specs.Borrow.{Fml, GName, MutBor, Lends, RestsIfErr, follows_so, name_if_ok}
+use Rattle.std.specs.Prelude.{IfErr, IfOk, OnOk}
+use Rattle.std.specs.Borrow.{Fml, MutBor, Lends, RestsIfErr, follows_so, name_if_ok}
 use Rattle.std.specs.FinSet.{contains}
-use mathlib.Core.Option as maybe
 use mir.Syntax.{named}
 use Rattle.allocative_graph.specs.declared.refusal.Refusal.{Refusal}
 use Rattle.allocative_graph.specs.declared.refusal.Refusal.TheVariants.{TooLarge}
@@ -35,34 +34,30 @@ abbrev pub answer_without_visitor : Option Refusal → Result Bool Refusal
 answer_without_visitor None = Ok false
 answer_without_visitor (Some e) = Err e
 
--- The result in the form of `enter_shared`: a visitor, none, or an error.
-abbrev pub transpose : Result Visitor (Option Refusal) → Result (Option Visitor) Refusal
-transpose (Ok v) = Ok (Some v)
-transpose (Err None) = Ok None
-transpose (Err (Some e)) = Err e
-
--- The result without what it carries: whether the content is shown, or an error.
-abbrev pub answer_of : {T : Type 0} → Result (Option T) Refusal → Result Bool Refusal
-answer_of (Ok (Some x)) = Ok true
-answer_of (Ok None) = Ok false
-answer_of (Err e) = Err e
+-- The result of `enter_shared` in the form of `enter_content`: a visitor, or what is returned without one.
+abbrev pub visitor_or : Result (Option Visitor) Refusal → Result Visitor (Option Refusal)
+visitor_or (Ok (Some v)) = Ok v
+visitor_or (Ok None) = Err None
+visitor_or (Err e) = Err (Some e)
 
 -- ---- how a collector ends
+-- The collector ends as the visitor that is returned leaves it or, if none is returned, as `ends` says.
+abbrev pub CollectorEnds : {E : Type 0} → (E → State → Type 0) → MutBor State → Result Visitor E → Fml
+CollectorEnds ends s r =
+    RestsIfErr collector.the_row s (λ v. v.collector.ghost_name) r (λ t. IfErr r (λ e. ends e t))
+
 -- The collector ends as the visitor leaves it or, if the entry was refused, as opening it says.
 abbrev pub LendsEntered : Bool → Key → Option ℕ → MutBor State → Result Visitor Refusal → Fml
-LendsEntered is_unique k size s r = RestsIfErr collector.the_row s (λ v. v.collector.ghost_name) r
-    (λ t. IfErr r (λ e. OpensEntry is_unique k size s.now (Err e) t))
+LendsEntered is_unique k size s = CollectorEnds (λ e. OpensEntry is_unique k size s.now (Err e)) s
 
 -- The collector ends as the visitor at the content of a shared value leaves it or, if no visitor is returned, as
 -- entering says.
 abbrev pub LendsPointed : Key → ℕ → Identity → MutBor State → Result Visitor (Option Refusal) → Fml
-LendsPointed k n i s r = RestsIfErr collector.the_row s (λ v. v.collector.ghost_name) r
-    (λ t. IfErr r (λ o. OpensShared k n i s.now (answer_without_visitor o) t))
+LendsPointed k n i s = CollectorEnds (λ o. OpensShared k n i s.now (answer_without_visitor o)) s
 
 -- The collector ends as the root visitor leaves it or, if no visitor is returned, as beginning says.
 abbrev pub LendsBegun : MutBor State → Result Visitor Refusal → Fml
-LendsBegun s r =
-    RestsIfErr collector.the_row s (λ v. v.collector.ghost_name) r (λ t. IfErr r (λ e. OpensRoot s.now (Err e) t))
+LendsBegun s = CollectorEnds (λ e. OpensRoot s.now (Err e)) s
 
 -- The visitor v borrows the collector s.
 abbrev pub Borrows : MutBor State → Visitor → Type 0
@@ -86,15 +81,25 @@ abbrev pub LendsCollector : MutBor Visitor → MutBor State → Fml
 LendsCollector s r =
     Lends (visitor.the_row (record { mir = named 1; lft = [] })) collector.the_row s r (with_state s.now)
 
--- The visitor ends with what the nested visitor leaves of the collector or, if the entry was refused, with what opening
--- it says. Nothing else of it changes.
-abbrev pub LendsNested : Bool → Key → Option ℕ → MutBor Visitor → Result Visitor Refusal → Fml
-LendsNested is_unique k size s r =
+-- The visitor ends with what the visitor that is returned leaves of the collector or, if none is returned, with what
+-- `ends` says of it. Nothing else of it changes.
+abbrev pub VisitorEnds : {E : Type 0} → (E → State → Type 0) → MutBor Visitor → Result Visitor E → Fml
+VisitorEnds ends s r =
     follows_so (visitor.the_row (record { mir = named 1; lft = [] })) collector.the_row s.ghost_name
     (name_if_ok (λ v. v.collector.ghost_name) r)
     (λ w v. OnOk r (v ≡ with_state s.now w))
-    (λ v. IfErr r (λ e. OpensEntry is_unique k size s.now.collector.now (Err e) v.collector.now
-    × (v ≡ with_state s.now v.collector.now)))
+    (λ v. IfErr r (λ e. ends e v.collector.now × (v ≡ with_state s.now v.collector.now)))
+
+-- The visitor ends with what the nested visitor leaves of the collector or, if the entry was refused, with what opening
+-- it says.
+abbrev pub LendsNested : Bool → Key → Option ℕ → MutBor Visitor → Result Visitor Refusal → Fml
+LendsNested is_unique k size s = VisitorEnds (λ e. OpensEntry is_unique k size s.now.collector.now (Err e)) s
+
+-- The visitor ends with what the visitor at a shared value's content leaves of the collector or, if none is returned,
+-- with what entering says.
+abbrev pub LendsShared : Key → ℕ → Identity → MutBor Visitor → Result (Option Visitor) Refusal → Fml
+LendsShared k n i s r =
+    VisitorEnds (λ o. OpensShared k n i s.now.collector.now (answer_without_visitor o)) s (visitor_or r)
 
 -- The nested visitor v is at the entry that was opened at s.
 abbrev pub Nests : Bool → Key → Option ℕ → Visitor → Visitor → Type 0
@@ -103,36 +108,11 @@ Nests is_unique k size s v = OpensEntry is_unique k size s.collector.now (Ok v.o
 -- What entering a pointer of n bytes to the shared value i at s returns: a visitor, none, or an error.
 pub record EntersShared (k : Key) (n : ℕ) (i : Identity) (s : Visitor) (r : Result (Option Visitor) Refusal) : Type 0
   where
-    -- Leaving the visitor restores nothing.
-    pub outer : IfOk r (λ o. IfSome o (λ v. v.outer ≡ no_outer))
-    -- The visitor is at the value's content.
-    pub entered : IfOk r (λ o. IfSome o (λ v. OpensShared k n i s.collector.now (Ok true) v.collector.now))
-    -- Which of the three comes.
-    pub answer : AnswersShared k n i s.collector.now (answer_of r)
+    -- The visitor is at the value's content, and leaving it restores nothing.
+    pub entered : IfOk (visitor_or r) (OpensSharedAt k n i s.collector.now)
+    -- Which of the others comes.
+    pub answer : IfErr (visitor_or r) (λ o. AnswersShared k n i s.collector.now (answer_without_visitor o))
 
 -- An entry of a declared size at s is refused with e.
 abbrev pub IsRefused : Bool → Option ℕ → Visitor → Refusal → Type 0
 IsRefused is_unique size s e = RefusesEntry is_unique size s.collector.now e
-
--- The name of the reference in the visitor that is returned.
-abbrev pub name_in : Result (Option Visitor) Refusal → maybe.Option GName
-name_in (Ok (Some v)) = maybe.some v.collector.ghost_name
-name_in (Ok None) = maybe.none
-name_in (Err e) = maybe.none
-
--- If a visitor is returned, v is s with what that visitor leaves of the collector.
-abbrev pub EndsWith : Visitor → Result (Option Visitor) Refusal → State → Visitor → Type 0
-EndsWith s r w v = IfOk r (λ o. IfSome o (λ x. v ≡ with_state s w))
-
--- If no visitor is returned, v is s with what entering says.
-abbrev pub EndsWithout : Key → ℕ → Identity → Visitor → Result (Option Visitor) Refusal → Visitor → Type 0
-EndsWithout k n i s (Ok (Some x)) v = ⊤
-EndsWithout k n i s r v =
-    OpensShared k n i s.collector.now (answer_of r) v.collector.now × (v ≡ with_state s v.collector.now)
-
--- The visitor ends with what the visitor at a shared value's content leaves of the collector or, if none is returned,
--- with what entering says. Nothing else of it changes.
-abbrev pub LendsShared : Key → ℕ → Identity → MutBor Visitor → Result (Option Visitor) Refusal → Fml
-LendsShared k n i s r =
-    follows_so (visitor.the_row (record { mir = named 1; lft = [] })) collector.the_row s.ghost_name (name_in r)
-    (EndsWith s.now r) (EndsWithout k n i s.now r)

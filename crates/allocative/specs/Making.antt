@@ -87,11 +87,12 @@ pub data MakesPlanOrGives {S A : Type 0} (steps : S → Option A → S → Type 
 
 -- What `visit_iter` at a visitor does to its collector if it visits no item. Items that are shown one by one are
 -- none, and no entry is made. Others are counted, and one entry of their bytes is made.
-abbrev pub MakesPlanRun : {S A : Type 0} → (S → Option A → S → Type 0) → S → Key → Option ℕ → Bool → Visitor → Visitor
-    → Result Unit Refusal → Type 0
-MakesPlanRun steps s name size true old new r = MakesPlanOrGives steps s Done old new r
-MakesPlanRun steps s name size false old new r =
-    (count : Option ℕ) × CountsRun steps s count × MakesPlan (one name (size_product size count)) old new r
+pub data MakesPlanRun {S A : Type 0} (steps : S → Option A → S → Type 0) (s : S) (name : Key) (size : Option ℕ)
+    (is_each : Bool) (old new : Visitor) (r : Result Unit Refusal) : Type 0 where
+  each_plan : is_each ≡ true → MakesPlanOrGives steps s Done old new r
+      → MakesPlanRun steps s name size is_each old new r
+  counted_plan : {count : Option ℕ} → is_each ≡ false → CountsRun steps s count
+      → MakesPlan (one name (size_product size count)) old new r → MakesPlanRun steps s name size is_each old new r
 
 -- ---- over an iterator
 -- The collector was shown what q allows for the items of some whole run of an iterator that starts at s; v is what a

@@ -5,7 +5,7 @@ ghost use Rattle.std.specs.Prelude.{◌≡◌, IfOk, IfErr, Some, true, false};
 ghost use Rattle.allocative_graph.specs.Shows.{Inside, Nothing};
 ghost use Rattle.allocative.specs.Making.{MakesPlan, one};
 ghost use Rattle.allocative.specs.Visited.{Entered, WasVisited, Refused, Exits};
-ghost use Rattle.allocative.specs.Lending.{LendsNested, LendsShared, Nests, EntersShared, IsRefused, transpose};
+ghost use Rattle.allocative.specs.Lending.{LendsNested, LendsShared, Nests, EntersShared, IsRefused, visitor_or};
 ghost use Rattle.std.specs.Borrow.{sem};
 
 pub mod by_hand;
@@ -39,7 +39,7 @@ impl Drop for Visitor<'_> {
 fn transpose<'a>(
     answer: Result<Visitor<'a>, Option<Refusal>>,
 ) -> Result<Option<Visitor<'a>>, Refusal>
-    ensures { result ≡ transpose answer.entry }
+    ensures { visitor_or result ≡ answer.entry }
 {
     match answer {
         Ok(visitor) => Ok(Some(visitor)),

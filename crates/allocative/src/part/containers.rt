@@ -93,8 +93,7 @@ impl<'a, K: IntoKey, T: Allocative + Described> Part for FieldEach<K, &'a Linked
     ghost is_strict = { T.is_strict };
 
     fn enter(self, visitor: &mut Visitor<'_>) -> Result<(), Refusal> {
-        let FieldEach(key, list) = self;
-        visitor.visit_run(FieldUnder(key.into_key()), list.iter())
+        visitor.visit_run(FieldUnder(self.0.into_key()), self.1.iter())
     }
 }
 
@@ -104,8 +103,7 @@ impl<'a, K: IntoKey, T: Allocative + Described + Ord> Part for FieldEach<K, &'a 
     ghost is_strict = { T.is_strict };
 
     fn enter(self, visitor: &mut Visitor<'_>) -> Result<(), Refusal> {
-        let FieldEach(key, set) = self;
-        visitor.visit_run(FieldUnder(key.into_key()), set.iter())
+        visitor.visit_run(FieldUnder(self.0.into_key()), self.1.iter())
     }
 }
 
@@ -116,8 +114,7 @@ impl<'a, K: IntoKey, T: Allocative + Described + Eq + Hash, S: BuildHasher> Part
     ghost is_strict = { T.is_strict };
 
     fn enter(self, visitor: &mut Visitor<'_>) -> Result<(), Refusal> {
-        let FieldEach(key, hashed) = self;
-        visitor.visit_run(FieldUnder(key.into_key()), hashed.iter())
+        visitor.visit_run(FieldUnder(self.0.into_key()), self.1.iter())
     }
 }
 
@@ -128,8 +125,7 @@ impl<'a, K: IntoKey, T: Allocative + Described + Eq + Hash, S: BuildHasher> Part
     ghost is_strict = { T.is_strict };
 
     fn enter(self, visitor: &mut Visitor<'_>) -> Result<(), Refusal> {
-        let FieldEach(key, indexed) = self;
-        visitor.visit_run(FieldUnder(key.into_key()), indexed.iter())
+        visitor.visit_run(FieldUnder(self.0.into_key()), self.1.iter())
     }
 }
 
@@ -150,8 +146,7 @@ impl<'a, K: Allocative + Described + Ord, V: Allocative + Described> Part
     ghost is_strict = { K.is_strict && V.is_strict };
 
     fn enter(self, visitor: &mut Visitor<'_>) -> Result<(), Refusal> {
-        let Pairs(map) = self;
-        visitor.visit_run(KeyAndValue, map.iter())
+        visitor.visit_run(KeyAndValue, self.0.iter())
     }
 }
 
@@ -162,8 +157,7 @@ impl<'a, K: Allocative + Described + Eq + Hash, V: Allocative + Described, S: Bu
     ghost is_strict = { K.is_strict && V.is_strict };
 
     fn enter(self, visitor: &mut Visitor<'_>) -> Result<(), Refusal> {
-        let Pairs(hashed) = self;
-        visitor.visit_run(KeyAndValue, hashed.iter())
+        visitor.visit_run(KeyAndValue, self.0.iter())
     }
 }
 
@@ -174,8 +168,7 @@ impl<'a, K: Allocative + Described + Eq + Hash, V: Allocative + Described, S: Bu
     ghost is_strict = { K.is_strict && V.is_strict };
 
     fn enter(self, visitor: &mut Visitor<'_>) -> Result<(), Refusal> {
-        let Pairs(indexed) = self;
-        visitor.visit_run(KeyAndValue, indexed.iter())
+        visitor.visit_run(KeyAndValue, self.0.iter())
     }
 }
 
@@ -186,8 +179,7 @@ impl<'a, K: Allocative + Described + Eq + Hash, V: Allocative + Described, S: Bu
     ghost is_strict = { K.is_strict && V.is_strict };
 
     fn enter(self, visitor: &mut Visitor<'_>) -> Result<(), Refusal> {
-        let Pairs(cache) = self;
-        visitor.visit_run(KeyAndValue, cache.iter())
+        visitor.visit_run(KeyAndValue, self.0.iter())
     }
 }
 

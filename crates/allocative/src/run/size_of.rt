@@ -1,4 +1,5 @@
 //! The bytes that values hold on the heap, and those that they own.
+#![tactic(auto, using(crate::proofs::Roots::answering))]
 
 ghost use Rattle.std.specs.Prelude.{IfOk, IfErr};
 ghost use Rattle.allocative.specs.Closures.{KeepsVisitor, CalledAtRoot, AnswersSum};
@@ -103,7 +104,7 @@ pub fn size_of_entries<F: FnOnce(&mut Visitor<'_>) -> Result<(), Refusal>>(
 {
     let mut collector = Collector::of_sum(Restore::Held(false));
     let mut visitor = collector.root_visitor()?;
-    visitor.call(enter);
+    let _ = visitor.call(enter);
     visitor.exit();
     collector.check()?;
     Ok(collector.sum())

@@ -7,7 +7,6 @@ ghost use Rattle.allocative.specs.Making.{MakesPlan, MakesFirst, one};
 ghost use Rattle.allocative.specs.Visited.{Entered};
 ghost use Rattle.allocative.specs.Closures.{KeepsVisitor, CalledAt, CalledInside};
 
-use crate::by_hand::enter;
 use crate::{Allocative, Described, Key, Part, Refusal, Visitor};
 
 impl Visitor<'_> {
@@ -71,23 +70,26 @@ impl Visitor<'_> {
         requires keeps { KeepsVisitor F.FnOnce visit }
         ensures { CalledInside F.FnOnce visit name size self.old self.new result }
     {
-        let mut inner = enter(self.collector, name, size)?;
-        if let Err(refusal) = visit(&mut inner) {
-            return Err(inner.refuse(refusal));
-        }
-        inner.exit();
-        Ok(())
+        let outer = self.collector.open_entry(name, Some(size), false)?;
+        let answer = self.call(visit);
+        self.collector.close_entry(outer);
+        answer
     }
 
-    /// Calls the closure at this visitor. Its refusal is the first cause if nothing had failed.
-    pub(crate) fn call<F: FnOnce(&mut Visitor<'_>) -> Result<(), Refusal>>(&mut self, enter: F)
+    /// Calls the closure at this visitor. Its refusal is the first cause if nothing had failed; the call returns the
+    /// first cause.
+    pub(crate) fn call<F: FnOnce(&mut Visitor<'_>) -> Result<(), Refusal>>(
+        &mut self,
+        enter: F,
+    ) -> Result<(), Refusal>
         requires callable { F.IsAlwaysCallable enter }
         requires keeps { KeepsVisitor F.FnOnce enter }
-        ensures { CalledAt F.FnOnce enter self.old self.new }
+        ensures { CalledAt F.FnOnce enter self.old self.new result }
     {
         if let Err(refusal) = enter(self) {
-            self.refuse(refusal);
+            return Err(self.refuse(refusal));
         }
+        Ok(())
     }
 
     /// One inline entry `str` of the text's length in bytes. The errors are those of `enter`.

@@ -40,10 +40,8 @@ impl<A: Allocative + Described, B: Allocative + Described, C: Allocative + Descr
     ghost is_strict = { A.is_strict && (B.is_strict && C.is_strict) };
 
     fn visit(&self, visitor: &mut Visitor<'_>) -> Result<(), Refusal> {
-        let first = Field("0", &self.0);
-        let second = Field("1", &self.1);
-        let third = Field("2", &self.2);
-        Whole(self, (first, second, third)).enter(visitor)
+        let (a, b, c) = self;
+        Whole(self, (Field("0", a), Field("1", b), Field("2", c))).enter(visitor)
     }
 }
 
@@ -62,11 +60,9 @@ impl<
     ghost is_strict = { A.is_strict && (B.is_strict && (C.is_strict && D.is_strict)) };
 
     fn visit(&self, visitor: &mut Visitor<'_>) -> Result<(), Refusal> {
-        let first = Field("0", &self.0);
-        let second = Field("1", &self.1);
-        let third = Field("2", &self.2);
-        let fourth = Field("3", &self.3);
-        Whole(self, (first, second, third, fourth)).enter(visitor)
+        let (a, b, c, d) = self;
+        let fields = (Field("0", a), Field("1", b), Field("2", c), Field("3", d));
+        Whole(self, fields).enter(visitor)
     }
 }
 
@@ -116,16 +112,9 @@ impl<
         && (D.is_strict && (E.is_strict && F.is_strict)) };
 
     fn visit(&self, visitor: &mut Visitor<'_>) -> Result<(), Refusal> {
-        let front = (
-            Field("0", &self.0),
-            Field("1", &self.1),
-            Field("2", &self.2),
-        );
-        let back = (
-            Field("3", &self.3),
-            Field("4", &self.4),
-            Field("5", &self.5),
-        );
+        let (a, b, c, d, e, f) = self;
+        let front = (Field("0", a), Field("1", b), Field("2", c));
+        let back = (Field("3", d), Field("4", e), Field("5", f));
         Whole(self, (front, back)).enter(visitor)
     }
 }
@@ -152,17 +141,9 @@ impl<
         && (D.is_strict && (E.is_strict && (F.is_strict && G.is_strict))) };
 
     fn visit(&self, visitor: &mut Visitor<'_>) -> Result<(), Refusal> {
-        let front = (
-            Field("0", &self.0),
-            Field("1", &self.1),
-            Field("2", &self.2),
-        );
-        let back = (
-            Field("3", &self.3),
-            Field("4", &self.4),
-            Field("5", &self.5),
-            Field("6", &self.6),
-        );
+        let (a, b, c, d, e, f, g) = self;
+        let front = (Field("0", a), Field("1", b), Field("2", c));
+        let back = (Field("3", d), Field("4", e), Field("5", f), Field("6", g));
         Whole(self, (front, back)).enter(visitor)
     }
 }
@@ -191,18 +172,9 @@ impl<
         && (E.is_strict && (F.is_strict && (G.is_strict && H.is_strict))) };
 
     fn visit(&self, visitor: &mut Visitor<'_>) -> Result<(), Refusal> {
-        let front = (
-            Field("0", &self.0),
-            Field("1", &self.1),
-            Field("2", &self.2),
-            Field("3", &self.3),
-        );
-        let back = (
-            Field("4", &self.4),
-            Field("5", &self.5),
-            Field("6", &self.6),
-            Field("7", &self.7),
-        );
+        let (a, b, c, d, e, f, g, h) = self;
+        let front = (Field("0", a), Field("1", b), Field("2", c), Field("3", d));
+        let back = (Field("4", e), Field("5", f), Field("6", g), Field("7", h));
         Whole(self, (front, back)).enter(visitor)
     }
 }

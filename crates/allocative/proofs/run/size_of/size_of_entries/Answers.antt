@@ -9,7 +9,7 @@ returns-in_err-check g c = record {
   before = c.in_ok-visitor.visitor;
   after = c.call.new.self;
   begun = rw c.of_sum-collector.ensures at c.in_ok-visitor.ensures.begun;
-  called = c.call.ensures;
+  called = (_, c.call.ensures);
   answers = refusal_answered c.call.new.self.outer c.call.new.self.collector.now
       (same_err {e = c.in_err-check.field-0.0} _ c.from_residual-in_err-check.ensures.0 (search rules)) (search rules)
       c.check.ensures (search rules);
@@ -20,7 +20,7 @@ returns g c = record {
   before = c.in_ok-visitor.visitor;
   after = c.call.new.self;
   begun = rw c.of_sum-collector.ensures at c.in_ok-visitor.ensures.begun;
-  called = c.call.ensures;
+  called = (_, c.call.ensures);
   answers = sum_answered c.call.new.self.outer c.call.new.self.collector.now c.sum.result (search rules) c.check.ensures
       (search rules) c.sum.ensures;
 }

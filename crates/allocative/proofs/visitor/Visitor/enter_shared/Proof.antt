@@ -1,22 +1,19 @@
 -- A hand-written proof of `enter_shared`: the collector is lent, a visitor of the content may hold it, and the result
 -- is converted.
-use Rattle.allocative.proofs.Lent.{visitor_row, collector_row, refusal_row, result_row, option_row, key_row, Lfts}
-use Rattle.allocative.proofs.Lent.{RattleType, Lender, Nested, ℕ, key_laws, option_laws, refusal_laws, result_laws}
-use Rattle.allocative.proofs.Lent.{visitor_laws, nest, one_value, at_values, ◌≡◌, List, [], ◌∷◌, refl, sym, ap, subst}
-use Rattle.allocative.proofs.Lent.{MutBor, proved_at, says, rewrite, Goes-blank, id⊢, ftrue, flft, named, w64, Val}
-use Rattle.allocative.proofs.Lent.{fact, tables, ‵, raw, ◌⊛◌, some, later, ◌$◌, ◌∵◌, !, qed, done, move, keep, drop}
-use Rattle.allocative.proofs.Lent.{use1, use2, split, join, fsplit, fjoin, feq_i, feq_l, pick, await, suffices, frame}
-use Rattle.allocative.proofs.Lent.{enter, addr, stop, no_more, and_then, returns, alloc_all, pass_all, free_all}
-use Rattle.allocative.proofs.Lent.{look_at, get, through, sets, lands_as, usize, yes, no, shows, uint_vals, uint_Tells}
-use Rattle.allocative.proofs.Lent.{MutRef, mut_vals, mut_Tells, plain, named_lft, nothing, heard, peeks, only, calls_at}
-use Rattle.allocative.proofs.Lent.{Lasts, lasts, triple_of, framed, Stays, stay_dropped, Goes-dropped, Goes-spent_ref}
-use Rattle.allocative.proofs.Lent.{ends_at, true, false, Ok, IfOk, IfErr, OnOk, OnErr, Option, None, Some, Result, Err}
-use Rattle.allocative.proofs.Lent.{IfSome, name_if_ok, State, OpensShared, LendsCollector, EndsWith, EndsWithout}
-use Rattle.allocative.proofs.Lent.{with_state, AnswersShared, answer_without_visitor, transpose, Refusal, Key, Identity, enters_first}
-use Rattle.allocative.proofs.Lent.{Visitor, GName, follows_so, LendsPointed, OpensSharedAt, WpFn, Is, walk_of}
-use mathlib.Core.Option as maybe
-use Rattle.allocative.specs.Lending.{EntersShared, LendsShared, name_in, answer_of}
-use Rattle.allocative_graph.specs.Collector.{no_outer}
+use Rattle.allocative.proofs.Lent.{collector_row, refusal_row, result_row, option_row, key_row, Lfts, RattleType}
+use Rattle.allocative.proofs.Lent.{Lender, Nested, key_laws, option_laws, refusal_laws, result_laws, visitor_laws}
+use Rattle.allocative.proofs.Lent.{one_value, at_values, ◌≡◌, List, [], ◌∷◌, refl, sym, ap, subst, MutBor, proved_at}
+use Rattle.allocative.proofs.Lent.{says, rewrite, Goes-blank, id⊢, ftrue, flft, named, w64, Val, fact, tables, ‵, raw}
+use Rattle.allocative.proofs.Lent.{◌⊛◌, some, later, ◌$◌, ◌∵◌, !, qed, done, move, keep, drop, use1, use2, split, join}
+use Rattle.allocative.proofs.Lent.{fsplit, fjoin, feq_i, feq_l, pick, await, suffices, frame, enter, addr, stop}
+use Rattle.allocative.proofs.Lent.{no_more, and_then, returns, alloc_all, pass_all, free_all, look_at, get, through}
+use Rattle.allocative.proofs.Lent.{sets, lands_as, usize, yes, no, shows, uint_vals, uint_Tells, MutRef, mut_vals}
+use Rattle.allocative.proofs.Lent.{mut_Tells, plain, named_lft, nothing, heard, peeks, only, calls_at, Lasts, lasts}
+use Rattle.allocative.proofs.Lent.{triple_of, framed, Stays, stay_dropped, Goes-dropped, Goes-spent_ref, ends_at, IfOk}
+use Rattle.allocative.proofs.Lent.{IfErr, Option, Result, State, OpensShared, LendsCollector, AnswersShared}
+use Rattle.allocative.proofs.Lent.{answer_without_visitor, Refusal, Key, Identity, Visitor, OpensSharedAt}
+use Rattle.allocative.proofs.Lent.{WpFn, Is, walk_of, lent_on, visitor_or, VisitorEnds, CollectorEnds}
+use Rattle.allocative.specs.Lending.{EntersShared}
 use Rattle.allocative_graph.specs.contracts.shared.Identity as identity
 use Rattle.allocative_graph.proofs.shared.Identity.TheLaws.{the_row_laws as identity_laws}
 use Rattle.allocative.specs.contracts.visitor.Visitor.enter_shared as f
@@ -41,47 +38,6 @@ TryAnswer κs = result_row (Nested κs) (option_row refusal_row)
 
 abbrev SharedAnswer : Lfts 2 → RattleType
 SharedAnswer κs = result_row (option_row (Nested κs)) refusal_row
-
--- The reference in a returned visitor has the same name before and after the result is converted.
-same_name : (r : Try) → name_if_ok (λ v. v.collector.ghost_name) r ≡ name_in (transpose r)
-same_name (Ok v) = refl
-same_name (Err None) = refl
-same_name (Err (Some e)) = refl
-
--- If a visitor is returned, the lender ends with what that visitor leaves of the collector.
-ends_with : (s : Visitor) (r : Try) (w z : State) → OnOk r (z ≡ w) → EndsWith s (transpose r) w (with_state s z)
-ends_with s (Ok v) w z h = ap (with_state s) h
-ends_with s (Err None) w z h = tt
-ends_with s (Err (Some e)) w z h = tt
-
--- If no visitor is returned, the lender ends with what entering the shared value says.
-ends_without : (k : Key) (n : ℕ) (i : Identity) (s : Visitor) (c : State) → c ≡ s.collector.now →
-    (r : Try) (z : State) → OnErr r (IfErr r (λ o. OpensShared k n i c (answer_without_visitor o) z)) →
-    EndsWithout k n i s (transpose r) (with_state s z)
-ends_without k n i s c e (Ok v) z h = tt
-ends_without k n i s c e (Err None) z h = let P : State → Type 0 = λ x. OpensShared k n i x (Ok false) z in
-    (subst P e h, refl)
-ends_without k n i s c e (Err (Some x)) z h = let P : State → Type 0 = λ y. OpensShared k n i y (Err x) z in
-    (subst P e h, refl)
-
--- If P implies Q, and P is true of a returned visitor, then Q is true of it in the converted result.
-shown_by : (P Q : Visitor → Type 0) (r : Try) (g : Given) → g ≡ transpose r → ((v : Visitor) → P v → Q v) → IfOk r P →
-    IfOk g (λ o. IfSome o Q)
-shown_by P Q (Ok v) g e w h = rw e (w v h)
-shown_by P Q (Err None) g e w h = rw e tt
-shown_by P Q (Err (Some x)) g e w h = rw e tt
-
--- If opening a shared entry says to show its content, `AnswersShared` allows that answer.
-shown_answer : (k : Key) (n : ℕ) (i : Identity) {c t : State} → OpensShared k n i c (Ok true) t →
-    AnswersShared k n i c (Ok true)
-shown_answer k n i (enters_first r h e) = (r, h)
-
--- What the converted result says of the content is an answer that `AnswersShared` allows.
-answer_at : (k : Key) (n : ℕ) (i : Identity) (r : Try) (c : State) → IfOk r (OpensSharedAt k n i c) →
-    IfErr r (λ o. AnswersShared k n i c (answer_without_visitor o)) → AnswersShared k n i c (answer_of (transpose r))
-answer_at k n i (Ok v) c h j = shown_answer k n i h.1
-answer_at k n i (Err None) c h j = j
-answer_at k n i (Err (Some e)) c h j = j
 
 abbrev stayed : Stays f.ended.signature.params f.ended.kept
 stayed = (stay_dropped _ no, (stay_dropped _ yes, (stay_dropped _ yes, (stay_dropped _ yes, tt))))
@@ -124,6 +80,7 @@ enter_shared_spec 𝓤 𝓛 𝓜 𝓡 wired =
     calls_at ! fm G (g-met.met 𝓤 𝓛 𝓜 𝓡 (code.calls-allocative::visitor::by_hand::collector_of 𝓡.env wired)) x
     (and_then ! (get ! refl) (no_more !)) (λ v.
     let Part = MutRef (named 0) κ collector_row in
+    let Ends : State → Option Refusal → State → Type 0 = λ x o. OpensShared k n j x (answer_without_visitor o) in
     use1 𝓛 (later (some (λ (r : MutBor State). (Tokens ⊛ ‵ (Part.own_val r (v ∷ []))) ⊛
     some (λ (ws : Lasts g.ended κs (s, tt)). ‵ (lasts g.ended κs (s, tt) ws) ⊛ ‵ (LendsCollector s r) ⊛ raw
     (fact 𝓤 (r.now ≡ s.now.collector.now)))))) (id⊢ 𝓤 _) $
@@ -142,22 +99,14 @@ enter_shared_spec 𝓤 𝓛 𝓜 𝓡 wired =
     (and_then ! (get ! refl) (and_then ! (get ! refl) (and_then ! (get ! refl) (and_then ! (get ! refl) (no_more !)))))
     (λ u.
     use1 𝓛 (later (some (λ (res : Try). ((‵ (flft κ q) ⊛ ‵ ftrue) ⊛ ‵ ((TryAnswer κs).own_val res (u ∷ []))) ⊛
-    some (λ (vs : Lasts h.ended (κ, tt) z.0.3). ‵ (lasts h.ended (κ, tt) z.0.3 vs) ⊛ ‵ (LendsPointed k n j r res) ⊛
-    raw (fact 𝓤 (IfOk res (λ w. w.collector.ghost_name ≡ r.ghost_name))) ⊛ raw
+    some (λ (vs : Lasts h.ended (κ, tt) z.0.3). ‵ (lasts h.ended (κ, tt) z.0.3 vs) ⊛
+    ‵ (CollectorEnds (Ends r.now) r res) ⊛ raw (fact 𝓤 (IfOk res (λ w. w.collector.ghost_name ≡ r.ghost_name))) ⊛ raw
     (fact 𝓤 (IfOk res (OpensSharedAt k n j r.now))) ⊛
     raw (fact 𝓤 (IfErr res (λ w. AnswersShared k n j r.now (answer_without_visitor w)))))))) (id⊢ 𝓤 _) $
     await ! tt $ pick ! (λ res. split ! $ split ! $ move ! (2 ∷ []) $ pick ! (λ vs. split ! $ drop ! $ split ! $
     move ! (1 ∷ []) $ split ! $ heard ! _ (λ _. split ! $ heard ! _ (λ content. heard ! _ (λ refused.
     -- [what the part ends as; the token; the answer; the other tokens; what self ends as]
-    let Ends = λ (m : maybe.Option GName). ‵ (follows_so (visitor_row (record { mir = named 1; lft = [] }))
-    collector_row s.ghost_name m (EndsWith s.now (transpose res)) (EndsWithout k n j s.now (transpose res))) in
-    move ! (4 ∷ 0 ∷ []) $ use2 𝓛 (Ends (name_if_ok (λ w. w.collector.ghost_name) res))
-    (nest 𝓛 (visitor_row (record { mir = named 1; lft = [] })) collector_row (with_state s.now) s.ghost_name r.ghost_name
-    (λ w x'. OnOk res (x' ≡ w)) (λ x'. OnErr res (IfErr res (λ w. OpensShared k n j r.now (answer_without_visitor w) x')))
-    (EndsWith s.now (transpose res)) (EndsWithout k n j s.now (transpose res)) (ends_with s.now res)
-    (ends_without k n j s.now r.now same res)
-    (name_if_ok (λ w. w.collector.ghost_name) res)) $
-    rewrite ! 0 Ends (same_name res) refl $
+    move ! (4 ∷ 0 ∷ []) $ use2 𝓛 (‵ (VisitorEnds (Ends s.now.collector.now) s res)) (lent_on 𝓛 Ends s r same res) $
     move ! (2 ∷ []) $ peeks ! (TryAnswer κs) _ (shows 𝓛 (TryAnswer κs)) res (u ∷ []) (λ known.
     let good = (((result_laws _ _ (visitor_laws (named_lft 2 0 tt κs)) (option_laws _ refusal_laws)).lawful 𝓛).typed res
     (u ∷ []) known).0 in
@@ -171,8 +120,8 @@ enter_shared_spec 𝓤 𝓛 𝓜 𝓡 wired =
     calls_at ! fm T (t-met.met 𝓤 𝓛 𝓜 𝓡 (code.calls-allocative::visitor::transpose 𝓡.env wired)) b
     (and_then ! (get ! refl) (no_more !)) (λ o.
     use1 𝓛 (later (some (λ (out : Given). ((‵ (flft κ q) ⊛ ‵ ftrue) ⊛ ‵ ((SharedAnswer κs).own_val out (o ∷ []))) ⊛
-    some (λ (us : Lasts t.ended (κ, tt) b.0.3). ‵ (lasts t.ended (κ, tt) b.0.3 us) ⊛ raw (fact 𝓤 (out ≡ transpose res))))))
-    (id⊢ 𝓤 _) $
+    some (λ (us : Lasts t.ended (κ, tt) b.0.3). ‵ (lasts t.ended (κ, tt) b.0.3 us) ⊛
+    raw (fact 𝓤 (visitor_or out ≡ res)))))) (id⊢ 𝓤 _) $
     await ! tt $ pick !
     (λ out. split ! $ split ! $ move ! (2 ∷ []) $ pick ! (λ us. split ! $ drop ! $ heard ! _ (λ is_turned.
     -- [the token; the result; what self ends as; the other tokens]
@@ -181,20 +130,17 @@ enter_shared_spec 𝓤 𝓛 𝓜 𝓡 wired =
     (o ∷ []) said).0 in
     lands_as ! refl refl fine $ returns ! (look_at ! 0 refl) $ free_all ! refl $
     -- [the result; the token; what self ends as; the other tokens]
-    move ! (2 ∷ []) $ rewrite ! 0 (λ (g' : Given). ‵ (LendsShared k n j s g')) (sym is_turned) refl $
+    move ! (2 ∷ []) $ rewrite ! 0 (λ (x : Try). ‵ (VisitorEnds (Ends s.now.collector.now) s x)) (sym is_turned) refl $
     suffices ! _ (ends_at 𝓛 f.ended stayed c y o out (tt, (tt, (tt, (tt, tt)))) (tt, (tt, (tt, (tt, tt))))) $
     -- [what self ends as; the result; the token; the other tokens]
     move ! (2 ∷ []) $ split ! $ move ! (0 ∷ 4 ∷ []) $ join ! $ move ! (1 ∷ []) $ nothing ! $ fjoin ! $ nothing ! $
     fjoin ! $ nothing ! $ fjoin ! $ nothing ! $ fjoin ! $
     -- [nothing of the parameters; the tokens; what self ends as; the result]
     move ! (0 ∷ 3 ∷ []) $ join ! $ move ! (1 ∷ 0 ∷ []) $ join ! $ frame ! $
-    let entered = subst (λ (x : State). IfOk res (OpensSharedAt k n j x)) same content in
+    let P : State → Try → Type 0 = λ x y. IfOk y (OpensSharedAt k n j x) in
+    let Q : State → Try → Type 0 = λ x y. IfErr y (λ o. AnswersShared k n j x (answer_without_visitor o)) in
     let shown : EntersShared k n j s.now out = record {
-      outer = shown_by (OpensSharedAt k n j s.now.collector.now) (λ v. v.outer ≡ no_outer) res out is_turned
-          (λ v h. h.0) entered;
-      entered = shown_by (OpensSharedAt k n j s.now.collector.now)
-          (λ v. OpensShared k n j s.now.collector.now (Ok true) v.collector.now) res out is_turned (λ v h. h.1) entered;
-      answer = rw is_turned (answer_at k n j res s.now.collector.now entered
-          (subst (λ (x : State). IfErr res (λ o. AnswersShared k n j x (answer_without_visitor o))) same refused));
+      entered = subst (P s.now.collector.now) (sym is_turned) (subst (λ (x : State). P x res) same content);
+      answer = subst (Q s.now.collector.now) (sym is_turned) (subst (λ (x : State). Q x res) same refused);
     } in
     says ! shown $ done !))))))))))))))))))))
