@@ -1,18 +1,17 @@
 -- The accounts of a ledger after one of them has changed.
-use Rattle.std.proofs.Common.{◌≡◌, ℕ, ◌+◌, ◌≤◌, false, List, Option, Some, None, refl, arith}
-use Rattle.std.proofs.Common.{subst, string_bytes, String, Global, true, option_map, Bool}
-use Rattle.allocative_service.proofs.Common.{AccountData, is_at, lookup}
-use Rattle.std.specs.BTreeMap.{BTreeMap, UpdatesBy, get_by_text, insert_entry}
+use Rattle.std.proofs.Common.{◌≡◌, ℕ, ◌+◌, ◌≤◌, false, List, Option, Some, None, refl, arith, string_bytes}
+use Rattle.std.proofs.Common.{String, Global, true, option_map, Bool}
+use Rattle.allocative_service.specs.AccountData.{AccountData, sum_of}
+use Rattle.std.specs.BTreeMap.{is_at, BTreeMap, UpdatesBy, get_by_text, insert_entry}
+use Rattle.std.specs.Map.{lookup, keys_of, set_value, update, values_of}
 use Rattle.std.specs.List.Sorted.{IsStrictlySortedBy}
 use Rattle.std.specs.List.{sum_by}
-use Rattle.std.specs.Map.{keys_of, set_value, update, values_of}
 use Rattle.std.specs.Option.{is_some, unwrap_or}
 use Rattle.std.specs.Str.{bytes_eq}
 use Rattle.std.specs.String.{string_cmp, string_cmp_total}
 use Rattle.std.proofs.lemmas.Map.Entries.{sum_by-insert_entry, sum_by-remove_entry, sum_by-set_value}
 use Rattle.std.proofs.lemmas.Map.Steps.{set_value_same}
 use Rattle.std.proofs.lemmas.Map.Text.{btree_map_updates_text, text_keys}
-use Rattle.allocative_service.specs.AccountData.{sum_of}
 
 -- Values by the names of tenants.
 abbrev ByName : Type 0 → Type 0
@@ -28,7 +27,7 @@ module _ {A : Type 0} where
   pub opened : (tenant : List ℕ) (name : String Global) (now : A) (old new : ByName A) → string_bytes name ≡ tenant →
       UpdatesBy string_cmp (string_cmp name) old new (Some now) → (other : List ℕ) →
       get_by_text new other ≡ update bytes_eq (get_by_text old) tenant (Some now) other
-  opened tenant name now old new same h other = subst (λ (t : List ℕ). get_by_text new other ≡ update bytes_eq (get_by_text old) t (Some now) other) same
+  opened tenant name now old new same h other = rw (← same)
       (btree_map_updates_text (string_bytes name) old new (Some now) h other)
 
   -- A new account without bytes leaves the sum as it is.

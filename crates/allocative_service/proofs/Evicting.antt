@@ -1,14 +1,12 @@
 -- What stays true while the least recently used entries are evicted.
 use Rattle.std.proofs.Common.{◌≡◌, ℕ, ◌+◌, ◌-◌, ◌<◌, ◌≤◌, Some, [], ◌∷◌, ◌++◌, length, take, sym, ap, ◌∙◌, subst, arith}
-use Rattle.std.proofs.Common.{append_assoc, All}
-use Rattle.allocative_service.proofs.Common.{values_of, Kept, Entries, bytes_of, KeepsRecent}
-use Rattle.std.proofs.lemmas.List.{map-append}
-use Rattle.std.proofs.lemmas.List.Elements.{All-take}
+use Rattle.std.proofs.Common.{append_assoc}
+use Rattle.std.specs.Map.{values_of}
+use Rattle.allocative_service.specs.declared.cache.Kept.{Kept}
+use Rattle.allocative_service.specs.Entries.{Entries, bytes_of, KeepsRecent, HandsBack, IsNeeded}
 use Rattle.std.proofs.lemmas.List.Sums.{sum_by-cons}
-use Rattle.std.proofs.Math.Seq.{take-append_seam}
 use Rattle.lru.specs.LruCache.{last_entry}
 use Rattle.lru.proofs.Pairs.{cut_end, last_of_push}
-use Rattle.allocative_service.specs.Entries.{HandsBack, IsNeeded}
 
 -- The bytes of a list are those of its first entry and of the rest.
 pub bytes_of-cons : {K V : Type 0} (e : K × Kept V) (es : Entries K V) → bytes_of (e ∷ es) ≡ e.1.bytes + bytes_of es
@@ -69,12 +67,3 @@ module _ {F K V : Type 0} (step : F → K → V → F → Type 0) (on_evict : F)
       let parts : rest ≡ others ++ r.gone = cc in
       let needed = subst (λ (y : K × Kept V). IsNeeded room (y ∷ others) r.gone) first r.needed in
       (others, ap (λ y. y ∷ others) first, record { gone = r.gone; parts = parts; needed = less_needed room k others r.gone fits needed; last = r.last; handed = r.handed })
-
--- What holds of all entries holds of those that stay.
-pub All-recent : {F K V : Type 0} (step : F → K → V → F → Type 0) (on_evict : F) (room : ℕ) (P : Kept V → Type 0)
-    (before after : Entries K V) → KeepsRecent step on_evict room before after → All P (values_of before) →
-    All P (values_of after)
-All-recent {F} {K} {V} step on_evict room P before after recent h =
-    let split = map-append (λ (e : K × Kept V). e.1) after recent.gone in
-    subst (All P) (take-append_seam (values_of after) (values_of recent.gone))
-    (All-take P _ _ (rw (recent.parts, split) at h))

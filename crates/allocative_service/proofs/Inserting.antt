@@ -1,16 +1,20 @@
 -- The entries after an insertion.
-use Rattle.std.proofs.Common.{◌≡◌, ℕ, ◌+◌, ◌<◌, ◌≤◌, Bool, Option, None, [], ◌∷◌, length, refl}
-use Rattle.std.proofs.Common.{ap, ◌∙◌, subst, arith, take_all}
-use Rattle.allocative_service.proofs.Common.{lookup, lookup_entry, remove_entry, values_of, Forest, Kept, Entries}
-use Rattle.allocative_service.proofs.Common.{bytes_of, Bounded, KeepsRecent, IsBounded, IsMeasured}
+use Rattle.std.proofs.Common.{◌≡◌, ℕ, ◌+◌, ◌<◌, ◌≤◌, Bool, Option, None, [], ◌∷◌, length, refl, ap, ◌∙◌, subst, arith}
+use Rattle.std.proofs.Common.{take_all, All}
+use Rattle.std.specs.Map.{lookup, lookup_entry, remove_entry, values_of}
+use Rattle.allocative.specs.Forest.{Forest}
+use Rattle.allocative_service.specs.declared.cache.Kept.{Kept}
+use Rattle.allocative_service.specs.Entries.{Entries, bytes_of, Bounded, KeepsRecent, IsBounded, IsMeasured, AreKept}
+use Rattle.allocative_service.specs.Entries.{kept, with_entries, stored_key, IsFigure, Inserts}
 use Rattle.std.specs.Option.{option_map, unwrap_or}
-use Rattle.std.proofs.lemmas.List.Elements.{All-cons}
+use Rattle.std.proofs.lemmas.List.{map-append}
+use Rattle.std.proofs.lemmas.List.Elements.{All-cons, All-take}
 use Rattle.std.proofs.lemmas.Map.Entries.{sum_by-remove_entry}
 use Rattle.std.proofs.lemmas.Map.Views.{All-map-remove_entry}
+use Rattle.std.proofs.Math.Seq.{take-append_seam}
 use Rattle.lru.specs.LruCache.{LruCache, put_entries}
 use Rattle.allocative_service.specs.declared.measure.Measure.{Measure}
-use Rattle.allocative_service.specs.Entries.{AreKept, kept, with_entries, stored_key, IsFigure, Inserts}
-use Rattle.allocative_service.proofs.Evicting.{bytes_of-cons, first_stays, All-recent}
+use Rattle.allocative_service.proofs.Evicting.{bytes_of-cons, first_stays}
 
 module _ {K V : Type 0} where
   -- Nothing is removed if no key passes the test.
@@ -56,7 +60,10 @@ module _ {K V : Type 0} {size : Option ℕ} {may_show : V → Forest → Type 0}
         bytes_of after ≤ most → AreKept size may_show m before n → AreKept size may_show m after most
     recent-kept {before} {after} {room} most recent within h = record {
       within = within;
-      measured = All-recent step on_evict room (IsMeasured size may_show m) before after recent h.measured;
+      measured =
+          let split = map-append (λ (e : K × Kept V). e.1) after recent.gone in
+          subst (All (IsMeasured size may_show m)) (take-append_seam (values_of after) (values_of recent.gone))
+          (All-take (IsMeasured size may_show m) _ _ (rw (recent.parts, split) at h.measured));
     }
 
 module _ {F K V : Type 0} {size : Option ℕ} {may_show : V → Forest → Type 0} {eq : K → K → Bool}

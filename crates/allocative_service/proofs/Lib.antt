@@ -1,4 +1,3 @@
-pub mod Common
 mod Accounts
 mod Each
 mod Evicting

@@ -1,15 +1,12 @@
 -- The bytes of a shelf after a value is kept, changed or removed.
-use Rattle.std.proofs.Common.{◌≡◌, ℕ, ◌+◌, ◌≤◌, Bool, List, Option, Some, None, IsSomeAnd, [], ◌∷◌, ap, arith, refl, sym, ◌∙◌}
-use Rattle.allocative_service.proofs.Common.{lookup, lookup_entry, remove_entry, Forest, Kept, Entries}
-use Rattle.allocative_service.proofs.Common.{bytes_of, IsMeasured}
-use Rattle.std.specs.Map.{set_value}
+use Rattle.std.proofs.Common.{◌≡◌, ◌+◌, Bool, List, Option, Some, None, IsSomeAnd, [], ◌∷◌, ap, arith, refl, sym, ◌∙◌}
+use Rattle.std.specs.Map.{lookup, lookup_entry, remove_entry, set_value}
+use Rattle.allocative_service.specs.declared.cache.Kept.{Kept}
+use Rattle.allocative_service.specs.Entries.{Entries, bytes_of}
 use Rattle.std.proofs.lemmas.Map.Entries.{sum_by-set_value}
 use Rattle.std.proofs.lemmas.Option.{same_Some}
 use Rattle.std.specs.Option.{option_map}
 use Rattle.lru.proofs.Pairs.{lookup-lookup_entry}
-use Rattle.std.proofs.lemmas.Map.Views.{All-values-set_value}
-use Rattle.allocative_service.specs.declared.measure.Measure.{Measure}
-use Rattle.allocative_service.specs.Entries.{AreKept, IsFigure}
 use Rattle.allocative_service.proofs.Inserting.{bytes_of-remove_entry, kept_within}
 use Rattle.allocative_service.proofs.Accounts.{sum_by-written}
 
@@ -40,16 +37,6 @@ module _ {K V : Type 0} where
       × (bytes_of (set_value test es w) + had.bytes ≡ bytes_of es + w.bytes)
   written_bytes test es had w is =
       (bytes_of-remove_entry test es (Some had) is, sum_by-set_value (λ (k : Kept V). k.bytes) test es had w (sym is))
-
-  -- With a changed value that has its figure the entries are kept.
-  pub changed-kept : {size : Option ℕ} {may_show : V → Forest → Type 0} {m : Measure} {es : Entries K V} {n : ℕ}
-      (test : K → Bool) (w : Kept V) (most : ℕ) → IsFigure size may_show m w.value w.bytes →
-      bytes_of (set_value test es w) ≤ most → AreKept size may_show m es n →
-      AreKept size may_show m (set_value test es w) most
-  changed-kept {size} {may_show} {m} {es} test w most figure within h = record {
-    within = within;
-    measured = All-values-set_value test (IsMeasured size may_show m) es w h.measured figure;
-  }
 
 -- The lemmas on the entries of a shelf after one of them was changed.
 pub ruleset changing = (bytes_of-remove_entry, kept_within, sum_by-written, remove_entry-set_value)

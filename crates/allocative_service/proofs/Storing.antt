@@ -1,10 +1,10 @@
 -- The shelves of a store after one of them has changed.
-use Rattle.std.proofs.Common.{◌≡◌, ℕ, ◌≤◌, Bool, List, String, Global, arith}
-use Rattle.std.proofs.Common.{option_map, refl, unwrap_or}
+use Rattle.std.proofs.Common.{◌≡◌, ℕ, ◌≤◌, Bool, List, String, Global, arith, option_map, refl, unwrap_or}
 use Rattle.std.proofs.lemmas.Map.Entries.{sum_by-remove_entry}
 use Rattle.std.proofs.lemmas.Map.Steps.{set_value_same}
 use Rattle.std.proofs.lemmas.Map.Text.{text_keys}
-use Rattle.allocative_service.proofs.Common.{bytes_of, lookup}
+use Rattle.allocative_service.specs.Entries.{bytes_of}
+use Rattle.std.specs.Map.{lookup}
 use Rattle.allocative_service.proofs.Accounts.{sum_by-written}
 use Rattle.allocative_service.specs.Shelf.{Shelved}
 use Rattle.allocative_service.specs.Store.{all_kept}

@@ -1,10 +1,9 @@
 -- The sum of an account's entries after each change of them.
 use Rattle.std.proofs.Common.{◌≡◌, ℕ, ◌+◌, ◌≤◌, Bool, List, [], ◌∷◌, None, arith, nat_cmp, refl, true}
-use Rattle.allocative_service.proofs.Common.{is_at, lookup, remove_entry}
-use Rattle.std.specs.BTreeMap.{insert_entry}
+use Rattle.std.specs.BTreeMap.{is_at, insert_entry}
+use Rattle.std.specs.Map.{lookup, remove_entry, keys_of, set_value}
 use Rattle.std.specs.Cmp.{nat_cmp_total}
 use Rattle.std.specs.List.Sorted.{IsStrictlySortedBy}
-use Rattle.std.specs.Map.{keys_of, set_value}
 use Rattle.std.specs.Option.{is_some, unwrap_or}
 use Rattle.allocative_service.proofs.Accounts.{sum_by-written}
 use Rattle.std.specs.declared.cmp.Ordering.TheVariants.{Less}

@@ -1,14 +1,15 @@
 -- Making an entry the most recently used changes no figure.
 use Rattle.std.proofs.Common.{◌≡◌, ℕ, ◌+◌, Bool, Option, Some, None, refl, sym, ap, arith, ◌∙◌, option_map}
-use Rattle.allocative_service.proofs.Common.{lookup_entry, remove_entry, values_of, Forest, Kept, Entries, bytes_of}
-use Rattle.allocative_service.proofs.Common.{IsMeasured}
+use Rattle.std.specs.Map.{lookup_entry, remove_entry, values_of}
+use Rattle.allocative.specs.Forest.{Forest}
+use Rattle.allocative_service.specs.declared.cache.Kept.{Kept}
+use Rattle.allocative_service.specs.Entries.{Entries, bytes_of, IsMeasured, AreKept}
 use Rattle.std.proofs.lemmas.List.Elements.{All-contains}
 use Rattle.std.proofs.lemmas.Map.Made.{Contains-values_of}
 use Rattle.lru.specs.LruCache.{promoted}
 use Rattle.lru.proofs.CallerLemmas.{Contains-lookup_entry}
 use Rattle.lru.proofs.Pairs.{lookup-lookup_entry}
 use Rattle.allocative_service.specs.declared.measure.Measure.{Measure}
-use Rattle.allocative_service.specs.Entries.{AreKept}
 use Rattle.allocative_service.proofs.Evicting.{bytes_of-cons}
 use Rattle.allocative_service.proofs.Inserting.{bytes_of-remove_entry, first-kept, none_removed, without-kept}
 
@@ -20,17 +21,17 @@ module _ {K V : Type 0} (test : K → Bool) (es : Entries K V) where
       (ap (option_map (λ (f : K × Kept V). f.1)) is ∙ lookup-lookup_entry test es)
 
   -- Using a key changes no bytes, and all entries stay kept.
-  pub promoted-kept : {size : Option ℕ} {may_show : V → Forest → Type 0} {m : Measure} {n : ℕ} →
-      AreKept size may_show m es n →
-      (bytes_of (promoted test es) ≡ bytes_of es) × AreKept size may_show m (promoted test es) n
-  promoted-kept {size} {may_show} {m} {n} h = (elim (lookup_entry test es) as (λ o. lookup_entry test es ≡ o → (bytes_of (promoted test es) ≡ bytes_of es) × AreKept size may_show m (promoted test es) n) [
-    | None ↦ λ none. rw none (refl, h)
+  pub promoted-kept : {C : Type 0} {size : Option ℕ} {may_show : V → Forest → Type 0} {m : Measure} {n bytes : ℕ} →
+      C × (bytes ≡ bytes_of es) × AreKept size may_show m es n →
+      C × (bytes ≡ bytes_of (promoted test es)) × AreKept size may_show m (promoted test es) n
+  promoted-kept {C} {size} {may_show} {m} {n} {bytes} (known, is, h) = (elim (lookup_entry test es) as (λ o. lookup_entry test es ≡ o → C × (bytes ≡ bytes_of (promoted test es)) × AreKept size may_show m (promoted test es) n) [
+    | None ↦ λ none. rw none (known, is, h)
     | Some e ↦ λ some.
         let sum = bytes_of-taken e (sym some) in
         let first = bytes_of-cons e (remove_entry test es) in
         let it = All-contains (IsMeasured size may_show m) (values_of es) e.1 h.measured
         (Contains-values_of es e.0 e.1 (Contains-lookup_entry test es e some).0) in
-        rw some (omega (arith, sum, first), first-kept e n it (omega (arith, sum, h.within)) (without-kept test h))
+        rw some (known, omega (arith, is, sum, first), first-kept e n it (omega (arith, sum, h.within)) (without-kept test h))
   ]) refl
 
 -- The entry of a key and a value that were found.

@@ -1,5 +1,5 @@
 -- What a ledger holds, and how its calls change it.
-use Rattle.std.specs.Prelude.{◌≡◌, ◌≢◌, ℕ, ◌+◌, ◌-◌, ◌^◌, ◌≤◌, List, Option, Some, None, String}
+use Rattle.std.specs.Prelude.{◌≡◌, ◌≢◌, ℕ, ◌+◌, ◌-◌, ◌^◌, ◌≤◌, List, Option, Some, String}
 use Rattle.std.specs.Prelude.{max, unwrap_or, IsSomeAnd}
 use Rattle.std.specs.BTreeMap.{get_by_text}
 use Rattle.std.specs.Global.{Global}
@@ -94,13 +94,6 @@ Enters tenant number bytes had old = EntersWithin (λ h. h.limit) (limit_of old)
 -- `total`. Neither limit is exceeded by more than growth exceeded it by.
 abbrev pub Lowers : List ℕ → ℕ → ℕ → Option ℕ → Ledger → Ledger → ℕ → Type 0
 Lowers tenant number bytes had old = EntersWithin most_of (all_most_of old) tenant number bytes had old
-
--- In the tenant's account, the number now has these bytes in place of `had`: with `most` within the limit of the
--- account, and all accounts together within `most`, and otherwise also beyond.
-abbrev pub StoresBy : Option ℕ → List ℕ → ℕ → ℕ → Option ℕ → Ledger → Ledger → ℕ → Type 0
-StoresBy (Some most) tenant number bytes had old new total =
-    EntersWithin (λ h. h.limit) most tenant number bytes had old new total
-StoresBy None tenant number bytes had old new total = Stores tenant number bytes had old new total
 
 -- The standing has the bytes of the tenant's account, what of them exceeds its limit, and what of the bytes of all
 -- accounts exceeds the limit of the ledger.

@@ -86,10 +86,6 @@ pub record GrewMost (n : ℕ) (cs top : List Changed) : Type 0 where
 abbrev pub line_of : Changed → List ℕ
 line_of c = decimal c.earlier ++ codes " -> " ++ decimal c.later ++ 32 ∷ joined c.path ++ 10 ∷ []
 
--- The lines of some changes.
-abbrev pub lines_of : List Changed → List ℕ
-lines_of cs = flat_map line_of cs
-
 -- The line of all changes together: the bytes of those that grew, and of those that shrank.
 abbrev pub total_line : List Changed → List ℕ
 total_line cs = decimal (sum_by growth cs) ++ (codes " bytes more, "
@@ -99,4 +95,4 @@ total_line cs = decimal (sum_by growth cs) ++ (codes " bytes more, "
 pub record Reports (cs : List Changed) (text : List ℕ) : Type 0 where
   pub list : List Changed
   pub by_growth : IsByGrowth cs list
-  pub is : text ≡ total_line cs ++ lines_of list
+  pub is : text ≡ total_line cs ++ flat_map line_of list

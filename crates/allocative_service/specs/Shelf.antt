@@ -40,11 +40,6 @@ shelf_grown es s = shelved es s.limit (max s.overgrown (bytes_of es - s.limit)) 
 abbrev pub bytes_under : {K V : Type 0} → (K → Bool) → Shelved K V → ℕ
 bytes_under test s = unwrap_or (option_map (λ k. k.bytes) (lookup test s.entries)) 0
 
--- The most bytes that a value under the key that passes the test may have so that those of all values of all shelves,
--- which are `all`, still fit a word.
-abbrev pub word_room : {K V : Type 0} → (K → Bool) → ℕ → Shelved K V → ℕ
-word_room test all s = 2 ^ 64 - 1 - (all - bytes_under test s)
-
 module _ {V : Type 0} (size : Option ℕ) (may_show : V → Forest → Type 0) where
   -- Why the bytes of v are not entered, where there is this room for them: v could not be measured, as the measure says,
   -- or a figure of v exceeds the room.
@@ -89,4 +84,5 @@ module _ {V : Type 0} (size : Option ℕ) (may_show : V → Forest → Type 0) w
     -- or a figure of it, with the bytes of all other values, does not fit a word. The refusal has the key and the value.
     abbrev pub RefusesChanged : Bool → (K → Bool) → (V → V → Type 0) → ℕ → Shelved K V → Refused K V Rejection → Type 0
     RefusesChanged is_strict test changed all s r = (had : Kept V) × (lookup_entry test s.entries ≡ Some (r.key, had))
-        × changed had.value r.value × RefusesFigure is_strict s.measure (word_room test all s) r.value r.error
+        × changed had.value r.value
+        × RefusesFigure is_strict s.measure (2 ^ 64 - 1 - (all - bytes_under test s)) r.value r.error

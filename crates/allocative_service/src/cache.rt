@@ -5,7 +5,7 @@ ghost use Rattle.std.specs.Borrow.{sem};
 ghost use Rattle.std.specs.List.{IsDistinct};
 ghost use Rattle.std.specs.Map.{lookup_entry, remove_entry, keys_of};
 ghost use Rattle.std.specs.Map.Iter.{ShowsInOrder, deref_pair};
-ghost use Rattle.allocative_service.specs.Entries.{bytes_of, KeepsRecent, bounded, with_entries, IsBounded, Inserts, Changes, IsFigure, RefusesInsert, RefusesChange, stored_key, entry_at, value_at, used, without, ends_as, step_of, ChangesTo};
+ghost use Rattle.allocative_service.specs.Entries.{bytes_of, KeepsRecent, bounded, with_entries, IsBounded, Inserts, Changes, RefusesInsert, RefusesChange, stored_key, entry_at, value_at, used, without, ends_as, step_of, ChangesTo};
 
 pub mod error;
 mod shown;
@@ -163,8 +163,9 @@ impl<K: Eq + Hash + Drop, V: Allocative + Described, S: BuildHasher + Drop> Boun
         ensures err { OnErr result (self.new ≡ self.old) }
         ensures bounded { IsBounded V.size V.may_show self.new }
     {
-        let (error, key, value) = match self.figure_of(&value) {
-            Ok(bytes) => match put(&mut self.entries, key, Kept { value, bytes }) {
+        let room = self.bound;
+        let (error, key, value) = match self.measure.size_of(self.alloc, &value) {
+            Ok(bytes) if bytes <= room => match put(&mut self.entries, key, Kept { value, bytes }) {
                 Ok((had, replaced)) => {
                     let all = (self.bytes - replaced) as u128 + bytes as u128;
                     self.bytes = evict(&mut self.entries, all, self.bound, on_evict);
@@ -172,27 +173,10 @@ impl<K: Eq + Hash + Drop, V: Allocative + Described, S: BuildHasher + Drop> Boun
                 }
                 Err(AllocFailed { value: (key, kept) }) => (CacheError::Memory, key, kept.value),
             },
-            Err(error) => (error, key, value),
+            Ok(bytes) => (CacheError::TooLarge { bytes, bound: room }, key, value),
+            Err(refusal) => (CacheError::NotMeasured(refusal), key, value),
         };
         Err(Refused { error, key, value })
-    }
-
-    /// The declared bytes of a value, if they are within the bound. The error is `NotMeasured` or `TooLarge`.
-    fn figure_of(&self, value: &V) -> Result<usize, CacheError>
-        ensures figure { IfOk result (IsFigure V.size V.may_show self.now.measure value.now) }
-        ensures fits { IfOk result (λ bytes. bytes ≤ self.now.bound) }
-        ensures refused { IfErr result
-            (RefusesInsert V.size V.may_show V.is_strict value.now self.now.measure self.now.bound) }
-    {
-        let bound = self.bound;
-        let bytes = match self.measure.size_of(self.alloc, value) {
-            Ok(bytes) => bytes,
-            Err(refusal) => return Err(CacheError::NotMeasured(refusal)),
-        };
-        if bytes > bound {
-            return Err(CacheError::TooLarge { bytes, bound });
-        }
-        Ok(bytes)
     }
 
     /// Removes the key and returns it with its value. If there is no such key, it returns None and nothing changes.
@@ -276,8 +260,7 @@ impl<K: Eq + Hash + Drop, V: Allocative + Described, S: BuildHasher + Drop> Boun
     pub fn peek(&self, key: &K) -> Option<&V>
         ensures { option_copied result ≡ value_at (K.eq key.now) self.now.entries }
     {
-        let kept = self.entries.peek(key)?;
-        Some(&kept.value)
+        Some(&self.entries.peek(key)?.value)
     }
 
     /// Makes the value under the key the most recently used. It returns whether the cache has the key.

@@ -74,9 +74,7 @@ impl History {
     pub fn pair(&self, earlier: usize, later: usize) -> Option<(&FlameGraph, &FlameGraph)>
         ensures { option_map deref_pair result ≡ two_of self.now earlier later }
     {
-        let earlier = self.profiles.get(earlier)?;
-        let later = self.profiles.get(later)?;
-        Some((earlier, later))
+        Some((self.profiles.get(earlier)?, self.profiles.get(later)?))
     }
 
     /// The changes between two profiles by their places, as `compare` returns them. It is None if one of the places
@@ -99,8 +97,7 @@ impl History {
         let Some((earlier, later)) = self.pair(earlier, later) else {
             return Ok(None);
         };
-        let changes = compare(alloc, earlier, later)?;
-        Ok(Some(changes))
+        Ok(Some(compare(alloc, earlier, later)?))
     }
 
     /// The changes of the paths that grew most between the last two profiles, as the function `grew_most` picks them.
@@ -115,7 +112,6 @@ impl History {
         let Some(changes) = self.between(alloc, 1, 0)? else {
             return Ok(None);
         };
-        let top = grew_most(alloc, changes.as_slice(), count)?;
-        Ok(Some(top))
+        Ok(Some(grew_most(alloc, changes.as_slice(), count)?))
     }
 }

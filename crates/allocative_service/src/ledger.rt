@@ -45,7 +45,7 @@ pub struct Ledger {
 }
 
 impl Ledger {
-    ghost use Rattle.allocative_service.specs.Accounts.{account_of, accounts_of, all_most_of, entry_of, limit_of, measure_of, overgrown_of, total_of, ChangesAccount, Enters, IsUnchanged, Lowers, MapsAccount, RejectsGrowth, RejectsNewBytes, RejectsPut, Releases, StandsAt, Stores, StoresBy};
+    ghost use Rattle.allocative_service.specs.Accounts.{account_of, accounts_of, all_most_of, entry_of, limit_of, measure_of, overgrown_of, total_of, ChangesAccount, Enters, IsUnchanged, Lowers, MapsAccount, RejectsGrowth, RejectsNewBytes, RejectsPut, Releases, StandsAt, Stores};
     ghost use Rattle.allocative_service.specs.AccountData.{IsLargest, IsSummed, bytes_at, most_of, new_account, sum_of, with_limit, with_peak_reset, with_soft_limit};
     ghost use Rattle.allocative_service.specs.Measured.{Declares};
     ghost use Rattle.allocative_service.specs.Rejected.{IsLedgerFull, RejectsBy, RejectsChange, RejectsCredit, RejectsIn, RejectsLimit, RejectsMeasured, RejectsNew, RejectsOpening};
@@ -169,8 +169,7 @@ impl Ledger {
         ensures none { IfNone result (account_of tenant.now self.old ≡ None) }
         ensures unchanged { IfNone result (IsUnchanged self.old self.new) }
     {
-        let account = self.accounts.get_mut(tenant)?;
-        account.set_soft_limit(bytes);
+        self.accounts.get_mut(tenant)?.set_soft_limit(bytes);
         Some(())
     }
 
@@ -179,8 +178,7 @@ impl Ledger {
         ensures { MatchOption (account_of tenant.now self.now) (result ≡ None)
             (λ h. IsSomeAnd result (λ over. IsTrue over ↔ (h.soft_limit < sum_of h.entries))) }
     {
-        let account = self.accounts.get(tenant)?;
-        Some(account.is_over())
+        Some(self.accounts.get(tenant)?.is_over())
     }
 
     /// All accounts, in the order of the tenants' names.
@@ -196,8 +194,7 @@ impl Ledger {
         ensures { MatchOption (account_of tenant.now self.now) (result ≡ None)
             (λ account. IsSomeAnd result (λ bytes. IsSummed bytes account)) }
     {
-        let account = self.accounts.get(tenant)?;
-        Some(account.bytes())
+        Some(self.accounts.get(tenant)?.bytes())
     }
 
     /// By how many bytes all entries of the tenant exceed its limit. It is 0 unless growth was entered that exceeded it.
@@ -205,8 +202,7 @@ impl Ledger {
     pub fn excess_of(&self, tenant: &str) -> Option<usize>
         ensures { result ≡ option_map (λ h. sum_of h.entries - h.limit) (account_of tenant.now self.now) }
     {
-        let account = self.accounts.get(tenant)?;
-        Some(account.excess())
+        Some(self.accounts.get(tenant)?.excess())
     }
 
     /// The most bytes that the tenant ever had, since its account was opened or its peak was reset. None if the tenant
@@ -214,8 +210,7 @@ impl Ledger {
     pub fn peak_of(&self, tenant: &str) -> Option<usize>
         ensures { result ≡ option_map (λ h. h.peak) (account_of tenant.now self.now) }
     {
-        let account = self.accounts.get(tenant)?;
-        Some(account.peak())
+        Some(self.accounts.get(tenant)?.peak())
     }
 
     /// The number and the bytes of the tenant's entry with the most bytes; of equals, of the one with the lowest number.
@@ -235,8 +230,7 @@ impl Ledger {
         ensures reset { OnSome result (MapsAccount tenant.now with_peak_reset self.old self.new) }
         ensures unchanged { IfNone result (IsUnchanged self.old self.new) }
     {
-        let account = self.accounts.get_mut(tenant)?;
-        Some(account.reset_peak())
+        Some(self.accounts.get_mut(tenant)?.reset_peak())
     }
 
     /// Measures a value of any type, adds an entry with its bytes for the tenant, under a number that has none, and
@@ -418,7 +412,9 @@ impl Ledger {
         requires { F.IsAlwaysCallable bytes_of }
         ensures stored { IfOk result (λ s. (bytes : ℕ)
             × F.post bytes_of (entry_of tenant.now number self.old) (Ok bytes)
-            × StoresBy most tenant.now number bytes (entry_of tenant.now number self.old) self.old self.new s.bytes) }
+            × Stores tenant.now number bytes (entry_of tenant.now number self.old) self.old self.new s.bytes
+            × IfSome most (λ m. IsSomeAnd (account_of tenant.now self.old) (λ h. s.bytes ≤ h.limit)
+            × (total_of self.new ≤ m))) }
         ensures standing { IfOk result (StandsAt tenant.now self.new) }
         ensures part { unwrap_or (entry_of tenant.now number self.old) 0 ≤ total_of self.old }
         ensures within { OnOk result

@@ -245,8 +245,7 @@ impl<K: Eq + Hash + Drop, V: Allocative + Described> Shelf<K, V> {
     pub fn get(&self, key: &K) -> Option<&V>
         ensures { option_copied result ≡ value_at (K.eq key.now) self.now.entries }
     {
-        let kept = self.entries.peek(key)?;
-        Some(&kept.value)
+        Some(&self.entries.peek(key)?.value)
     }
 
     /// The keys with their values and bytes, the one put last first.

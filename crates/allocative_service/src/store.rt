@@ -181,11 +181,8 @@ impl<K: Eq + Hash + Drop, V: Allocative + Described> Store<K, V> {
         ensures err { OnErr result (self.new ≡ self.old) }
     {
         let Some(shelf) = self.shelves.get_mut(tenant) else {
-            return Err(Refused {
-                error: Rejection::NoAccount,
-                key,
-                value,
-            });
+            let error = Rejection::NoAccount;
+            return Err(Refused { error, key, value });
         };
         let rest = self.bytes - shelf.bytes();
         let kept = shelf.put(key, value, self.bytes, self.limit);

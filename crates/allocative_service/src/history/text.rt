@@ -42,6 +42,5 @@ fn push_line(change: &Change, text: &mut String) -> Result<(), AllocError>
     let (earlier, later) = (change.earlier, change.later);
     write!(text, "{earlier} -> {later} ")?;
     push_path(change.path.as_slice(), text)?;
-    text.push('\n')?;
-    Ok(())
+    text.push('\n')
 }

@@ -1,7 +1,5 @@
 //! The bytes of one tenant's entries, and their limit.
 ghost use Rattle.std.specs.Prelude.{◌≡◌, ℕ, ◌+◌, ◌-◌, ◌^◌, ◌<◌, ◌≤◌, ◌↔◌, [], Some, None, Ok, MatchOption, IsSome, IsTrue, IfOk, IfErr, IfNone, OnOk, OnErr, unwrap_or};
-ghost use Rattle.std.specs.BTreeMap.{get, insert_entry};
-ghost use Rattle.std.specs.Ordering.{nat_cmp};
 ghost use Rattle.allocative_service.specs.AccountData.{IsLargest, IsSummed, bytes_at, most_of, new_account, sum_of, with_limit, with_peak_reset, with_soft_limit, without, Puts};
 ghost use Rattle.allocative_service.specs.Rejected.{HasRoom, RejectsAdded, RejectsBy, RejectsChange, RejectsLimit, RejectsNew, RejectsRoom};
 
@@ -25,7 +23,8 @@ pub struct Account {
 }
 
 impl Model for Account {
-    ghost use Rattle.allocative_service.specs.AccountData.{AccountData, IsSummed};
+    ghost use Rattle.std.specs.Prelude.{◌≡◌, ◌+◌, ◌≤◌};
+    ghost use Rattle.allocative_service.specs.AccountData.{AccountData, sum_of};
 
     ghost Value = { AccountData };
 
@@ -37,13 +36,8 @@ impl Model for Account {
       entries = a.entries.entries;
     } };
 
-    ghost invariant = { λ a. IsSummed a.bytes (record {
-      limit = a.budget.limit;
-      soft_limit = a.soft_limit;
-      peak = a.peak;
-      overgrown = a.overgrown;
-      entries = a.entries.entries;
-    }) };
+    ghost invariant = { λ a. (a.bytes ≡ sum_of a.entries.entries) × (a.bytes ≤ a.budget.limit + a.overgrown)
+        × (a.bytes ≤ a.peak) };
 }
 
 impl Account {
@@ -227,10 +221,11 @@ impl Account {
 
     /// Stores under the number the bytes that `bytes_of` makes of those that it has, if there is room. It returns the
     /// bytes of all entries together. All accounts have `all` bytes together and may have `most`; without `most` no
-    /// limit counts.
+    /// limit counts. A number that is there is searched once.
     ///
-    /// The errors are those of `put_entry`. After one the account is unchanged.
-    #[tactic(auto, using(crate::proofs::Sums::sums))]
+    /// The error is that of `bytes_of`, otherwise that of `Budget::check_room`, and otherwise `NotKept` if the number has
+    /// no entry and memory runs out. After it the account is unchanged.
+    #[tactic(auto, using(crate::proofs::Sums::puts))]
     pub(crate) fn put_with<F: FnOnce(Option<usize>) -> Result<usize, Rejection>>(
         &mut self,
         number: u64,
@@ -250,19 +245,26 @@ impl Account {
             (sum_of self.old.entries) self.old.limit) }
         ensures unchanged { OnErr result (self.new ≡ self.old) }
     {
-        let total = put_entry(
-            &mut self.entries,
-            number,
-            self.budget,
-            self.bytes,
-            all,
-            most,
-            bytes_of,
-        )?;
-        self.bytes = total;
-        self.peak = self.peak.max(total);
-        self.overgrown = self.overgrown.max(total.saturating_sub(self.budget.limit));
-        Ok(total)
+        let (sum, budget) = (self.bytes, self.budget);
+        let Some(entry) = self.entries.get_mut(&number) else {
+            let bytes = bytes_of(None)?;
+            budget.check_room(sum, all, most, 0, bytes)?;
+            let Ok(_none) = self.entries.insert(number, bytes) else {
+                return Err(Rejection::NotKept);
+            };
+            self.bytes = sum + bytes;
+            self.peak = self.peak.max(self.bytes);
+            self.overgrown = self.overgrown.max(self.bytes.saturating_sub(budget.limit));
+            return Ok(self.bytes);
+        };
+        let had = *entry;
+        let bytes = bytes_of(Some(had))?;
+        budget.check_room(sum, all, most, had, bytes)?;
+        *entry = bytes;
+        self.bytes = sum - had + bytes;
+        self.peak = self.peak.max(self.bytes);
+        self.overgrown = self.overgrown.max(self.bytes.saturating_sub(budget.limit));
+        Ok(self.bytes)
     }
 
     /// Removes the entry under the number. It returns the bytes of the entry, or None if there is none. The peak stays.
@@ -277,46 +279,4 @@ impl Account {
         self.bytes -= bytes;
         Some(bytes)
     }
-}
-
-/// Stores under the number the bytes that `bytes_of` makes of those that it has, if there is room. It returns the bytes of
-/// all entries together, which were `sum`. A number that is there is searched once.
-///
-/// The error is that of `bytes_of`, otherwise that of `Budget::check_room`, and otherwise `NotKept` if the number has no
-/// entry and memory runs out. After it the entries are unchanged.
-#[tactic(auto, using(crate::proofs::Sums::puts))]
-fn put_entry<F: FnOnce(Option<usize>) -> Result<usize, Rejection>>(
-    entries: &mut BTreeMap<u64, usize>,
-    number: u64,
-    budget: Budget,
-    sum: usize,
-    all: usize,
-    most: Option<usize>,
-    bytes_of: F,
-) -> Result<usize, Rejection>
-    requires called { F.IsAlwaysCallable bytes_of }
-    requires sum { sum ≡ sum_of entries.old.entries }
-    requires within { sum ≤ all }
-    ensures put { IfOk result (λ total. (bytes : ℕ) × F.post bytes_of (get nat_cmp entries.old number) (Ok bytes)
-        × HasRoom all most sum budget.limit (unwrap_or (get nat_cmp entries.old number) 0) bytes
-        × (entries.new.entries ≡ insert_entry nat_cmp entries.old.entries number bytes)
-        × (total + unwrap_or (get nat_cmp entries.old number) 0 ≡ sum + bytes)) }
-    ensures sum { IfOk result (λ total. total ≡ sum_of entries.new.entries) }
-    ensures rejected { IfErr result
-        (RejectsBy all most (F.post bytes_of) (get nat_cmp entries.old number) sum budget.limit) }
-    ensures unchanged { OnErr result (entries.new.entries ≡ entries.old.entries) }
-{
-    let Some(entry) = entries.get_mut(&number) else {
-        let bytes = bytes_of(None)?;
-        budget.check_room(sum, all, most, 0, bytes)?;
-        let Ok(_none) = entries.insert(number, bytes) else {
-            return Err(Rejection::NotKept);
-        };
-        return Ok(sum + bytes);
-    };
-    let had = *entry;
-    let bytes = bytes_of(Some(had))?;
-    budget.check_room(sum, all, most, had, bytes)?;
-    *entry = bytes;
-    Ok(sum - had + bytes)
 }

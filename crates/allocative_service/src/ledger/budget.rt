@@ -23,11 +23,9 @@ impl Budget {
         ensures within { IfOk result (λ checked. (checked ≡ bytes) × (bytes ≤ self.now.limit)) }
         ensures over { IfErr result (IsOverBudget bytes self.now.limit) }
     {
-        if bytes > self.limit {
-            return Err(Rejection::OverBudget {
-                bytes,
-                limit: self.limit,
-            });
+        let limit = self.limit;
+        if bytes > limit {
+            return Err(Rejection::OverBudget { bytes, limit });
         }
         Ok(bytes)
     }
@@ -83,7 +81,6 @@ impl Budget {
         ensures rejected { IfErr result
             (RejectsValue measure T.is_strict T.size (T.may_show value.now) self.now.limit) }
     {
-        let bytes = measure.size_of(alloc, value)?;
-        self.check(bytes)
+        self.check(measure.size_of(alloc, value)?)
     }
 }

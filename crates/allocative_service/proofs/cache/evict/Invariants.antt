@@ -1,6 +1,6 @@
 -- What evicting leaves so far, and each round removes an entry.
 use Rattle.std.proofs.Common.{◌≡◌, length}
-use Rattle.allocative_service.proofs.Common.{bytes_of}
+use Rattle.allocative_service.specs.Entries.{bytes_of}
 use Rattle.allocative_service.proofs.Evicting.{Evicts}
 use Rattle.allocative_service.proofs.cache.evict.Given as goal
 

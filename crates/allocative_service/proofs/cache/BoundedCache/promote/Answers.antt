@@ -1,10 +1,8 @@
 -- The fields of the cache after `LruCache::promote`.
-use Rattle.std.proofs.Common.{◌∙◌, sym}
 use Rattle.allocative_service.proofs.Using.{promoted-kept}
 use Rattle.allocative_service.proofs.cache.BoundedCache.promote.Goals as goal
 
 -- The cache keeps its sum and its bound.
 pub invariant_of-self : goal.invariant_of-self
-invariant_of-self g c =
-    let p = promoted-kept (g.K.PartialEq.eq c.args.key.now) c.self.inside.entries.entries c.self.invariant.2 in
-    rw c.promote.ensures.entries (c.self.invariant.0, c.self.invariant.1 ∙ sym p.0, p.1)
+invariant_of-self g c = rw c.promote.ensures.entries
+    (promoted-kept (g.K.PartialEq.eq c.args.key.now) c.self.inside.entries.entries c.self.invariant)

@@ -1,6 +1,6 @@
 -- of History::take_profile: taken
 use Rattle.std.proofs.Common.{◌∷◌, take, ap, ◌∙◌}
-use Rattle.allocative_service.proofs.Common.{Graph}
+use Rattle.allocative.specs.Graph.{Graph}
 use Rattle.allocative_service.proofs.history.History.take_profile.Goals as goal
 
 -- The profile of the value is kept as the latest.

@@ -1,7 +1,6 @@
 -- of sorted: the invariant of its loop
 use Rattle.std.proofs.Common.{◌≡◌, cond, map, take, filter, All}
-use Rattle.allocative_service.proofs.Common.{change_data, is_grown}
-use Rattle.allocative_service.specs.Changes.{IsWord}
+use Rattle.allocative_service.specs.Changes.{change_data, is_grown, IsWord}
 use Rattle.allocative_service.proofs.history.changes.sorted.Given as goal
 
 -- The list has the changes so far, or those that grew, and the later bytes of each fit a word.

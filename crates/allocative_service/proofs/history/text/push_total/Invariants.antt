@@ -1,7 +1,6 @@
 -- of push_total: the invariant of its loop
 use Rattle.std.proofs.Common.{◌≡◌, ◌*◌, ◌^◌, ◌≤◌, map, take, sum_by}
-use Rattle.allocative_service.proofs.Common.{change_data}
-use Rattle.allocative_service.specs.Changes.{growth, shrinkage}
+use Rattle.allocative_service.specs.Changes.{change_data, growth, shrinkage}
 use Rattle.allocative_service.proofs.history.text.push_total.Given as goal
 
 -- The bytes of the changes so far are added up. Each change has less than a word.

@@ -1,11 +1,10 @@
 -- of push_changes: what push_changes requires, its loop and changes
 use Rattle.std.proofs.Common.{◌≡◌, refl, ℕ, ◌==◌, ◌++◌, [], ◌∷◌, List, Bor, cond, map, arith, ap, sym, ◌∙◌}
 use Rattle.std.proofs.Common.{append_assoc, append-nil}
-use Rattle.allocative_graph.proofs.Common.{Graph, Path, entries, len, map-append, node}
-use Rattle.allocative_graph.proofs.Common.{size_at, sum_of}
+use Rattle.allocative_graph.proofs.Common.{Graph, Path, entries, len, map-append, node, size_at, sum_of}
 use Rattle.allocative_graph.proofs.Nodes.{rows_of_node}
 use Rattle.allocative_graph.proofs.Text.{texts, popped}
-use Rattle.allocative_service.proofs.Common.{Changed, change_data}
+use Rattle.allocative_service.specs.Changes.{Changed, change_data}
 use Rattle.allocative_service.specs.Walk.{changes_behind}
 use Rattle.allocative_service.proofs.Walk.{step_at, walk_begins, walk_on, walk_ends}
 use Rattle.allocative_service.proofs.history.walk.+push_changes.Goals as goal

@@ -2,7 +2,7 @@
 use Rattle.std.proofs.Common.{◌≡◌, ◌+◌, ◌≤◌, ◌++◌, List, length, map}
 use Rattle.std.specs.FinMap.{len}
 use Rattle.allocative.specs.Rows.{rows_of}
-use Rattle.allocative_service.proofs.Common.{change_data, Changed}
+use Rattle.allocative_service.specs.Changes.{change_data, Changed}
 use Rattle.allocative_service.proofs.Walk.{Walks}
 use Rattle.allocative_service.proofs.history.walk.+push_changes.Given as goal
 

@@ -1,10 +1,10 @@
 -- of Shelf::change: invariants, and what it ensures after a change and after a refusal
 use Rattle.std.proofs.Common.{◌≡◌, ◌∙◌, ℕ, ◌-◌, None, Some, ap, arith, max, rules, sym}
 use Rattle.std.specs.Map.{set_value}
-use Rattle.allocative_service.proofs.Common.{bytes_of}
+use Rattle.std.proofs.lemmas.Map.Views.{All-values-set_value}
+use Rattle.allocative_service.specs.Entries.{bytes_of, IsMeasured, kept}
 use Rattle.allocative_service.proofs.Inserting.{bytes_of-remove_entry, without-kept}
-use Rattle.allocative_service.proofs.Shelving.{changed-kept, found_again, remove_entry-set_value, written_bytes}
-use Rattle.allocative_service.specs.Entries.{kept}
+use Rattle.allocative_service.proofs.Shelving.{found_again, remove_entry-set_value, written_bytes}
 use Rattle.allocative_service.specs.Shelf.{shelved}
 use Rattle.allocative_service.proofs.shelf.Shelf.change.Goals.{in-Some-pop_entry, in-None}
 use Rattle.allocative_service.proofs.shelf.Shelf.change.Goals as goal
@@ -37,7 +37,11 @@ invariant_of-self-in-Ok g c =
     let sums = written_bytes test es c.in-Some.kept.now w c.in-Some.ensures.value in (
       c.self.invariant.0,
       omega (arith, sums, c.self.invariant.1),
-      changed-kept test w _ c.in-Ok.ensures.figure (omega (arith, sums, c.self.invariant.1)) c.self.invariant.2,
+      record {
+        within = omega (arith, sums, c.self.invariant.1);
+        measured = All-values-set_value test (IsMeasured g.V.Described.size g.V.Allocative.may_show c.self.inside.measure)
+            es w c.self.invariant.2.measured c.in-Ok.ensures.figure;
+      },
     )
 
 -- Each value has its figure when it returns.

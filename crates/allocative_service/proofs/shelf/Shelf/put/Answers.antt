@@ -1,6 +1,6 @@
 -- of Shelf::put: an invariant, ok, within and kept
 use Rattle.std.proofs.Common.{arith, refl}
-use Rattle.allocative_service.proofs.Common.{lookup, remove_entry}
+use Rattle.std.specs.Map.{lookup, remove_entry}
 use Rattle.allocative_service.proofs.Evicting.{bytes_of-cons}
 use Rattle.allocative_service.proofs.Inserting.{bytes_of-remove_entry, first-kept, without-kept}
 use Rattle.allocative_service.specs.Entries.{kept, stored_key}
