@@ -4,6 +4,7 @@ use Rattle.std.proofs.Common.{append_assoc, append-nil, take-append-drop}
 use Rattle.std.proofs.lemmas.List.{take_rest}
 use Rattle.std.specs.Io.KnownBytes.{Appends, Keeps}
 use Rattle.std.proofs.KnownBytes.{Appends-nil, Appends-trans, Appends-kept}
+use Rattle.allocative_io.proofs.Printed.{texts_split, texts_end, plain_split, control_split}
 use Rattle.allocative_io.specs.Streams.{IsWrittenUpTo, AppendsBeginning}
 
 -- Nothing is written yet.
@@ -11,18 +12,18 @@ pub written_none : (old : Option (List ℕ)) (text : List ℕ) → IsWrittenUpTo
 written_none old text = record { written = []; split = refl; follows = Appends-nil old }
 
 -- A first part of the rest is written.
-pub written_next : (old mid new : Option (List ℕ)) (text rest part more : List ℕ) → rest ≡ part ++ more →
-    IsWrittenUpTo old mid text rest → Appends mid new part → IsWrittenUpTo old new text more
-written_next old mid new text rest part more e h w = record {
+pub written_next : (old mid new : Option (List ℕ)) (text rest part more : List ℕ) → IsWrittenUpTo old mid text rest →
+    Appends mid new part → rest ≡ part ++ more → IsWrittenUpTo old new text more
+written_next old mid new text rest part more h w e = record {
   written = h.written ++ part;
   split = h.split ∙ ap (λ l. h.written ++ l) e ∙ sym (append_assoc h.written part more);
   follows = Appends-trans old mid new h.written part h.follows w;
 }
 
 -- A beginning of a first part of the rest is written.
-pub written_partly : (old mid new : Option (List ℕ)) (text rest part more : List ℕ) → rest ≡ part ++ more →
-    IsWrittenUpTo old mid text rest → AppendsBeginning mid new part → AppendsBeginning old new text
-written_partly old mid new text rest part more e h (left, w) = (
+pub written_partly : (old mid new : Option (List ℕ)) (text rest part more : List ℕ) → IsWrittenUpTo old mid text rest →
+    AppendsBeginning mid new part → rest ≡ part ++ more → AppendsBeginning old new text
+written_partly old mid new text rest part more h (left, w) e = (
   left ++ more,
   record {
     written = h.written ++ w.written;
@@ -37,7 +38,7 @@ pub written_more : (old mid new : Option (List ℕ)) (text rest : List ℕ) (n :
     Appends mid new (take n rest)
     → IsWrittenUpTo old new text (take (length rest - n) (drop n rest))
 written_more old mid new text rest n h w = written_next old mid new text rest (take n rest) _
-    (sym (ap (λ l. take n rest ++ l) (take_rest rest n) ∙ take-append-drop n rest)) h w
+    h w (sym (ap (λ l. take n rest ++ l) (take_rest rest n) ∙ take-append-drop n rest))
 
 -- A write fails, or nothing more is to be written.
 pub written_kept : (old mid new : Option (List ℕ)) (text rest : List ℕ) → IsWrittenUpTo old mid text rest →
@@ -53,3 +54,6 @@ written_all old new text rest h e = subst (Appends old new)
 
 -- The lemmas on what a writer holds.
 pub ruleset writing = (written_none, written_more, written_kept, written_all)
+
+-- The lemmas on parts of a text that are written one after another.
+pub ruleset passing = (written_next, texts_split, texts_end, plain_split, control_split)

@@ -106,6 +106,7 @@ fn last_digit(value: u8) -> u8
 }
 
 // Writes a text with its control characters as `\x` and two digits.
+#[tactic(auto, using(crate::proofs::Writes::passing))]
 fn write_printable<W: Write>(output: &mut W, text: &str) -> io::Result<()>
     ensures whole { OnOk result
         (Appends (W.contents output.old) (W.contents output.new) (printable text.now)) }
@@ -129,6 +130,7 @@ fn write_printable<W: Write>(output: &mut W, text: &str) -> io::Result<()>
 
 /// Writes a line: the texts one after another, with each control character of ASCII in them as `\x` and two digits, and a
 /// line feed. It takes no memory. If a write fails, a beginning of the line is written.
+#[tactic(auto, using(crate::proofs::Writes::passing))]
 pub fn write_line<W: Write>(output: &mut W, texts: &[&str]) -> io::Result<()>
     ensures whole { OnOk result (Appends (W.contents output.old) (W.contents output.new)
         (line_of (map (λ text. text.now) texts.now))) }

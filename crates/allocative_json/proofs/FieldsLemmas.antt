@@ -1,15 +1,14 @@
 -- The graphs of fields: their totals, why they are refused, the documents of a text, and what a run makes of them.
 use Rattle.std.proofs.Common.{◌≡◌, ℕ, ◌+◌, ◌^◌, ◌<◌, ◌≤◌, ◌==◌, Bool, true, false, List, [], ◌∷◌, ◌++◌, length, get_or}
 use Rattle.std.proofs.Common.{take, drop, map, Bor, Option, None, Some, Result, Ok, Err, IfErr, IfSome, IsErrAnd, inl}
-use Rattle.std.proofs.Common.{inr, MatchResult, unwrap_or, refl, sym, ap, subst, subst₂, ◌∙◌, arith}
-use Rattle.std.proofs.Common.{append-nil, take-append-drop}
+use Rattle.std.proofs.Common.{inr, MatchResult, unwrap_or, refl, sym, ap, subst, subst₂, ◌∙◌, arith, append-nil}
+use Rattle.std.proofs.Common.{take-append-drop, String, Global, string_bytes, IfOk}
 use Rattle.allocative_json.proofs.Common.{drop_more, length-map, fold-map, Graph, default, add_self, total, sum_of_all}
 use Rattle.allocative_json.proofs.Common.{Child, total-add_at, total-default, total-all, view, Value, Fault, fault_of}
 use Rattle.allocative_json.proofs.Common.{StopsReading, bytes_alone, all_fields, is_blank, filled, lines_in, texts_of}
-use Rattle.allocative_json.proofs.Common.{AreDocuments, AppendsDocument, RefusesDocument, RefusesGraph}
-use Rattle.allocative_json.proofs.Common.{RefusesFields, MayEndFields, IfErr-weaker, IfOk-weaker}
+use Rattle.allocative_json.proofs.Common.{AreDocuments, AppendsDocument, RefusesDocument, RefusesGraph, RefusesFields}
+use Rattle.allocative_json.proofs.Common.{MayEndFields, IfErr-weaker, IfOk-weaker}
 use Rattle.allocative_json.specs.Fields.{AreFields, AreFieldsFor}
-use Rattle.std.proofs.Common.{String, Global, string_bytes, IfOk}
 use Rattle.std.proofs.lemmas.List.Elements.{filter-append}
 use Rattle.std.proofs.lemmas.List.Splits.{length-slice_split}
 use Rattle.std.proofs.lemmas.List.Sums.{sum_by_more_le, count_by-le-length}

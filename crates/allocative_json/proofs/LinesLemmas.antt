@@ -1,6 +1,7 @@
 -- The lines of a text, and the last key of a line, as `split_once` and `rsplit_once` find them.
 use Rattle.std.proofs.Common.{◌≡◌, ℕ, ◌+◌, ◌<◌, ◌≤◌, List, [], ◌∷◌, ◌++◌, length, take, drop, Option, None, Some, refl}
-use Rattle.std.proofs.Common.{ap, sym, subst, ◌∙◌, arith, append_assoc, append-nil, Bor, MatchOption, ne_eqb, take-append-drop}
+use Rattle.std.proofs.Common.{ap, sym, subst, ◌∙◌, arith, append_assoc, append-nil, Bor, MatchOption, ne_eqb}
+use Rattle.std.proofs.Common.{take-append-drop}
 use Rattle.allocative_json.proofs.Common.{after_last, kept_lines, Lacks, lines_from, before_last, kept_line}
 use Rattle.allocative_graph.proofs.ReadBack.{after_lacking, after_skip, before_read, lacks_from, line_read, none_before}
 use Rattle.std.specs.Str.Pattern.{RFindsChar}

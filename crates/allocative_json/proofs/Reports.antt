@@ -1,9 +1,10 @@
 -- How reports of roots are reports of an input, and how their errors are those of a run.
-use Rattle.std.proofs.Common.{◌≡◌, ℕ, ◌<◌, ℤ, length, arith, Bool, true, List, [], ◌∷◌, Option, None, Some, Result, Ok}
-use Rattle.std.proofs.Common.{Err, IfOk, IfErr, IsErrAnd, IfSome, MatchResult, refl, ap, ◌∙◌, sym, subst, BTreeSet}
+use Rattle.std.proofs.Common.{◌≡◌, ℕ, ◌<◌, ℤ, length, arith, Bool, true, List, [], ◌∷◌, Option, Some, Result, Ok, Err}
+use Rattle.std.proofs.Common.{IfOk, IfErr, IsErrAnd, IfSome, MatchResult, refl, ap, ◌∙◌, sym, subst, BTreeSet}
 use Rattle.allocative_json.proofs.Common.{view, Value, Showing, roots_show, Word, AreWords, list_all, IfOk-weaker}
 use Rattle.allocative_json.proofs.Common.{IfErr-weaker, Data, fault_of, each_shows, Fault, AreTexts, IsReportOf}
 use Rattle.allocative_json.proofs.Common.{IsRightReport, RefusesRoots, RefusesReport, IsReportFor, MayEndRun, Asks}
+use Rattle.std.proofs.lemmas.Option.{IfSome_then}
 use Rattle.serde_json.specs.Read.{read}
 use Rattle.serde_json.proofs.OnLiterals.{serde_json_on_literals}
 use Rattle.allocative.specs.Refusal.{Refusal}
@@ -58,7 +59,7 @@ some_text (b ∷ bs) d h = omega arith
 -- A fault of the roots is one of their input.
 refused_roots : (input : List ℕ) (index : Bool) (v : Value) (n : Option (BTreeSet ℤ)) (f : Fault) →
     AreRoots input index (view v) n → RefusesRoots (roots_show v n) f → RefusesReport input index f
-refused_roots input index v n Memory h r = some_text input (view v) h.document.document
+refused_roots input index v n Memory h r = some_text input (view v) h.document
 refused_roots input index v n TooLarge h r = (v, n, h, r)
 refused_roots input index v n f h r = absurd r
 
@@ -112,12 +113,6 @@ report_for texts known input asked r w a e =
     IfOk-weaker r _ _ (λ made h. record { words = w; asked = asked; asks = a; input = input; is_read = e; right = h })
 
 -- ---- refusals of a run
--- What holds of the input holds of the known bytes.
-pub read_so : (known : Option (List ℕ)) (input : List ℕ) (P : List ℕ → Type 0) → IfSome known (λ bytes. input ≡ bytes) →
-    P input → IfSome known P
-read_so None input P e h = tt
-read_so (Some bytes) input P e h = subst P e h
-
 -- A fault of the report may end the run.
 refused_run : (texts : List Word) (known : Option (List ℕ)) (input : List ℕ) (asked : Words) (f : Fault) →
     AreWords texts → Asks texts asked → IfSome known (λ bytes. input ≡ bytes) → RefusesReport input asked.index f →
@@ -126,7 +121,8 @@ refused_run texts known input asked fault.Words w a e h = absurd h.3
 refused_run texts known input asked Reading w a e h = absurd h.3
 refused_run texts known input asked Writing w a e h = absurd h.3
 refused_run texts known input asked Open w a e h = absurd h.3
-refused_run texts known input asked f w a e h = record { words = w; asked = asked; asks = a; refuses = read_so known input (λ bytes. RefusesReport bytes asked.index f) e h }
+refused_run texts known input asked f w a e h =
+    (w, (asked, a, IfSome_then known e (λ bytes is. subst (λ (b : List ℕ). RefusesReport b asked.index f) is h)))
 
 -- A fault of making the report of the input that was read may end the run.
 pub refuses_run : {T : Type 0} (texts : List Word) (known : Option (List ℕ)) (input : List ℕ) (asked : Words)

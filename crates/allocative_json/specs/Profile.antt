@@ -1,5 +1,5 @@
 -- What the roots of a document show, the lines that `exact` drops, and which reports are right.
-use Rattle.std.specs.Prelude.{◌≡◌, ℕ, ℤ, ◌<◌, ⊤, cond, Bool, true, false, List, [], ◌∷◌, ◌++◌, length, Option, Some}
+use Rattle.std.specs.Prelude.{◌≡◌, ℕ, ℤ, ◌<◌, ⊤, cond, Bool, false, List, [], ◌∷◌, ◌++◌, length, Option, Some}
 use Rattle.std.specs.Prelude.{codes, string_bytes}
 use Rattle.std.specs.BTreeSet.{BTreeSet}
 use Rattle.std.specs.Ordering.{eq_by_cmp}
@@ -19,13 +19,10 @@ use Rattle.allocative_json.specs.declared.fault.Fault.TheVariants.{Memory, NotJs
 use Rattle.allocative_json.specs.declared.profile.Report.{Report}
 use Rattle.allocative_json.specs.Roots.{is_whole, IsDocument, AreRoots}
 
--- What a number of the set shows: a field `key`, with the number inside it.
-abbrev pub key_shows : ℤ → Showing
-key_shows k = Field (codes "key") (Some 16) (Field (codes "i128") (Some 16) Nothing)
-
--- What a set of numbers shows.
+-- What a set of numbers shows: of each a field `key`, with the number inside it.
 abbrev pub index_shows : BTreeSet ℤ → Showing
-index_shows s = Field (codes "BTreeSet") (Some 24) (Inside (codes "data") 8 (each_shows key_shows s.keys))
+index_shows s = Field (codes "BTreeSet") (Some 24) (Inside (codes "data") 8
+    (each_shows (λ k. Field (codes "key") (Some 16) (Field (codes "i128") (Some 16) Nothing)) s.keys))
 
 -- What a document shows, with the room of its texts and arrays, followed by what a set shows if there is one.
 abbrev pub roots_show : Value → Option (BTreeSet ℤ) → Showing
@@ -39,15 +36,10 @@ kept_line l = cond (eq_by_cmp key_cmp (codes "unused_capacity") (last_key l)) []
 abbrev pub kept_lines : List ℕ → List ℕ
 kept_lines t = without_lines (codes "unused_capacity") t
 
--- A text as it was asked for: with exact, without the lines whose last key is `unused_capacity`.
-abbrev pub asked_text : Bool → List ℕ → List ℕ
-asked_text true t = kept_lines t
-asked_text false t = t
-
 -- The texts of a profile: that of its graph, which with `exact` is without the lines that `exact` drops, and that of its
 -- warnings.
 abbrev pub AreTexts : Bool → Profile → Report → Type 0
-AreTexts exact o made = (string_bytes made.profile ≡ asked_text exact (text o.graph))
+AreTexts exact o made = (string_bytes made.profile ≡ cond exact (kept_lines (text o.graph)) (text o.graph))
     × (string_bytes made.warnings ≡ o.warnings)
 
 -- The texts are those of some profile of what p allows.

@@ -65,19 +65,15 @@ pub record IsDocument (input : List ℕ) (d : Data) : Type 0 where
   pub utf8 : IsUtf8 input
   pub is_read : read input ≡ Some d
 
--- The input is the text of the document d, and each number of d is an i64 or a u64.
-pub record IsWholeDocument (input : List ℕ) (d : Data) : Type 0 where
-  pub document : IsDocument input d
-  pub whole : is_whole d ≡ true
-
 -- The set of the document's numbers, exactly if it is asked for.
 abbrev pub IsIndexIf : Bool → Data → Option (BTreeSet ℤ) → Type 0
 IsIndexIf asked d None = asked ≡ false
 IsIndexIf asked d (Some s) = (asked ≡ true) × IsIndexOf d s
 
--- The document of the input, whose numbers are whole, and with `index` the set of its numbers.
+-- The document of the input, each number of which is an i64 or a u64, and with `index` the set of its numbers.
 pub record AreRoots (input : List ℕ) (index : Bool) (d : Data) (n : Option (BTreeSet ℤ)) : Type 0 where
-  pub document : IsWholeDocument input d
+  pub document : IsDocument input d
+  pub whole : is_whole d ≡ true
   pub numbers : IsIndexIf index d n
 
 -- The faults that reading the roots from the input may return: Memory only if the input is not empty; NotJson only

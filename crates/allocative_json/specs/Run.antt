@@ -84,13 +84,6 @@ StopsReading known Memory = IfSome known (λ bytes. 0 < length bytes)
 StopsReading known Reading = ⊤
 StopsReading known f = ⊥
 
--- The words are accepted, and a report of the bytes that are read may be refused with the fault.
-pub record IsRefused (texts : List Word) (known : Option (List ℕ)) (cause : Fault) : Type 0 where
-  pub words : AreWords texts
-  pub asked : Words
-  pub asks : Asks texts asked
-  pub refuses : IfSome known (λ bytes. RefusesReport bytes asked.index cause)
-
 -- The faults that may end a run before anything is written: Words exactly if the words are not accepted;
 -- otherwise a fault of reading, or of a report of the bytes that were read. Open is none of them.
 abbrev pub MayEndRun : List Word → Option (List ℕ) → Fault → Type 0
@@ -98,7 +91,8 @@ MayEndRun texts known fault.Words = ¬ AreWords texts
 MayEndRun texts known Reading = AreWords texts
 MayEndRun texts known Writing = ⊥
 MayEndRun texts known Open = ⊥
-MayEndRun texts known f = IsRefused texts known f
+MayEndRun texts known f = AreWords texts
+    × ((asked : Words) × Asks texts asked × IfSome known (λ bytes. RefusesReport bytes asked.index f))
 
 -- The status is that of a fault that may end the run before anything is written. Its line, or a beginning of it, follows
 -- what the errors held; the line begins with `start`.

@@ -1,10 +1,9 @@
 -- What refuses an item, a member, or adding one, refuses the whole graph.
 use Rattle.std.proofs.Common.{◌≡◌, ◌+◌, length, map, take, ap, ◌∙◌, arith, string_capacity}
-use Rattle.allocative_json.proofs.Common.{total, sum_of_all, bytes_alone, value_below}
-use Rattle.allocative_json.proofs.Common.{member_below, member_of, fields_of}
+use Rattle.allocative_json.proofs.Common.{total, sum_of_all, bytes_alone, value_below, member_below, member_of}
+use Rattle.allocative_json.proofs.Common.{fields_of}
 use Rattle.std.proofs.lemmas.Iterator.Consumers.{YieldsList-from_rest, YieldsList-turn}
-use Rattle.allocative_json.proofs.FieldsLemmas.{refused_more, refused_sum, more_within}
-use Rattle.allocative_json.proofs.FieldsLemmas.{total-add_self}
+use Rattle.allocative_json.proofs.FieldsLemmas.{refused_more, refused_sum, more_within, total-add_self}
 use Rattle.allocative_json.proofs.fields.+fields.Goals as goal
 
 pub add_below-returns-in_err-graph_of : goal.add_below-returns-in_err-graph_of

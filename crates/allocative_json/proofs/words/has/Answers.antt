@@ -1,6 +1,6 @@
 -- of has: the result
-use Rattle.std.proofs.Common.{◌≡◌, ◌||◌, Bool, List, [], ◌∷◌, refl, ap, sym, ◌∙◌, String, Global, string_bytes, bytes_eq}
-use Rattle.std.proofs.Common.{rules, tests}
+use Rattle.std.proofs.Common.{◌≡◌, ◌||◌, Bool, List, [], ◌∷◌, refl, ap, sym, ◌∙◌, String, Global, string_bytes}
+use Rattle.std.proofs.Common.{bytes_eq, rules, tests}
 use Rattle.std.specs.List.{list_any}
 use Rattle.std.proofs.lemmas.Bool.Decides.{Decides-by_or}
 use Rattle.std.proofs.lemmas.Iterator.{YieldsList-from_slice}
