@@ -1,21 +1,19 @@
 -- The names that proofs of this crate cite, passed on from one place. Declares nothing.
 pub use Rattle.allocative_collectors.specs.Warned.{warning_of}
 pub use Rattle.allocative_graph.proofs.Basics.{on_test, same_path, each-append, path_total}
-pub use Rattle.allocative_graph.proofs.Behind.{child_read, figured, node_read}
-pub use Rattle.allocative_graph.proofs.Children.{total_of-cons, total-node, rows-more, total_of-rows}
-pub use Rattle.allocative_graph.proofs.Nodes.{total-path, rows_of_node}
-pub use Rattle.allocative_graph.proofs.StackSums.{size_at-path}
+pub use Rattle.allocative_graph.proofs.Children.{total_of-cons, total-node, total_of-rows}
+pub use Rattle.allocative_graph.proofs.Nodes.{total-path, child_figures, flat_map_more, figures_of_node}
+pub use Rattle.allocative_graph.proofs.ReadBack.{size_at-path}
 pub use Rattle.allocative_graph.proofs.Text.{texts, popped}
 pub use Rattle.allocative_graph.proofs.Common.{total, Graph, begins, default, size_at, sum_of, under, total_at}
 pub use Rattle.allocative_graph.proofs.Common.{IsBehind, HasNothing, Path, key_cmp, path_cmp, is_same_path, Key}
-pub use Rattle.allocative_graph.proofs.Common.{graph_of_path, InOrder, first, second, len-child, total_of, sum_of_all}
-pub use Rattle.allocative_graph.proofs.Common.{Figures, row_figures, figures_behind, node, rows_of, eq_by_cmp_equiv}
-pub use Rattle.allocative_graph.proofs.Common.{map_push, take_more, map-append, length-map, fold-map}
-pub use Rattle.allocative_graph.proofs.Common.{sum_by-IsPermutation, sum_by-cons, fold-append, sum_by-append}
-pub use Rattle.allocative_graph.proofs.Common.{sum_by_push, tied_itself, nat_list_cmp_total, entries, entries_sorted}
-pub use Rattle.allocative_graph.proofs.Common.{contains_key, get-entries, len, len-entries, is_sorted, below_all, find}
+pub use Rattle.allocative_graph.proofs.Common.{graph_of_path, InOrder, first, second, total_of, sum_of_all, Figures}
+pub use Rattle.allocative_graph.proofs.Common.{row_figures, figures_behind, node, AreChildren, eq_by_cmp_equiv, map-append}
+pub use Rattle.allocative_graph.proofs.Common.{length-map, fold-map, sum_by-IsPermutation, sum_by-cons, fold-append}
+pub use Rattle.allocative_graph.proofs.Common.{sum_by-append, tied_itself, nat_list_cmp_total, entries, entries_sorted}
+pub use Rattle.allocative_graph.proofs.Common.{get-entries, len, len-entries, is_sorted, below_all, find}
 pub use Rattle.allocative_graph.proofs.Common.{AllByRecursion, list_any, ordering_then, ordering_reverse}
-pub use Rattle.allocative_graph.specs.Graph.{ends_in, Warned}
+pub use Rattle.allocative_graph.specs.Graph.{ends_in}
 pub use Rattle.allocative_graph.specs.Rows.{figures}
 pub use Rattle.allocative_graph.specs.declared.flamegraph.Child.{Child}
 pub use Rattle.allocative_graph.specs.declared.flamegraph.Row.{Row}
@@ -27,5 +25,4 @@ pub use Rattle.allocative_picture.specs.Table.{table_line, HasNoLess}
 pub use Rattle.std.proofs.lemmas.List.{take-map, drop-map, take_rest, get_or-map}
 pub use Rattle.std.proofs.lemmas.List.Elements.{filter-append, all_zip_more}
 pub use Rattle.std.proofs.lemmas.List.Sorted.{IsPermutation-map}
-pub use Rattle.std.proofs.lemmas.List.Sums.{sum_by-le-sum_by, sum_by_more_le, sum_by_more}
-pub use Rattle.std.proofs.lemmas.List.Sums.{sum_by-take-le}
+pub use Rattle.std.proofs.lemmas.List.Sums.{sum_by-le-sum_by, sum_by_more_le, sum_by_more, sum_by-take-le}

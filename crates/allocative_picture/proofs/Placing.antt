@@ -1,15 +1,16 @@
 -- The frames of a graph: the bytes before each, that of its root and then those of its children.
 use Rattle.std.proofs.Common.{◌≡◌, ℕ, ◌+◌, cond, List, [], ◌∷◌, ◌++◌, map, sum_by, length, refl, sym, ap, subst, ◌∙◌}
-use Rattle.std.proofs.Common.{append_assoc, T, arith, ◌<◌, Bor, get_or, take, length-append, is_lt, Less, Greater}
+use Rattle.std.proofs.Common.{append_assoc, T, arith, ◌<◌, ◌^◌, flat_map, Bor, get_or, take, take_all, is_lt, Less, Greater}
 use Rattle.allocative_picture.proofs.Common.{ordering_reverse, entries, entries_sorted, is_sorted, below_all, Path}
 use Rattle.allocative_picture.proofs.Common.{path_cmp, Graph, total_at, Figures, before_in, frame_of, frames_from, len}
 use Rattle.allocative_picture.proofs.Common.{Child, total, figures_behind, total_of, FrameData, frame_from, sum_by-cons}
-use Rattle.allocative_picture.proofs.Common.{sum_by-append, sum_by_more, tied_itself, figures, node, rows_of, first}
-use Rattle.allocative_picture.proofs.Common.{second, len-child, path_total, map-append, length-map, fold-map}
-use Rattle.allocative_picture.proofs.Common.{len-entries, InOrder, rows-more, total_of-rows, texts, child_read, figured}
-use Rattle.allocative_picture.proofs.Common.{node_read}
+use Rattle.allocative_picture.proofs.Common.{sum_by-append, sum_by_more, tied_itself, figures, node, first}
+use Rattle.allocative_picture.proofs.Common.{second, path_total, map-append, length-map, fold-map}
+use Rattle.allocative_picture.proofs.Common.{len-entries, AreChildren, texts, child_figures, flat_map_more}
+use Rattle.allocative_picture.proofs.Common.{figures_of_node, total-node, drop-map, take_rest}
 use Rattle.allocative_picture.specs.declared.frame.Mark.{Mark}
 use Rattle.allocative_graph.proofs.Sums.{is_lt-Less}
+use Rattle.std.proofs.lemmas.Option.{slice_get-map}
 use Rattle.allocative_picture.specs.Frames.{frames_of}
 use Rattle.allocative_picture.specs.Frames as picture
 
@@ -59,12 +60,8 @@ before-middle (x ∷ a) c e h =
     parts.1 i) ∙ sym (sum_by-cons (λ (y : Path × ℕ). y.1) x a)
 
 -- The own bytes of some figures together.
-abbrev pub own_bytes : List Figures → ℕ
+abbrev own_bytes : List Figures → ℕ
 own_bytes fs = sum_by (λ f. f.self_size) fs
-
--- The own bytes of some figures are those of the first and of the others.
-pub own-cons : (f : Figures) (fs : List Figures) → own_bytes (f ∷ fs) ≡ f.self_size + own_bytes fs
-own-cons f fs = sum_by-cons (λ (x : Figures). x.self_size) f fs
 
 -- The figures of an entry of a graph.
 abbrev figure : Graph → Path × ℕ → Figures
@@ -84,7 +81,7 @@ placed M g a (x ∷ c) e =
     omega (arith, sum_by-append (λ (y : Path × ℕ). y.1) a (x ∷ []), sum_by-cons (λ (y : Path × ℕ). y.1) x []) in
     let rest : frames_from M (bytes_of a + x.1) (map (figure g) c) ≡ map (frame_of M g) c =
     ap (λ n. frames_from M n (map (figure g) c)) more ∙ placed M g (a ++ x ∷ []) c next in
-    λ i. record { depth = length x.0; key = (frame_of M g x).key; own = x.1; whole = total_at g x.0; before = sym place i; mark = M x.0 } ∷ rest i
+    λ i. frame_from M (sym place i) (figure g x) ∷ rest i
 
 -- The frames made from the figures of a graph are the frames of the graph.
 pub frames_from-figures : (M : Path → Mark) (g : Graph) → frames_from M 0 (figures g) ≡ frames_of M g
@@ -101,46 +98,53 @@ frames_from-append : (M : Path → Mark) (b : ℕ) (fs gs : List Figures) →
     frames_from M b (fs ++ gs) ≡ frames_from M b fs ++ frames_from M (b + own_bytes fs) gs
 frames_from-append M b [] gs = ap (λ n. frames_from M n gs) (let e : b ≡ b + 0 = omega arith in e)
 frames_from-append M b (f ∷ fs) gs =
-    let e : b + f.self_size + own_bytes fs ≡ b + own_bytes (f ∷ fs) = omega (arith, own-cons f fs) in
+    let e : b + f.self_size + own_bytes fs ≡ b + own_bytes (f ∷ fs) = omega (arith, sum_by-cons (λ (x : Figures). x.self_size) f fs) in
     ap (λ (s : List FrameData). frame_from M b f ∷ s)
     (frames_from-append M (b + f.self_size) fs gs ∙ ap (λ n. frames_from M (b + f.self_size) fs ++ frames_from M n gs) e)
 
--- The own bytes of the figures of some children's rows are their totals.
-own-figured : (t : Path → ℕ) (ks : Path) (cs : List Child) → own_bytes (figured t ks (rows_of cs)) ≡ total_of cs
-own-figured t ks cs = fold-map (λ n (f : Figures). n + f.self_size) _ 0 (rows_of cs) ∙ total_of-rows cs
+-- The own bytes of the figures of some children are their totals.
+own-children : (ks : Path) (cs : List Child) → own_bytes (flat_map (child_figures ks) cs) ≡ total_of cs
+own-children ks [] = refl
+own-children ks (c ∷ cs) =
+    let figures = child_figures ks c in
+    let own : own_bytes figures ≡ total c.graph =
+    fold-map (λ n (f : Figures). n + f.self_size) _ 0 (entries c.graph) in
+    omega (
+      arith,
+      sum_by-append (λ (f : Figures). f.self_size) figures (flat_map (child_figures ks) cs),
+      own,
+      own-children ks cs,
+      sum_by-cons (λ (x : Child). total x.graph) c cs,
+    )
 
 -- The bytes of the children up to a place, and of the child there.
 pub total_of_more : (cs : List Child) (i : ℕ) (d : Child) → i < length cs → d ≡ get_or cs i d →
     total_of (take (i + 1) cs) ≡ total_of (take i cs) + total d.graph
 total_of_more cs i d h at = rw (sum_by_more (λ (c : Child). total c.graph) cs i d h, ← at) refl
 
--- The frames of the children up to a place, and of the child there, are as many as its paths more.
-pub rows_more : (cs : List Child) (i : ℕ) (d : Child) → i < length cs → d ≡ get_or cs i d →
-    length (rows_of (take (i + 1) cs)) ≡ length (rows_of (take i cs)) + len d.graph
-rows_more cs i d h at = rw (rows-more cs i d h, ← at, length-append, len-child d) refl
-
-module _ (M : Path → Mark) (b n : ℕ) (g : Graph) (cs : List Child) (is : g ≡ node n cs) (ks : Path)
-    (o : InOrder cs) where
+module _ (M : Path → Mark) (b : ℕ) (cs : List Child) (ks : Path) where
   -- The frames of one child more.
   pub child_rows : (i : ℕ) (d : Child) → i < length cs → d ≡ get_or cs i d
-      → frames_from M b (figured (total_at g) ks (rows_of (take i cs)))
+      → frames_from M b (flat_map (child_figures ks) (take i cs))
       ++ frames_from M (b + total_of (take i cs)) (figures_behind (ks ++ d.key ∷ []) d.graph)
-      ≡ frames_from M b (figured (total_at g) ks (rows_of (take (i + 1) cs)))
+      ≡ frames_from M b (flat_map (child_figures ks) (take (i + 1) cs))
   child_rows i d w at =
-      let t : Path → ℕ = total_at (node n cs) in
-      let before = take i cs in
-      rw is (
-      ap (λ (c : Child). frames_from M b (figured t ks (rows_of before))
-      ++ frames_from M (b + total_of (take i cs)) (figures_behind (ks ++ c.key ∷ []) c.graph)) at
-      ∙ rw (← own-figured t ks before, ← frames_from-append) (ap (frames_from M b) (child_read n cs i d ks o w))
-      )
+      rw (flat_map_more (child_figures ks) cs i d w at, frames_from-append, own-children ks (take i cs)) refl
 
   -- The frames of a node are its own and then those of its children.
-  pub node_rows : frame_from M b (record { path = ks; self_size = n; total_size = total g }) ∷ frames_from M (b + n)
-      (figured (total_at g) ks (rows_of cs)) ≡ frames_from M b (figures_behind ks g)
-  node_rows = rw is (ap (frames_from M b) (node_read n cs ks o))
+  pub node_rows : (n : ℕ) (g : Graph) → g ≡ node n cs → AreChildren cs → n + total_of cs < 2 ^ 64
+      → frame_from M b (record { path = ks; self_size = n; total_size = total g })
+      ∷ frames_from M (b + n) (flat_map (child_figures ks) cs) ≡ frames_from M b (figures_behind ks g)
+  node_rows n g is children fits = sym (ap (frames_from M b)
+      (figures_of_node (sym is) (record { children = children; size = refl; fits = fits }) ks))
 
 -- A graph has a frame for each path.
 pub length-frames_of : (M : Path → Mark) (g : Graph) → length (picture.frames_of M g) ≡ len g
 unfolding picture.frames_of
 length-frames_of M g = length-map {B = FrameData} (entries g) (frame_of M g) ∙ sym (len-entries g)
+
+-- The last key of a path of the code is that of its texts.
+pub ruleset last_keys = (slice_get-map, length-map, drop-map, take_rest)
+
+-- The bytes of the children of a node.
+pub ruleset walking = (total-node, take_all, total_of_more)

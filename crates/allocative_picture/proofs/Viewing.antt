@@ -1,15 +1,16 @@
 -- Views keep the total, and what is at a last key.
 use Rattle.std.proofs.Common.{◌≡◌, ℕ, zero, suc, ◌+◌, ◌<◌, ◌≤◌, ◌^◌, AllPairs, inl, inr, false, nat_cmp, is_lt, cond, List, [], ◌∷◌, ◌++◌, take}
-use Rattle.std.proofs.Common.{length, get_or, flat_map, map, take_all, sum_by, codes, refl, sym, ap, ◌-◌, ◌∙◌, arith}
-use Rattle.std.proofs.Common.{is_eq, Ordering, Less, Equal, Greater, IsPermutation}
+use Rattle.std.proofs.Common.{length, get_or, flat_map, map, take_all, sum_by, fold, codes, refl, sym, ap, ◌-◌, ◌∙◌, arith}
+use Rattle.std.proofs.Common.{Equal, IsPermutation}
 use Rattle.allocative_picture.proofs.Common.{entries, Child, Path, Graph, total, total_of, is_same_path, key_cmp}
-use Rattle.allocative_picture.proofs.Common.{ordering_then, graph_of_path, map_push, take-map, take_more, fold-map}
-use Rattle.allocative_picture.proofs.Common.{fold-append, sum_by_more_le, sum_by-IsPermutation, Key}
-use Rattle.allocative_picture.proofs.Common.{default, size_at, sum_of, under, sum_of_all, ends_in, Figures, figures}
-use Rattle.allocative_picture.proofs.Common.{row_figures, Row, total_of-cons, IsPermutation-map, total-node, total-path}
-use Rattle.allocative_picture.proofs.Common.{size_at-path, table_line, HasNoLess, get_or-map, length-map}
+use Rattle.allocative_picture.proofs.Common.{graph_of_path, fold-map, fold-append, sum_by_more_le, sum_by-IsPermutation}
+use Rattle.allocative_picture.proofs.Common.{Key, default, size_at, sum_of, under, sum_of_all, ends_in, Figures}
+use Rattle.allocative_picture.proofs.Common.{figures, row_figures, Row, total_of-cons, total-node, total-path}
+use Rattle.allocative_picture.proofs.Common.{size_at-path, table_line, HasNoLess, get_or-map, length-map, take-map}
 use Rattle.std.proofs.lemmas.Map.Keys.{ge_from_not_lt}
-use Rattle.allocative_graph.proofs.Graphs.{added_up, added_up-permuted, total-default, total-added_up, size_at-added_up}
+use Rattle.std.specs.Cmp.{tied_then}
+use Rattle.allocative_graph.proofs.Basics.{and-true}
+use Rattle.allocative_graph.proofs.Graphs.{added_up, total-default, total-added_up, size_at-added_up}
 use Rattle.allocative_graph.proofs.Graphs.{total-all, size_at-default, total-sum_of, total-under}
 use Rattle.allocative_picture.specs.Views.{bytes_alone, last_of, by_last_key, bytes_ending_in, joined, GuidesChild}
 use Rattle.allocative_picture.specs.Views.{HasChildren, InStep, IsOutline}
@@ -50,17 +51,12 @@ total-outline (suc l) n u g h (us, cs, a, b, inr (few, ds, step, e)) =
     omega (arith, ap total e, total-all (bytes_alone (size_at g [])) ds, total-path [] (size_at g []), total-step R (λ c o of. total-outline l n of.0 c.graph o of.2) cs ds step, total-children g cs b)
 
 -- ---- the steps of the code
--- The graphs of the children up to a place, and of the child there, are added up.
-pub joined_more : (cs : List Child) (i : ℕ) (c : Child) → i < length cs → c ≡ get_or cs i c →
-    sum_of (joined (take i cs)) c.graph ≡ joined (take (i + 1) cs)
-joined_more cs i c within at = rw (take_more cs i c within, ← at)
-    (sym (fold-append (λ (g : Graph) (x : Child). sum_of g x.graph) default (take i cs) (c ∷ [])))
-
--- The own bytes of the rows of a graph are all its bytes.
-rows-bytes : (g : Graph) (rs : List Row) → map row_figures rs ≡ figures g → sum_by (λ r. r.self_size) rs ≡ total g
-rows-bytes g rs are = sym (fold-map (λ n (f : Figures). n + f.self_size) row_figures 0 rs)
-    ∙ ap (sum_by (λ (f : Figures). f.self_size)) are
-    ∙ fold-map (λ n (f : Figures). n + f.self_size) _ 0 (entries g)
+-- What is counted of the rows of a graph is counted of its entries.
+pub rows-fold : {A : Type 0} (more : A → Path → ℕ → A) (a : A) (g : Graph) (rs : List Row) → map row_figures rs ≡ figures g →
+    fold (λ x r. more x (row_figures r).path r.self_size) a rs ≡ fold (λ x e. more x e.0 e.1) a (entries g)
+rows-fold {A = A} more a g rs are =
+    let by : A → Figures → A = λ x f. more x f.path f.self_size in
+    sym (fold-map by row_figures a rs) ∙ ap (fold by a) are ∙ fold-map by _ a (entries g)
 
 -- One child more is added.
 pub all-push : (g : Graph) (ds : List Child) (d : Child) →
@@ -68,16 +64,10 @@ pub all-push : (g : Graph) (ds : List Child) (d : Child) →
 all-push g ds d = sym (fold-append (λ (h : Graph) (c : Child). sum_of h (under c.key c.graph)) g ds (d ∷ []))
 
 -- ---- at a last key
--- Of paths of one key, the first comes alone if the keys are the same.
-one_key : (o : Ordering) → is_eq (ordering_then o Equal) ≡ is_eq o
-one_key Less = refl
-one_key Equal = refl
-one_key Greater = refl
-
 -- The last key of a path is alone the path of a key if the path ends in it.
 same-last : (k : Key) (p : Path) → is_same_path (k ∷ []) (last_of p) ≡ ends_in k p
 same-last k [] = refl
-same-last k (l ∷ []) = one_key (key_cmp k l)
+same-last k (l ∷ []) = sym (tied_then (key_cmp k l) Equal) ∙ and-true _
 same-last k (l ∷ m ∷ p) = let e : length (l ∷ m ∷ p) - 1 ≡ suc (length (m ∷ p) - 1) = omega arith in
     rw e (same-last k (m ∷ p))
 
@@ -88,19 +78,13 @@ size_at-by_last_key g k =
     λ i. sum_by (λ (e : Path × ℕ). (size_at-path (last_of e.0) e.1 (k ∷ []) ∙ ap (λ b. cond b e.1 0) (same-last k e.0)) i) (entries g) in
     omega (arith, size_at-added_up (λ (e : Path × ℕ). graph_of_path (last_of e.0) e.1) default (entries g) (k ∷ []), size_at-default (k ∷ []), each)
 
--- The own bytes of a path with its figures, at its last key alone.
-abbrev pub last_bytes : Figures → Graph
-last_bytes f = graph_of_path (last_of f.path) f.self_size
+-- The own bytes of a row at its last key alone.
+abbrev pub last_bytes : Row → Graph
+last_bytes r = graph_of_path (last_of (row_figures r).path) r.self_size
 
 -- The bytes of some rows by last key, added up.
 abbrev pub added_rows : List Row → Graph
-added_rows rs = added_up last_bytes default (map row_figures rs)
-
--- One row more is added.
-pub row_more : (rs : List Row) (i : ℕ) (r : Row) → i < length rs → r ≡ get_or rs i r →
-    sum_of (added_rows (take i rs)) (last_bytes (row_figures r)) ≡ added_rows (take (i + 1) rs)
-row_more rs i r within at =
-    rw (take_more rs i r within, ← at, map_push) (sym (fold-append (λ (h : Graph) f. sum_of h (last_bytes f)) default (map row_figures (take i rs)) (row_figures r ∷ [])))
+added_rows rs = added_up last_bytes default rs
 
 -- The bytes of the rows so far and of the next one fit a word, in whichever order the rows are.
 pub row_fits : (g : Graph) (rs sorted : List Row) (i : ℕ) (r : Row) → map row_figures rs ≡ figures g →
@@ -108,18 +92,9 @@ pub row_fits : (g : Graph) (rs sorted : List Row) (i : ℕ) (r : Row) → map ro
     total (added_rows (take i sorted)) + r.self_size < 2 ^ 64
 row_fits g rs sorted i r are order within at fits =
     let own : Row → ℕ = λ x. x.self_size in
-    let bytes : sum_by (λ f. total (last_bytes f)) (map row_figures (take i sorted)) ≡ sum_by own (take i sorted) =
-    fold-map (λ n (f : Figures). n + total (last_bytes f)) row_figures 0 (take i sorted)
-    ∙ (λ j. sum_by (λ (x : Row). total-path (last_of (row_figures x).path) x.self_size j) (take i sorted)) in
-    omega (arith, bytes, total-added_up last_bytes default (map row_figures (take i sorted)), total-default, sum_by_more_le own sorted i r within, ap own at, sum_by-IsPermutation own rs sorted order, rows-bytes g rs are)
-
--- After the last row all bytes are added up, in whichever order the rows are.
-pub rows-added : (g : Graph) (rs sorted items : List Row) (i : ℕ) (h : Graph) → h ≡ added_rows (take i items) →
-    length items ≤ i → items ≡ sorted → IsPermutation rs sorted → map row_figures rs ≡ figures g → h ≡ by_last_key g
-rows-added g rs sorted items i h is all same order are =
-    is ∙ ap added_rows (take_all i items all ∙ same)
-    ∙ added_up-permuted last_bytes default (map row_figures rs) (map row_figures sorted) (IsPermutation-map row_figures rs sorted order)
-    ∙ ap (added_up last_bytes default) are ∙ fold-map (λ (h : Graph) (f : Figures). sum_of h (last_bytes f)) _ default (entries g)
+    let bytes : sum_by (λ r. total (last_bytes r)) (take i sorted) ≡ sum_by own (take i sorted) =
+    λ j. sum_by (λ (x : Row). total-path (last_of (row_figures x).path) x.self_size j) (take i sorted) in
+    omega (arith, bytes, total-added_up last_bytes default (take i sorted), total-default, sum_by_more_le own sorted i r within, ap own at, sum_by-IsPermutation own rs sorted order, rows-fold (λ n p m. n + m) 0 g rs are)
 
 -- Of rows that are sorted, the heaviest first, none has less than a later one.
 pub falls : (rs : List Row) → ((i j : ℕ) (r : Row) → i ≤ j → j < length rs

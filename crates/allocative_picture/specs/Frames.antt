@@ -35,22 +35,7 @@ shown_key p = unwrap_or (slice_get p (length p - 1)) (codes "all")
 abbrev pub before_in : List (Path × ℕ) → Path → ℕ
 before_in rs p = sum_by (λ e. cond (is_lt (path_cmp e.0 p)) e.1 0) rs
 
--- The frame of an entry of g, if M gives the mark of each path.
-abbrev pub frame_of : (Path → Mark) → Graph → Path × ℕ → FrameData
-frame_of M g e = record {
-  depth = length e.0;
-  key = shown_key e.0;
-  own = e.1;
-  whole = total_at g e.0;
-  before = before_in (entries g) e.0;
-  mark = M e.0;
-}
-
--- The frames of g: one for each path, in the order of paths.
-unfoldable pub frames_of : (Path → Mark) → Graph → List FrameData
-frames_of M g = map (frame_of M g) (entries g)
-
--- The frame of a path with its figures, if `before` bytes come before it.
+-- The frame of a path with its figures, if M gives the mark of each path, and `before` bytes come before it.
 abbrev pub frame_from : (Path → Mark) → ℕ → Figures → FrameData
 frame_from M before f = record {
   depth = length f.path;
@@ -60,6 +45,15 @@ frame_from M before f = record {
   before = before;
   mark = M f.path;
 }
+
+-- The frame of an entry of g, if M gives the mark of each path.
+abbrev pub frame_of : (Path → Mark) → Graph → Path × ℕ → FrameData
+frame_of M g e =
+    frame_from M (before_in (entries g) e.0) (record { path = e.0; self_size = e.1; total_size = total_at g e.0 })
+
+-- The frames of g: one for each path, in the order of paths.
+unfoldable pub frames_of : (Path → Mark) → Graph → List FrameData
+frames_of M g = map (frame_of M g) (entries g)
 
 -- The frames of some figures, if b bytes come before the first.
 abbrev pub frames_from : (Path → Mark) → ℕ → List Figures → List FrameData
@@ -73,10 +67,6 @@ is_warned ws p = list_any (λ w. is_same_path w.path p) ws
 -- The mark of a path in a profile, if the paths ws have a warning.
 abbrev pub warned_mark : List Warned → Path → Mark
 warned_mark ws p = cond (is_warned ws p) mark.Warned Plain
-
--- The mark of a path in the sum of two profiles, of which g is the earlier one.
-abbrev pub changed_mark : Graph → Path → Mark
-changed_mark g p = Changed (total_at g p)
 
 -- The mark of a path with so many bytes of its own in the other graph, and so many with all below it.
 abbrev pub mark_with : Marks → ℕ → ℕ → Mark

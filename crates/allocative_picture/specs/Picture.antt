@@ -4,10 +4,11 @@ use Rattle.std.specs.Prelude.{fold, codes, decimal}
 use Rattle.allocative_graph.specs.Graph.{Graph, total, sum_of, Warned, warning_text}
 use Rattle.allocative_collectors.specs.Warned.{warning_of}
 use Rattle.allocative_picture.specs.Escape.{escaped}
-use Rattle.allocative_picture.specs.Frames.{FrameData, frames_of, warned_mark, changed_mark}
+use Rattle.allocative_picture.specs.Frames.{FrameData, frames_of, warned_mark, mark_by}
 use Rattle.allocative_picture.specs.Boxes.{is_drawn, element, both_text, change_text, full_text, is_bytes}
 use Rattle.allocative_picture.specs.declared.fixed.TheConstants.{CLOSING, STYLE, TOOLS, LEGEND}
 use Rattle.allocative_picture.specs.declared.options.Options.{Options}
+use Rattle.allocative_picture.specs.declared.frames.Marks.TheVariants.{Earlier}
 use Rattle.allocative_picture.specs.declared.page.Subject.{Subject}
 use Rattle.allocative_picture.specs.declared.page.Subject.TheVariants.{Profile, Change}
 use Rattle.std.specs.List.{concat}
@@ -17,15 +18,10 @@ abbrev pub all_of : Subject → ℕ
 all_of (Profile bytes) = bytes
 all_of (Change before after) = before + after
 
--- The legend of the colours of a change, and no text for a profile.
-abbrev pub legend_of : Subject → List ℕ
-legend_of (Profile bytes) = []
-legend_of (Change before after) = LEGEND.now
-
--- The height of the legend in pixels.
-abbrev pub legend_height_of : Subject → ℕ
-legend_height_of (Profile bytes) = 0
-legend_height_of (Change before after) = 16
+-- The legend of the colours of a change and its height in pixels. A profile has none.
+abbrev pub legend_of : Subject → List ℕ × ℕ
+legend_of (Profile bytes) = ([], 0)
+legend_of (Change before after) = (LEGEND.now, 16)
 
 -- The totals of the subject of a picture, in a unit.
 unfoldable pub subject_text : List ℕ → Subject → List ℕ
@@ -70,13 +66,12 @@ warning_lines y (w ∷ ws) = warning_line y w ++ warning_lines (y + 16) ws
 abbrev pub bottom : List FrameData → ℕ
 bottom ws = 64 + 18 * levels ws
 
--- The picture of n paths, if the frames are those that have a box: its beginning, the style, the title, the totals with
--- the number of paths that have a box and of those that are too narrow, the labels that the script makes clickable,
--- the legend, the boxes, the warnings and the end.
+-- The picture of n paths, if the frames are those that have a box: its beginning, the heading, the legend, the boxes,
+-- the warnings and the end.
 unfoldable pub drawing_of : Subject → Options → List FrameData → ℕ → List ℕ
 drawing_of s o ws n =
-    opening (bottom ws + 8 + 16 * length o.warned.now + legend_height_of s) (escaped o.title.now)
-    ++ heading (escaped o.title.now) (escaped o.unit.now) s (length ws) n ++ legend_of s
+    opening (bottom ws + 8 + 16 * length o.warned.now + (legend_of s).1) (escaped o.title.now)
+    ++ heading (escaped o.title.now) (escaped o.unit.now) s (length ws) n ++ (legend_of s).0
     ++ flat_map (element (escaped o.unit.now) (all_of s)) ws ++ warning_lines (bottom ws + 14) (map warning_of o.warned.now)
     ++ CLOSING.now
 
@@ -90,4 +85,4 @@ profile_drawing o g = drawing (Profile (total g)) o (frames_of (warned_mark (map
 
 -- The picture of the change from g to h is drawn from the frames of their sum, each marked with its bytes in g.
 abbrev pub change_drawing : Options → Graph → Graph → List ℕ
-change_drawing o g h = drawing (Change (total g) (total h)) o (frames_of (changed_mark g) (sum_of g h))
+change_drawing o g h = drawing (Change (total g) (total h)) o (frames_of (mark_by Earlier g) (sum_of g h))

@@ -2,7 +2,7 @@
 ghost use Rattle.std.specs.Prelude.{◌≡◌, ◌+◌, ◌*◌, ◌^◌, ◌<◌, Some, OnOk, ◌-◌, ◌≤◌};
 ghost use Rattle.allocative_graph.specs.Format.{AppendsText};
 ghost use Rattle.allocative_picture.specs.Frames.{frame_data};
-ghost use Rattle.allocative_picture.specs.Boxes.{edge, left_edge, width, is_drawn, figure_text, declared_text, title_text, viewport, element, shade, paint_text, change_text, both_text, class_text, change_class, fit_text};
+ghost use Rattle.allocative_picture.specs.Boxes.{edge, width, is_drawn, figure_text, declared_text, title_text, viewport, element, shade, paint_text, change_text, both_text, class_text, change_class, fit_text};
 
 use crate::escape::escaped;
 use crate::figures::{Amount, Full, Percent, Place};
@@ -164,19 +164,12 @@ pub(crate) fn edge(all: u128, bytes: u128) -> u128
     bytes * 1_000_000 / all
 }
 
-/// The left edge of a frame's box.
-fn left_edge(all: u128, frame: &Frame<'_>) -> u128
-    ensures { result ≡ left_edge all (frame_data frame.now) }
-{
-    edge(all, frame.before as u128)
-}
-
 /// The width of a frame's box.
 fn width(all: u128, frame: &Frame<'_>) -> u128
     ensures { result ≡ width all (frame_data frame.now) }
 {
-    let right = edge(all, frame.before as u128 + frame.whole as u128);
-    right.saturating_sub(left_edge(all, frame))
+    let before = frame.before as u128;
+    edge(all, before + frame.whole as u128).saturating_sub(edge(all, before))
 }
 
 /// Whether a frame has a box: its width is neither 0 nor less than the least width.
@@ -256,11 +249,8 @@ fn push_viewport(all: u128, frame: &Frame<'_>, text: &mut String) -> Result<(), 
 {
     let units = width(all, frame);
     let (class, fit) = (Class(*frame), fit(units, frame.key.len()));
-    let (x, y, width) = (
-        Place(left_edge(all, frame)),
-        54 + 18 * frame.depth as u128,
-        Place(units),
-    );
+    let (x, width) = (Place(edge(all, frame.before as u128)), Place(units));
+    let y = 54 + 18 * frame.depth as u128;
     write!(
         text,
         "<svg class=\"b {class}{fit}\" x=\"{x}\" y=\"{y}\" width=\"{width}\" height=\"18\">"

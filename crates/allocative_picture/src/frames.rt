@@ -1,6 +1,5 @@
 //! The frames of a flame graph, and what marks its paths.
 ghost use Rattle.std.specs.Prelude.{◌≡◌, ◌+◌, ◌<◌, ◌^◌, ◌++◌, [], ◌∷◌, OnOk, map, filter, option_copied, IfOk};
-ghost use Rattle.std.specs.FinMap.{len};
 ghost use Rattle.allocative_graph.specs.Graph.{total, size_at};
 ghost use Rattle.allocative_graph.specs.Rows.{figures_behind};
 ghost use Rattle.allocative_graph.specs.Path.{Path};
@@ -55,6 +54,7 @@ impl Marks {
 }
 
 /// What the other graph has at a key and below it.
+#[tactic(auto, using(crate::proofs::Marking::marks_found))]
 fn below<'a>(other: Option<&'a FlameGraph>, key: &Key) -> Option<&'a FlameGraph>
     ensures { (marks : Marks) (p : Path)
         → mark_in marks (option_copied other.entry) (key.now ∷ p) ≡ mark_in marks (option_copied result) p }
@@ -63,6 +63,7 @@ fn below<'a>(other: Option<&'a FlameGraph>, key: &Key) -> Option<&'a FlameGraph>
 }
 
 /// The key that a picture shows for a path.
+#[tactic(auto, using(crate::proofs::Placing::last_keys))]
 fn shown_key(path: &[&'static str]) -> &'static str
     ensures { result.now ≡ shown_key (map (λ k. k.now) path.now) }
 {
@@ -109,14 +110,14 @@ pub(crate) fn push_wide<'a>(
 }
 
 /// Appends the frames of all paths of a graph that are wide enough, each after the given keys. `other` is what the other
-/// graph has at these keys and below them. `before` has the bytes of all paths before, and `paths` their number.
+/// graph has at these keys and below them. `before` has the bytes of all paths before.
+#[tactic(auto, using(crate::proofs::Placing::walking))]
 pub(crate) fn push_frames(
     shown: &Shown<'_>,
     graph: &FlameGraph,
     other: Option<&FlameGraph>,
     path: &mut Vec<&'static str>,
     before: &mut usize,
-    paths: &mut usize,
     frames: &mut Vec<Frame<'static>>,
 ) -> Result<(), AllocError>
     requires fits { before.old + total graph.now < 2 ^ 64 }
@@ -125,7 +126,6 @@ pub(crate) fn push_frames(
         ≡ mark_in shown.now.marks (option_copied other) p }
     ensures path { OnOk result (path.new.items ≡ path.old.items) }
     ensures before { OnOk result (before.new ≡ before.old + total graph.now) }
-    ensures paths { OnOk result (paths.new ≡ paths.old + len graph.now) }
     ensures frames { OnOk result (map frame_data frames.new.items ≡ map frame_data frames.old.items
         ++ filter (is_drawn shown.now.least shown.now.all)
         (frames_from (mark_by shown.now.marks shown.now.other.now) before.old
@@ -136,17 +136,17 @@ pub(crate) fn push_frames(
     let frame = frame_from(mark, *before, path.as_slice(), graph);
     push_wide(shown.least, shown.all, frame, frames)?;
     *before += graph.self_size();
-    *paths = paths.checked_add(1).ok_or(AllocError)?;
     for child in children {
         let below = below(other, &child.key);
         path.push(child.key.as_str())?;
-        push_frames(shown, &child.graph, below, path, before, paths, frames)?;
+        push_frames(shown, &child.graph, below, path, before, frames)?;
         path.pop();
     }
     Ok(())
 }
 
 /// A graph that has bytes at the paths that have a warning, and at no others. The only error is that memory runs out.
+#[tactic(auto, using(crate::proofs::Marking::warning))]
 pub(crate) fn graph_of_warned(
     alloc: Global,
     warned: &[WarnedPath],

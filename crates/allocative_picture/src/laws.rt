@@ -1,15 +1,15 @@
 //! The laws of pictures. Each is a function without parameters, whose contract is the law.
+#![tactic(auto, using(crate::proofs::Geometry::laws, crate::proofs::Escaping::escapes))]
+
 ghost use Rattle.allocative_picture.specs.Laws.{InsideLaw, ApartLaw, ShareLaw, WithinLaw, BoxesLaw, OnceLaw, ChangeLaw};
 ghost use Rattle.allocative_picture.specs.Escape.{EscapeLaw};
 
 /// The box of a path lies within the box of its parent, the path without its last key.
-#[tactic(auto, using(crate::proofs::Geometry::placing))]
 pub fn inside_law()
     ensures { InsideLaw }
 {}
 
 /// Boxes with one parent lie beside one another, in the order of their keys.
-#[tactic(auto, using(crate::proofs::Geometry::placing))]
 pub fn apart_law()
     ensures { ApartLaw }
 {}
@@ -20,32 +20,27 @@ pub fn share_law()
 {}
 
 /// No box extends past the right edge of the picture.
-#[tactic(auto, using(crate::proofs::Geometry::placing))]
 pub fn within_law()
     ensures { WithinLaw }
 {}
 
 /// Each frame that is wide enough has one box, and no other frame has one.
-#[tactic(auto, using(crate::proofs::Geometry::boxes_are))]
 pub fn boxes_law()
     ensures { BoxesLaw }
 {}
 
 /// Each path of a graph occurs once among the entries from which the frames are made.
-#[tactic(auto, using(crate::proofs::Geometry::stands_once))]
 pub fn once_law()
     ensures { OnceLaw }
 {}
 
 /// No byte of an escaped text begins or ends an element, a text or an attribute, and a reader of the markup finds the
 /// text, with U+FFFD in place of unfit characters.
-#[tactic(auto, using(crate::proofs::Escaping::escapes))]
 pub fn escape_law()
     ensures { EscapeLaw }
 {}
 
 /// The bytes of a path and all below it in the sum of two graphs are those in the two graphs together.
-#[tactic(auto, using(crate::proofs::Geometry::changing))]
 pub fn change_law()
     ensures { ChangeLaw }
 {}

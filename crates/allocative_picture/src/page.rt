@@ -4,7 +4,7 @@ ghost use Rattle.allocative_graph.specs.Format.{AppendsText};
 ghost use Rattle.allocative_collectors.specs.Warned.{warning_of};
 ghost use Rattle.allocative_picture.specs.Frames.{frame_data};
 ghost use Rattle.allocative_picture.specs.Boxes.{element};
-ghost use Rattle.allocative_picture.specs.Picture.{all_of, legend_of, legend_height_of, subject_text, levels, opening, narrow_hint, heading, warning_line, warning_lines};
+ghost use Rattle.allocative_picture.specs.Picture.{all_of, legend_of, subject_text, levels, opening, narrow_hint, heading, warning_line, warning_lines};
 
 use crate::boxes::{Comparison, Difference, push_element};
 use crate::escape::escaped;
@@ -43,24 +43,15 @@ impl Subject {
         }
     }
 
-    /// The legend of the colours of a change, and no text for a profile.
-    pub(crate) fn legend(self) -> &'static str
-        ensures { result.now ≡ legend_of self }
+    /// The legend of the colours of a change and its height in pixels. A profile has none.
+    pub(crate) fn legend(self) -> (&'static str, u128)
+        ensures text { result.0.now ≡ (legend_of self).0 }
+        ensures height { result.1 ≡ (legend_of self).1 }
+        ensures bound { result.1 ≤ 16 }
     {
         match self {
-            Subject::Profile { .. } => "",
-            Subject::Change { .. } => LEGEND,
-        }
-    }
-
-    /// The height of the legend in pixels.
-    pub(crate) fn legend_height(self) -> u128
-        ensures height { result ≡ legend_height_of self }
-        ensures bound { result ≤ 16 }
-    {
-        match self {
-            Subject::Profile { .. } => 0,
-            Subject::Change { .. } => 16,
+            Subject::Profile { .. } => ("", 0),
+            Subject::Change { .. } => (LEGEND, 16),
         }
     }
 }

@@ -78,18 +78,10 @@ fn draw_graph(
         all: subject.all(),
     };
     let (mut path, mut wide) = (Vec::new(alloc), Vec::new(alloc));
-    let (mut before, mut paths) = (0, 0);
     // The contract of `total_size` says that all bytes fit a `usize`, so no sum below overflows.
     let _all = graph.total_size();
-    push_frames(
-        &shown,
-        graph,
-        Some(other),
-        &mut path,
-        &mut before,
-        &mut paths,
-        &mut wide,
-    )?;
+    push_frames(&shown, graph, Some(other), &mut path, &mut 0, &mut wide)?;
+    let paths = graph.path_count().ok_or(AllocError)?;
     draw_wide(alloc, subject, wide.as_slice(), paths, options)
 }
 
@@ -124,7 +116,8 @@ fn draw_wide(
         (drawing_of subject options.now (map frame_data frames.now) paths) }
 {
     let bottom = 64 + 18 * levels(frames);
-    let height = bottom + 8 + 16 * options.warned.len() as u128 + subject.legend_height();
+    let (legend, legend_height) = subject.legend();
+    let height = bottom + 8 + 16 * options.warned.len() as u128 + legend_height;
     let title = escaped(alloc, options.title)?;
     let title = title.as_str();
     let unit = escaped(alloc, options.unit)?;
@@ -132,7 +125,7 @@ fn draw_wide(
     let mut text = String::new(alloc);
     push_opening(height, title, &mut text)?;
     push_heading(title, unit, subject, frames.len(), paths, &mut text)?;
-    text.push_str(subject.legend())?;
+    text.push_str(legend)?;
     push_boxes(alloc, unit, subject.all(), frames, &mut text)?;
     push_warnings(alloc, bottom + 14, options.warned, &mut text)?;
     text.push_str(CLOSING)?;

@@ -28,7 +28,7 @@ fn put(view: &mut FlameGraph, key: Key, graph: FlameGraph) -> Result<(), AllocEr
 }
 
 /// The graphs of some children, added up.
-#[tactic(auto, using(std::proofs::Common::take_all, crate::proofs::Viewing::joined_more))]
+#[tactic(auto, using(std::proofs::Common::take_all, std::proofs::lemmas::List::Sums::fold_more))]
 fn joined(alloc: Global, children: &[Child]) -> Result<FlameGraph, AllocError>
     ensures { IfOk result (λ graph. graph ≡ joined children.now) }
 {
@@ -87,6 +87,7 @@ pub fn outline(
 }
 
 /// The last key of a row's path alone, or no key of the root's.
+#[tactic(auto, using(crate::proofs::Placing::last_keys))]
 fn last_of(row: &Row) -> &[&'static str]
     ensures { texts result.now ≡ last_of (row_figures row.now).path }
 {
@@ -96,7 +97,7 @@ fn last_of(row: &Row) -> &[&'static str]
 
 /// The bytes of a graph by last key: all paths that end in a key add up under that key alone. The root keeps its own
 /// bytes. The only error is that memory runs out.
-#[tactic(auto, using(crate::proofs::Viewing::row_more))]
+#[tactic(auto, using(std::proofs::lemmas::List::Sums::fold_more))]
 pub fn by_last_key(alloc: Global, graph: &FlameGraph) -> Result<FlameGraph, AllocError>
     ensures view { IfOk result (λ view. view ≡ by_last_key graph.now) }
     ensures total { IfOk result (λ view. total view ≡ total graph.now) }

@@ -5,4 +5,4 @@ use Rattle.allocative_picture.proofs.boxes.push_viewport.Goals as goal
 -- The frame of a box is appended.
 pub returns : goal.returns
 unfolding viewport
-returns c = rw (← c.width-units.ensures, ← c.left_edge.ensures, ← c.fit-fit.ensures) c.in_ok-write.ensures.bytes
+returns c = rw (← c.width-units.ensures, ← c.edge.ensures, ← c.fit-fit.ensures) c.in_ok-write.ensures.bytes

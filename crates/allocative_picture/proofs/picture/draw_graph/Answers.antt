@@ -1,5 +1,5 @@
 -- of draw_graph: the result
-use Rattle.std.proofs.Common.{◌≡◌, ◌++◌, map, ap, ◌∙◌, filter, arith}
+use Rattle.std.proofs.Common.{◌≡◌, ◌++◌, map, ap, ◌∙◌, filter, rules}
 use Rattle.allocative_picture.proofs.Common.{figures_behind, is_drawn, len, frames_from, frame_data, texts, all_of}
 use Rattle.allocative_picture.proofs.Common.{mark_by}
 use Rattle.allocative_picture.proofs.Placing.{frames_from-figures, length-frames_of}
@@ -11,7 +11,7 @@ returns c =
     let M = mark_by c.args.marks c.args.other.now in
     let g = c.args.graph.now in
     let least = c.args.options.now.narrowest in
-    let paths : c.push_frames.new.paths ≡ len g = omega (arith, c.in_ok-push_frames.ensures.paths) in
+    let paths : c.in_ok-paths.paths ≡ len g = search rules in
     let frames = ap (map frame_data) c.as_slice.ensures.value ∙ c.in_ok-push_frames.ensures.frames
     ∙ (λ i. map frame_data (c.new-wide.ensures.items i)
     ++ filter (is_drawn least (c.all.ensures i))
