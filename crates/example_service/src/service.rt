@@ -6,16 +6,13 @@ use allocative_picture::options::Options;
 use allocative_picture::picture::{change_picture, picture};
 use allocative_service::cache::{BoundedCache, CacheError};
 use allocative_service::history::{History, report};
-use allocative_service::ledger::{Account, Budget, Ledger, Rejection, Standing};
+use allocative_service::ledger::{Budget, Ledger, Rejection, Standing};
 use allocative_service::measure::Measure;
 use anyhow::Result;
 use std::alloc::{AllocError, Global};
 
 /// The account of what all tenants share. No request can name it, since it has a space.
 const SHARED: &str = "the catalogue";
-
-/// The most bytes that the catalogue may have.
-const CATALOGUE_LIMIT: usize = 1000;
 
 /// The documents, the pages that were last shown of them, an account for each tenant, and the last profiles.
 #[derive(Drop)]
@@ -29,12 +26,12 @@ pub struct Service {
 
 impl Service {
     /// A service with a catalogue of these items and no document. It keeps pages of 150 bytes together. The catalogue
-    /// has an account of its own, so it is billed once, and to no tenant: `Measure::Owned` leaves out what an order's
-    /// pointer to it points to.
+    /// has an account of its own, with a limit of 1000 bytes, so it is billed once, and to no tenant: `Measure::Owned`
+    /// leaves out what an order's pointer to it points to.
     pub fn new(alloc: Global, items: &[&str]) -> Result<Service> {
         let held = hold(alloc, items)?;
         let mut ledger = Ledger::new(alloc, Measure::Owned);
-        ledger.open(SHARED, budget_of(CATALOGUE_LIMIT))?;
+        ledger.open(SHARED, Budget { limit: 1000 })?;
         ledger.admit(SHARED, 1, held.catalogue.get())?;
         Ok(Service {
             alloc,
@@ -285,11 +282,20 @@ impl Service {
         Ok(text)
     }
 
-    /// What is billed to each tenant, and all of it together.
+    /// What is billed to each tenant, and all of it together. Of a tenant: its bytes, its limit, the most bytes that it
+    /// had, whether it is over its soft limit, and the bytes of each document.
     fn bill(&self) -> Result<String, Refusal> {
         let mut text = String::new(self.alloc);
         for (tenant, account) in self.ledger.accounts() {
-            push_account(tenant.as_str(), account, &mut text)?;
+            let (bytes, limit, peak) = (account.bytes(), account.limit(), account.peak());
+            let mark = if account.is_over() { ", over" } else { "" };
+            write!(
+                text,
+                "{tenant}: {bytes} of {limit} bytes, at most {peak}{mark}\n"
+            )?;
+            for (key, bytes) in account.entries() {
+                write!(text, "  document {key}: {bytes} bytes\n")?;
+            }
         }
         write!(text, "all: {} bytes\n", self.ledger.bytes())?;
         Ok(text)
@@ -418,19 +424,4 @@ fn tell_page(alloc: Global, error: CacheError) -> Result<String, Refusal> {
 /// Says that there are fewer than two profiles.
 fn too_few(alloc: Global) -> Result<String, Refusal> {
     Ok(String::from_str(alloc, "there are fewer than two profiles\n")?)
-}
-
-/// Appends the bill of an account: its bytes, its limit, the most bytes that it had, whether it is over its soft limit,
-/// and the bytes of each document.
-fn push_account(tenant: &str, account: &Account, text: &mut String) -> Result<(), AllocError> {
-    let (bytes, limit, peak) = (account.bytes(), account.limit(), account.peak());
-    let mark = if account.is_over() { ", over" } else { "" };
-    write!(
-        text,
-        "{tenant}: {bytes} of {limit} bytes, at most {peak}{mark}\n"
-    )?;
-    for (key, bytes) in account.entries() {
-        write!(text, "  document {key}: {bytes} bytes\n")?;
-    }
-    Ok(())
 }

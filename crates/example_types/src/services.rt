@@ -10,7 +10,6 @@ use allocative::{
     profile_values,
 };
 use std::alloc::Global;
-use std::mem;
 
 /// What one sensor counted.
 #[derive(Drop)]
@@ -80,14 +79,6 @@ impl Sensors {
             Ok(()) => Ok(()),
             Err(refused) => Err(refused.value),
         }
-    }
-
-    /// Removes and returns all sensors. It allocates nothing.
-    pub fn clear(&mut self) -> Vec<Named<Sensor>>
-        ensures { (result.items ≡ self.old.roots.items) × (self.new.roots.items ≡ []) }
-    {
-        let none = Vec::new(*self.roots.allocator());
-        mem::replace(&mut self.roots, none)
     }
 
     /// The graph and the warnings of all sensors. It fails if memory runs out, or if a sensor's own

@@ -5,6 +5,7 @@ ghost use Rattle.std.specs.Prelude.{codes, Some};
 ghost use Rattle.allocative.specs.Shows.{Nothing, Inside, Field, Both};
 
 use allocative::{Allocative, Field, Inside, Part, Refusal, Visitor};
+use std::ops::Range;
 use std::path::PathBuf;
 
 /// A document and where it is stored. The path is of a foreign type and is not shown.
@@ -27,18 +28,11 @@ impl Allocative for Document {
     }
 }
 
-/// A day and its weather, which is shown only by its size.
+/// A day and its least and greatest warmth, which are of a foreign type and shown only by their size.
 #[derive(Drop)]
 pub struct Day {
     pub number: u16,
-    pub weather: Weather,
-}
-
-/// The weather, of a type that shows nothing itself.
-#[derive(Drop)]
-pub struct Weather {
-    pub warmth: u32,
-    pub rain: u32,
+    pub weather: Range<u32>,
 }
 
 impl Allocative for Day {

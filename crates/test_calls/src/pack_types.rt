@@ -47,16 +47,8 @@ fn values_in_place_and_behind_a_pointer(rt: HostRuntime) -> Result<(), Fail> {
     let alloc = rt.alloc();
     let right: Either<u8, u64> = Either::Right(1);
     shows(alloc, &right, "Either 8\nEither;Right;u64 8\n")?;
-    made(
-        alloc,
-        Ok::<_, AllocError>(anyhow::Error::msg("refused")),
-        "",
-    )?;
-    made(
-        alloc,
-        Ok::<_, AllocError>(OnceBox::<u64>::new(alloc)),
-        "OnceBox 8\n",
-    )?;
+    shows(alloc, &anyhow::Error::msg("refused"), "")?;
+    shows(alloc, &OnceBox::<u64>::new(alloc), "OnceBox 8\n")?;
     made(alloc, set_cell(alloc), "OnceBox;ptr 8\nOnceBox;ptr;u64 8\n")?;
     let text = "SmallVec 16\nSmallVec;data;u64 8\n";
     counted::<SmallVec<u64, 2>, _>(alloc, [1].into_iter().collect(alloc), text)?;

@@ -110,13 +110,6 @@ fn parts_in_place(rt: HostRuntime) -> Result<(), Fail> {
     )
 }
 
-/// A cell that was set.
-fn set_cell() -> Result<OnceCell<u64>, Fail> {
-    let cell = OnceCell::new();
-    cell.set(5).or(Err("a new cell takes a value"))?;
-    Ok(cell)
-}
-
 #[test]
 fn cells_and_locks(rt: HostRuntime) -> Result<(), Fail> {
     show(
@@ -125,7 +118,7 @@ fn cells_and_locks(rt: HostRuntime) -> Result<(), Fail> {
             (&Cell::new(1u32), "Cell;data;u32 4\n"),
             (&RefCell::new(1u64), "RefCell 8\nRefCell;data;u64 8\n"),
             (&OnceCell::<u64>::new(), "OnceCell 16\n"),
-            (&set_cell()?, "OnceCell 8\nOnceCell;data;u64 8\n"),
+            (&OnceCell::from(5u64), "OnceCell 8\nOnceCell;data;u64 8\n"),
             (&Mutex::new(1u8), "Mutex 7\nMutex;data;u8 1\n"),
             (&RwLock::new(1u64), "RwLock 16\nRwLock;data;u64 8\n"),
             (&OnceLock::<u64>::new(), "OnceLock 16\n"),

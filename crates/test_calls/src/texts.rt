@@ -69,9 +69,7 @@ pub(crate) fn made<T: Allocative, E: Drop>(
     made: Result<T, E>,
     want: &str,
 ) -> Result<(), Fail> {
-    let Ok(value) = made else {
-        return Err(Fail::new("no value"));
-    };
+    let value = made.or(Err("no value"))?;
     is_output(&profile_value(alloc, &value)?, want)
 }
 
@@ -81,9 +79,7 @@ pub(crate) fn counted<T: Tallied, E: Drop>(
     made: Result<T, E>,
     want: &str,
 ) -> Result<(), Fail> {
-    let Ok(value) = made else {
-        return Err(Fail::new("no value"));
-    };
+    let value = made.or(Err("no value"))?;
     is_output(&profile_value(alloc, &value)?, want)?;
     is_output(&profile_counted(alloc, &value)?, want)
 }

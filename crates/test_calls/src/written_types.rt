@@ -11,7 +11,7 @@ use example_types::pointers::PageLink;
 use example_types::services::{Sensor, Sensors};
 use example_types::structs::{Named, Point};
 use example_types::trees::Tree;
-use example_types::wrappers::{Day, Document, Weather};
+use example_types::wrappers::{Day, Document};
 use std::alloc::{AllocError, Global};
 use std::collections::BTreeMap;
 use std::net::{IpAddr, Ipv4Addr, SocketAddr};
@@ -27,15 +27,15 @@ use uuid::Uuid;
 
 #[test]
 fn types_in_place(rt: HostRuntime) -> Result<(), Fail> {
-    let weather = Weather { warmth: 1, rain: 2 };
+    let day = Day {
+        number: 3,
+        weather: 1..2,
+    };
     show(
         rt.alloc(),
         &[
             (&Point { x: 1, y: 2 }, "Point;x;u32 4\nPoint;y;u32 4\n"),
-            (
-                &Day { number: 3, weather },
-                "Day 2\nDay;number;u16 2\nDay;weather 8\n",
-            ),
+            (&day, "Day 2\nDay;number;u16 2\nDay;weather 8\n"),
             (&Gauge { reading: 5 }, "Gauge;reading;u64 8\n"),
             (
                 &Request::Move(1, 2),

@@ -8,7 +8,6 @@ mod checks;
 mod forest;
 mod notation;
 mod row;
-mod shown;
 
 use checks::is_right;
 use row::Row;

@@ -14,13 +14,6 @@ struct Entry {
     size: usize,
 }
 
-/// The entries that were read of a line, and the depth of the next one.
-#[derive(Drop)]
-struct Entries {
-    list: Vec<Entry>,
-    depth: u8,
-}
-
 /// An identity: `#7` is number 7 of maker 0, and `(1,7)` that of maker 1.
 fn identity_of(word: &str) -> Option<Identity> {
     if let Some(number) = word.strip_prefix('#') {
@@ -53,43 +46,24 @@ fn entry_of(depth: u8, text: &'static str) -> Option<Entry> {
     labelled(depth, EntryKind::Shared(identity_of(identity)?), label)
 }
 
-impl Entries {
-    /// Reads a text without braces.
-    fn read_list(&mut self, text: &'static str) -> io::Result<()> {
-        for text in text.split(", ") {
-            let text = text.trim();
-            if !text.is_empty() {
-                let entry = entry_of(self.depth, text).ok_or(ErrorKind::InvalidData)?;
-                self.list.push(entry)?;
-            }
+/// The entries of a line. Those in a brace are one deeper than the entry before it.
+fn entries_of(alloc: Global, line: &'static str) -> io::Result<Vec<Entry>> {
+    let mut entries = Vec::new(alloc);
+    let mut depth = 0u8;
+    for (place, opened) in line.split('{').enumerate() {
+        if place > 0 {
+            depth = depth.checked_add(1).ok_or(ErrorKind::InvalidData)?;
         }
-        Ok(())
-    }
-
-    /// Opens a brace after the last entry.
-    fn open(&mut self) -> io::Result<()> {
-        if self.list.last().map(|entry| entry.depth) != Some(self.depth) {
-            return Err(ErrorKind::InvalidData.into());
-        }
-        self.depth = self.depth.checked_add(1).ok_or(ErrorKind::InvalidData)?;
-        Ok(())
-    }
-
-    /// Reads a line. Each brace is opened after the entry that has what is in it.
-    fn read(&mut self, line: &'static str) -> io::Result<()> {
-        for (place, opened) in line.split('{').enumerate() {
+        for (place, text) in opened.split('}').enumerate() {
             if place > 0 {
-                self.open()?;
+                depth = depth.checked_sub(1).ok_or(ErrorKind::InvalidData)?;
             }
-            for (place, text) in opened.split('}').enumerate() {
-                if place > 0 {
-                    self.depth = self.depth.checked_sub(1).ok_or(ErrorKind::InvalidData)?;
-                }
-                self.read_list(text)?;
+            for text in text.split(", ").filter(|text| !text.trim().is_empty()) {
+                entries.push(entry_of(depth, text.trim()).ok_or(ErrorKind::InvalidData)?)?;
             }
         }
-        Ok(())
     }
+    Ok(entries)
 }
 
 /// The forest of the entries that have this depth, up to the first one that is less deep.
@@ -112,17 +86,11 @@ fn forest_of(alloc: Global, entries: &[Entry], depth: usize) -> Result<Forest, A
 
 /// The root of a line. The line `nothing` is a root without entries.
 pub(crate) fn root_of(alloc: Global, line: &'static str) -> io::Result<Forest> {
-    let mut entries = Entries {
-        list: Vec::new(alloc),
-        depth: 0,
-    };
-    if line != "nothing" {
-        entries.read(line)?;
+    if line == "nothing" {
+        return Ok(Forest::Empty);
     }
-    if entries.depth > 0 {
-        return Err(ErrorKind::InvalidData.into());
-    }
-    Ok(forest_of(alloc, &entries.list, 0)?)
+    let entries = entries_of(alloc, line)?;
+    Ok(forest_of(alloc, &entries, 0)?)
 }
 
 /// Adds the roots of some lines, one of each line.

@@ -1,13 +1,4 @@
 //! A row: its name, its roots, and what they have to answer.
-use allocative::Refusal;
-use std::io::{self, ErrorKind};
-
-/// What roots have to answer: the text of their graph, or a refusal.
-#[derive(Clone, Copy)]
-pub(crate) enum Wanted {
-    Text(&'static str),
-    Refused(Refusal),
-}
 
 /// A row, which is its name, its roots and its sections.
 #[derive(Clone, Copy)]
@@ -18,24 +9,6 @@ pub(crate) fn cut(lines: &'static str) -> (&'static str, &'static str) {
     match lines.split_once('\n') {
         Some((first, others)) => (first, others.trim_end()),
         None => (lines, ""),
-    }
-}
-
-/// The refusal of a word.
-pub(crate) fn refusal_of(word: &str) -> io::Result<Refusal> {
-    match word {
-        "Memory" => Ok(Refusal::Memory),
-        "TooLarge" => Ok(Refusal::TooLarge),
-        "Open" => Ok(Refusal::Open),
-        _ => Err(ErrorKind::InvalidData.into()),
-    }
-}
-
-/// The held bytes of a word, or its refusal.
-pub(crate) fn held_of(word: &str) -> io::Result<Result<usize, Refusal>> {
-    match word.parse::<usize>() {
-        Ok(held) => Ok(Ok(held)),
-        Err(_) => Ok(Err(refusal_of(word)?)),
     }
 }
 

@@ -95,13 +95,5 @@ pub struct Job {
 #[derive(Drop)]
 pub enum Payload {
     Nothing,
-    Done(Option<Trigger>),
-}
-
-/// What starts a job.
-#[cycle(jobs)]
-#[derive(Drop)]
-pub enum Trigger {
-    Nothing,
     Done { job: Box<Job>, within_seconds: u64 },
 }

@@ -91,14 +91,6 @@ fn shared_entries_are_refused(rt: HostRuntime) {
     assert_entered(&rt, builder, entered, text);
 }
 
-/// Asserts the text of what a builder wrote, or that it was refused.
-fn assert_written(rt: &impl Abort, made: Result<String, Refusal>, want: &str) {
-    match made {
-        Ok(text) => assert_same(rt, text.as_str(), want),
-        Err(refusal) => assert_refused(rt, refusal),
-    }
-}
-
 /// Asserts what a builder writes after a visit, or that it has failed.
 pub(crate) fn assert_visited(
     rt: &impl Abort,
@@ -107,7 +99,10 @@ pub(crate) fn assert_visited(
     text: &str,
 ) {
     match visited {
-        Ok(()) => assert_written(rt, builder.finish_and_write_flame_graph(), text),
+        Ok(()) => match builder.finish_and_write_flame_graph() {
+            Ok(written) => assert_same(rt, written.as_str(), text),
+            Err(refusal) => assert_refused(rt, refusal),
+        },
         Err(refusal) => has_failed(rt, builder, refusal),
     }
 }

@@ -5,13 +5,12 @@ use allocative_json::{Fault, Report, profile_json, read_roots, report};
 use std::alloc::Global;
 use std::process::Abort;
 
-pub(crate) const FAR_NUMBERS: &[u8] =
-    b"[18446744073709551615,-9223372036854775808,18446744073709551615]";
+const FAR_NUMBERS: &[u8] = b"[18446744073709551615,-9223372036854775808,18446744073709551615]";
 
-pub(crate) const THREE_NUMBERS: &str =
+const THREE_NUMBERS: &str =
     "BTreeSet 16\nBTreeSet;data;key;i128 32\nValue 8\nValue;Array;Vec 16\nValue;Array;Vec;ptr 8\nValue;Array;Vec;ptr;Value 48\nValue;Array;Vec;ptr;Value;Number;Number 48\n";
 
-pub(crate) const SHORT_DATA: &str =
+const SHORT_DATA: &str =
     "Incorrect size declaration for node `BTreeSet;data`, size of self: 8, size of inline children: 32\n";
 
 fn assert_texts(rt: &impl Abort, report: &Report, profile: &str, warnings: &str) {

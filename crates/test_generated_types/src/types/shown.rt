@@ -10,7 +10,6 @@ ghost use Rattle.test_generated_types.specs.declared.types.Job.{out-Job};
 ghost use Rattle.test_generated_types.specs.declared.types.Json.{Json-F, out-Json};
 ghost use Rattle.test_generated_types.specs.declared.types.Payload.{Payload-F, out-Payload};
 ghost use Rattle.test_generated_types.specs.declared.types.Rope.{Rope-F, out-Rope};
-ghost use Rattle.test_generated_types.specs.declared.types.Trigger.{Trigger-F, out-Trigger};
 
 use super::*;
 use allocative::{
@@ -583,19 +582,14 @@ impl Described for Job {
 impl Allocative for Job {
     ghost may_show = { λ x. recursive (both_levels
         (λ x. field (codes "Job") ⟦<JobLayout as Described>⟧.size (both
-        (field (codes "payload") ⟦<PayloadLayout as Described>⟧.size (child (second (first (out-Job x).payload))))
+        (field (codes "payload") ⟦<PayloadLayout as Described>⟧.size (child (second (out-Job x).payload)))
         (field (codes "earlier_by_number") ⟦<HashMap<(), ()> as Described>⟧.size (hash_map_of (pair_in ⟦<u64 as Described>⟧.size ⟦<u64 as Allocative>⟧.may_show ⟦<JobLayout as Described>⟧.size (λ y. child (first y))) (out-Job x).earlier_by_number.entries))))
-        (both_levels
         (opened out-Payload (λ x. field (codes "Payload") ⟦<PayloadLayout as Described>⟧.size (elim x [
-          | Payload-F.Payload::Nothing ↦ plain shows.Nothing
-          | Payload-F.Payload::Done a ↦ field (codes "Done") ⟦<Option<TriggerLayout> as Described>⟧.size (option_in ⟦<Option<TriggerLayout> as Described>⟧.size ⟦<TriggerLayout as Described>⟧.size (λ y. child (second (second y))) a)
-        ])))
-        (opened out-Trigger (λ x. field (codes "Trigger") ⟦<TriggerLayout as Described>⟧.size (elim x [
-          | Trigger-F.Trigger::Nothing ↦ plain shows.Nothing
-          | Trigger-F.Trigger::Done a b ↦ field (codes "Done") ⟦<TriggerDoneFields as Described>⟧.size (both
+          | Payload-F.Nothing ↦ plain shows.Nothing
+          | Payload-F.Done a b ↦ field (codes "Done") ⟦<PayloadDoneFields as Described>⟧.size (both
               (field (codes "job") ⟦<Box<()> as Described>⟧.size (box_of (child (first a.value))))
               (plain (shows.Field (codes "within_seconds") ⟦<u64 as Described>⟧.size (⟦<u64 as Allocative>⟧.may_show b))))
-        ]))))) (first x) };
+        ])))) (first x) };
 
     ghost is_strict = { true };
 
@@ -612,7 +606,9 @@ impl Allocative for Job {
     }
 }
 
-type PayloadLayout = Record<(u8, (Option<TriggerLayout>, ()))>;
+type PayloadLayout = Record<(u8, (Box<()>, (u64, ())))>;
+
+type PayloadDoneFields = Record<(Box<()>, (u64, ()))>;
 
 impl Described for Payload {
     ghost name = { codes "Payload" };
@@ -643,19 +639,14 @@ impl Described for Payload {
 impl Allocative for Payload {
     ghost may_show = { λ x. recursive (both_levels
         (λ x. field (codes "Job") ⟦<JobLayout as Described>⟧.size (both
-        (field (codes "payload") ⟦<PayloadLayout as Described>⟧.size (child (second (first (out-Job x).payload))))
+        (field (codes "payload") ⟦<PayloadLayout as Described>⟧.size (child (second (out-Job x).payload)))
         (field (codes "earlier_by_number") ⟦<HashMap<(), ()> as Described>⟧.size (hash_map_of (pair_in ⟦<u64 as Described>⟧.size ⟦<u64 as Allocative>⟧.may_show ⟦<JobLayout as Described>⟧.size (λ y. child (first y))) (out-Job x).earlier_by_number.entries))))
-        (both_levels
         (opened out-Payload (λ x. field (codes "Payload") ⟦<PayloadLayout as Described>⟧.size (elim x [
-          | Payload-F.Payload::Nothing ↦ plain shows.Nothing
-          | Payload-F.Payload::Done a ↦ field (codes "Done") ⟦<Option<TriggerLayout> as Described>⟧.size (option_in ⟦<Option<TriggerLayout> as Described>⟧.size ⟦<TriggerLayout as Described>⟧.size (λ y. child (second (second y))) a)
-        ])))
-        (opened out-Trigger (λ x. field (codes "Trigger") ⟦<TriggerLayout as Described>⟧.size (elim x [
-          | Trigger-F.Trigger::Nothing ↦ plain shows.Nothing
-          | Trigger-F.Trigger::Done a b ↦ field (codes "Done") ⟦<TriggerDoneFields as Described>⟧.size (both
+          | Payload-F.Nothing ↦ plain shows.Nothing
+          | Payload-F.Done a b ↦ field (codes "Done") ⟦<PayloadDoneFields as Described>⟧.size (both
               (field (codes "job") ⟦<Box<()> as Described>⟧.size (box_of (child (first a.value))))
               (plain (shows.Field (codes "within_seconds") ⟦<u64 as Described>⟧.size (⟦<u64 as Allocative>⟧.may_show b))))
-        ]))))) (second (first x)) };
+        ])))) (second x) };
 
     ghost is_strict = { true };
 
@@ -663,75 +654,14 @@ impl Allocative for Payload {
     fn visit(&self, visitor: &mut Visitor<'_>) -> Result<(), Refusal> {
         match self {
             Payload::Nothing => Declared("Payload", <Self as Described>::size(), ()).enter(visitor),
-            Payload::Done(a) => {
-                let a = Field("Done", a);
-                Declared("Payload", <Self as Described>::size(), a).enter(visitor)
-            }
-        }
-    }
-}
-
-type TriggerLayout = Record<(u8, (Box<()>, (u64, ())))>;
-
-type TriggerDoneFields = Record<(Box<()>, (u64, ()))>;
-
-impl Described for Trigger {
-    ghost name = { codes "Trigger" };
-
-    ghost align = { ⟦<TriggerLayout as Described>⟧.align };
-
-    ghost needs_drop = { ⟦<TriggerLayout as Described>⟧.needs_drop };
-
-    ghost size = { ⟦<TriggerLayout as Described>⟧.size };
-
-    fn name() -> &'static str {
-        "Trigger"
-    }
-
-    fn align() -> usize {
-        <TriggerLayout>::align()
-    }
-
-    fn needs_drop() -> bool {
-        <TriggerLayout>::needs_drop()
-    }
-
-    fn size() -> Option<usize> {
-        <TriggerLayout>::size()
-    }
-}
-
-impl Allocative for Trigger {
-    ghost may_show = { λ x. recursive (both_levels
-        (λ x. field (codes "Job") ⟦<JobLayout as Described>⟧.size (both
-        (field (codes "payload") ⟦<PayloadLayout as Described>⟧.size (child (second (first (out-Job x).payload))))
-        (field (codes "earlier_by_number") ⟦<HashMap<(), ()> as Described>⟧.size (hash_map_of (pair_in ⟦<u64 as Described>⟧.size ⟦<u64 as Allocative>⟧.may_show ⟦<JobLayout as Described>⟧.size (λ y. child (first y))) (out-Job x).earlier_by_number.entries))))
-        (both_levels
-        (opened out-Payload (λ x. field (codes "Payload") ⟦<PayloadLayout as Described>⟧.size (elim x [
-          | Payload-F.Payload::Nothing ↦ plain shows.Nothing
-          | Payload-F.Payload::Done a ↦ field (codes "Done") ⟦<Option<TriggerLayout> as Described>⟧.size (option_in ⟦<Option<TriggerLayout> as Described>⟧.size ⟦<TriggerLayout as Described>⟧.size (λ y. child (second (second y))) a)
-        ])))
-        (opened out-Trigger (λ x. field (codes "Trigger") ⟦<TriggerLayout as Described>⟧.size (elim x [
-          | Trigger-F.Trigger::Nothing ↦ plain shows.Nothing
-          | Trigger-F.Trigger::Done a b ↦ field (codes "Done") ⟦<TriggerDoneFields as Described>⟧.size (both
-              (field (codes "job") ⟦<Box<()> as Described>⟧.size (box_of (child (first a.value))))
-              (plain (shows.Field (codes "within_seconds") ⟦<u64 as Described>⟧.size (⟦<u64 as Allocative>⟧.may_show b))))
-        ]))))) (second (second x)) };
-
-    ghost is_strict = { true };
-
-    #[cycle(jobs)]
-    fn visit(&self, visitor: &mut Visitor<'_>) -> Result<(), Refusal> {
-        match self {
-            Trigger::Nothing => Declared("Trigger", <Self as Described>::size(), ()).enter(visitor),
-            Trigger::Done {
+            Payload::Done {
                 job,
                 within_seconds,
             } => {
                 let job = Field("job", job);
                 let within_seconds = Field("within_seconds", within_seconds);
-                let inside = Declared("Done", <TriggerDoneFields>::size(), (job, within_seconds));
-                Declared("Trigger", <Self as Described>::size(), inside).enter(visitor)
+                let inside = Declared("Done", <PayloadDoneFields>::size(), (job, within_seconds));
+                Declared("Payload", <Self as Described>::size(), inside).enter(visitor)
             }
         }
     }
