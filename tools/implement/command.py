@@ -75,7 +75,10 @@ def run(chosen: argparse.Namespace) -> int:
     target = placed(chosen, folder, path) if is_inline else shown
     files = answers(os.path.join(chosen.output or folder, "proofs"), source, found) | ({} if is_printed else {target: new})
     if chosen.check:
-        return STALE if sum(is_stale(path, text) for path, text in files.items()) else 0
+        stale = [path for path, text in files.items() if not is_same(path, text)]
+        for path in stale:
+            say(f"{path} is {'not wanted any more' if files[path] is None else 'stale'}: run implement again")
+        return STALE if stale else 0
     if is_printed:
         print(new, end="", flush=True)
     if not is_printed or is_output(shown):
@@ -98,7 +101,9 @@ def answers(folder: str, source: Source, found: list[Writer]) -> dict[str, str |
     """The answers by their files in a folder, with nothing for those that are not wanted any more."""
     texts = answers_of(source.crate.name, found)
     new = {os.path.join(folder, name, "Answers.antt"): text for name, text in texts.items()}
-    old = old_answers(os.path.join(folder, *source.text_at))
+    at = glob.escape(os.path.join(folder, *source.text_at))
+    found_before = (path for each in ANSWERS for path in glob.glob(os.path.join(at, each, "Answers.antt")))
+    old = [path for path in found_before if read(path).startswith(MARK)]
     files: dict[str, str | None] = {path: None for path in old if path not in new}
     return files | {path: answer for path, answer in new.items() if path in old or not os.path.exists(path)}
 
@@ -125,14 +130,6 @@ def tell(path: str, text: str, faults: list[Fault]) -> int:
     return FAULTS
 
 
-def is_stale(path: str, text: str | None) -> bool:
-    """Whether a file is not as it would be written, which is told."""
-    if is_same(path, text) if text is not None else not os.path.exists(path):
-        return False
-    say(f"{path} is {'stale' if text is not None else 'not wanted any more'}: run implement again")
-    return True
-
-
 def put(files: dict[str, str | None]) -> None:
     """Writes files, with the rights that they had, and removes those without a text. If one cannot be written, all stay."""
     new = {path: text for path, text in files.items() if text is not None and not is_same(path, text)}
@@ -157,9 +154,9 @@ def put(files: dict[str, str | None]) -> None:
             os.removedirs(os.path.dirname(path))
 
 
-def is_same(path: str, text: str) -> bool:
-    """Whether a file has a text."""
-    return os.path.exists(path) and read(path) == text
+def is_same(path: str, text: str | None) -> bool:
+    """Whether a file has a text, or is not there if that is nothing."""
+    return (read(path) if os.path.exists(path) else None) == text
 
 
 def added_lines(path: str, text: str, source: Source, is_inline: bool) -> dict[str, str | None]:
@@ -177,12 +174,6 @@ def added_lines(path: str, text: str, source: Source, is_inline: bool) -> dict[s
                 lines[number] = f"{line.rstrip()} allocative\n"
         files[crates] = "".join(lines)
     return files
-
-
-def old_answers(folder: str) -> list[str]:
-    """The answers that were written for a module before."""
-    found = [glob.glob(os.path.join(glob.escape(folder), each, "Answers.antt")) for each in ANSWERS]
-    return [path for path in sum(found, []) if read(path).startswith(MARK)]
 
 
 def read(path: str) -> str:

@@ -303,6 +303,9 @@ class CommandTest(unittest.TestCase):
         answers = self.get("proofs/a/shown/+m/Answers.antt")
         goals = re.findall(r"^pub (\S+) :", answers, re.M)
         self.assertEqual(goals, [f"{name}Allocative::visit-returns{arm}" for name, arm in (("A", ""), ("B", ""), ("C", "-in-D"), ("C", "-in-E"))])
+        twin = "#[cycle(m)]\n#[derive(Drop)]\nenum {} {{\n    N,\n    D(Box<{}>),\n}}\n"
+        twins = twin.format("A", "B") + twin.format("B", "A")
+        self.assertIn("      | B-F.B::D a ↦ field (codes \"D\") ", self.run_it(twins)[1])
         same = both.replace("A {", "A<T> {").replace("Vec<A>", "Vec<A<T>>")
         self.assertIn("A: a type with parameters that holds others which hold it", self.run_it(f"{same}#[cycle(m)]\n{three}")[2][0])
         queue = "use std::collections::*;\n#[derive(Drop)]\nstruct A {\n    a: VecDeque<A>,\n}\n"
