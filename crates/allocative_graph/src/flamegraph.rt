@@ -558,7 +558,7 @@ fn interleave(
 
 // Takes the next child of the merge from the lists. If both have its key, one is added to the other.
 #[cycle(merge)]
-#[tactic(auto, using(crate::proofs::Children::front_total, crate::proofs::Children::front_rows, crate::proofs::Children::front_there))]
+#[tactic(auto, using(crate::proofs::Children::front_there))]
 fn take_next(
     mine: &mut VecDeque<Child>,
     theirs: &mut VecDeque<Child>,

@@ -167,7 +167,7 @@ fn total_of(lines: &[Line]) -> Option<usize>
 }
 
 // The sum of the graphs of some lines, whose bytes fit together.
-#[tactic(auto, using(std::proofs::Common::take_all, crate::proofs::ReadBack::line_fits))]
+#[tactic(auto, using(std::proofs::Common::take_all))]
 fn add_up(alloc: Global, lines: &[Line]) -> Result<FlameGraph, AllocError>
     requires { sum_by (λ l. l.size) lines.now < 2 ^ 64 }
     ensures { IfOk result (λ graph. graph ≡ sum_of_stacks default (map line_stack lines.now)) }

@@ -2,7 +2,7 @@
 use Rattle.std.proofs.Common.{◌≡◌, [], Some, refl, sym, ap, ◌∙◌, arith, is_ok}
 use Rattle.allocative_graph.proofs.Common.{Child, nil_from_length, total, total_of, sum_by_push}
 use Rattle.allocative_graph.proofs.Children.{merges_then, merges_all, is_ok-and, merged_same, next_less, next_greater}
-use Rattle.allocative_graph.proofs.Children.{next_equal, front_is, one_of_length, put_at_found, put_at_gap}
+use Rattle.allocative_graph.proofs.Children.{next_equal, front_is, front_total, front_rows, one_of_length, put_at_found, put_at_gap}
 use Rattle.allocative_graph.proofs.Nodes.{merged_graph, child_of_one}
 use Rattle.allocative_graph.proofs.flamegraph.+merge.Goals as goal
 
@@ -43,6 +43,13 @@ interleave-loop-child-preserved t c =
 pub interleave-returns-clause-merged : goal.interleave-returns-clause-merged
 interleave-returns-clause-merged t c = let end = c.in_default.ensures.end in
     merges_all c.loop-child.invariant.merged end.0 end.1
+
+pub take_next-merge-added-requires : goal.take_next-merge-added-requires
+take_next-merge-added-requires t c =
+    let items = c.pop_front-in-Equal-2.ensures.items in
+    let mine = front_total _ c.pop_front-in-Equal.ensures.items c.unwrap-child.ensures in
+    let theirs = front_total _ items c.unwrap-in-Equal.ensures in
+    (omega (arith, c.decreases, front_rows _ items c.unwrap-in-Equal.ensures), omega (arith, mine, theirs, c.requires.fits))
 
 pub take_next-returns-in-Less-clause-next : goal.take_next-returns-in-Less-clause-next
 take_next-returns-in-Less-clause-next t c =
