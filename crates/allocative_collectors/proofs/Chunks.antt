@@ -157,9 +157,6 @@ module _ (cs : List Chunk) (i : ℕ) (e : Chunk) (h : i < length cs) {xs : List 
         gap_part lt = gap_here (map K (flat cs)) rise k (before cs i + m) (part_key m lt).0
             (ap (λ (l : Key). key_cmp l k) (sym (part_key m lt).1) ∙ gap.greater_after m (omega arith) lt) less_part
 
--- What reads of numbers in chunks say.
-pub ruleset reads = (number_read, before_more, slice_get-get_or, get_or_from_slice_get)
-
 -- ---- a number that is put in
 -- a chunk with the same numbers
 pub kept_in : (cs : List Chunk) (i : ℕ) (new : Chunk) → i < length cs → numbers_in new ≡ chunk_at cs i →

@@ -343,9 +343,3 @@ module _ {items : List Node} {lists : List Children} (ok : IsTree items lists) {
 
 -- What a node that was read says of its sum, beside tests of numbers.
 pub ruleset figures = (figures_read, nat_tests, common_steps)
-
--- What a list of children that was read says of a tree.
-pub ruleset list_steps = (in_lists, children_read, same_lists, get_or_default)
-
--- What a search for a child says of a tree.
-pub ruleset child_steps = (keys_rise, found_entered, grown_tree, grown_entered, list_steps)

@@ -189,7 +189,6 @@ impl Chunk {
 }
 
 /// The number at a place. That at the end of a chunk is the first one of the next chunk.
-#[tactic(auto, using(crate::proofs::Chunks::reads))]
 pub(crate) fn number_at(chunks: &[Chunk], place: Place) -> Option<u32>
     ensures place { IfSome result (λ number. IsPlaceIn chunks.now place) }
     ensures number { IfSome result
@@ -207,7 +206,6 @@ pub(crate) fn number_at(chunks: &[Chunk], place: Place) -> Option<u32>
 }
 
 /// The last number of the chunks, and the place behind it: in a new chunk, if the last one is full.
-#[tactic(auto, using(crate::proofs::Chunks::last_read))]
 pub(crate) fn last_in(chunks: &[Chunk]) -> Option<(u32, Place)>
     ensures place { IfSome result (λ end. IsPlaceIn chunks.now end.1) }
     ensures last { IfSome result
@@ -248,7 +246,6 @@ fn put_start(starts: &mut Vec<u64>, index: usize, start: u64) {
 
 // Puts a number at a place of the chunks, with the start of its key.
 #[inline(never)]
-#[tactic(auto, using(crate::proofs::Chunks::chunk_is, crate::proofs::Chunks::kept_in, crate::proofs::Chunks::put_in, crate::proofs::Chunks::put_behind))]
 fn insert_in(
     chunks: &mut Vec<Chunk>,
     place: Place,
@@ -279,7 +276,6 @@ fn insert_in(
 }
 
 // Cuts a chunk in two if it has more than `LONGEST_CHUNK` numbers. If memory runs out it stays whole.
-#[tactic(auto, using(crate::proofs::Chunks::chunk_is, crate::proofs::Chunks::kept_in, crate::proofs::Chunks::cut_in))]
 fn cut_at(chunks: &mut Vec<Chunk>, at: usize)
     requires { at < length chunks.old.items }
     ensures { flat chunks.new.items ≡ flat chunks.old.items }

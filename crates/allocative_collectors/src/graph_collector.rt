@@ -108,7 +108,6 @@ impl GraphCollector {
     /// start at the root. The errors are those of `enter`: `TooLarge` exactly if the bytes would exceed `isize::MAX`,
     /// and `Memory`, also if there would be more than 2^32 - 1 paths. `TooLarge` changes nothing. After `Memory` the
     /// entry may have been counted.
-    #[tactic(auto, using(crate::proofs::Collect::met_is, crate::proofs::Collect::met_more, crate::proofs::Collect::gone_in))]
     pub fn enter_shared(&mut self, key: &Key, size: usize, id: Identity) -> Result<bool, Refusal>
         ensures ok { IfOk result (λ new. (bytes_entered self.old.sums + size < 2 ^ 63)
             × MeetsAs key.now size id self.old new self.new) }

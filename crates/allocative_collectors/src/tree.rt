@@ -278,11 +278,13 @@ impl Tree {
         node.next = next;
     }
 
-    /// Stores that `child` followed the node `last`, if there is one.
+    /// Stores that `child` followed the one that was entered last, if there is one.
     #[tactic(auto, using(crate::proofs::NodeReads::same_view))]
-    fn set_follower(&mut self, last: usize, child: usize)
+    fn set_follower(&mut self, at: usize, child: usize)
+        requires { at < length self.old }
         ensures { self.new ≡ self.old }
     {
+        let last = self.nodes[at].last as usize;
         if last >= self.nodes.len() {
             return;
         }
@@ -309,8 +311,7 @@ impl Tree {
         ensures kept { OnErr result ((self.new ≡ self.old) × (room.new ≡ room.old)) }
     {
         let node = self.search_child(at, &Key::new(key))?;
-        let last = self.nodes[at].last as usize;
-        self.set_follower(last, node);
+        self.set_follower(at, node);
         self.expect_follower(at, node);
         self.cut_long_list(at);
         self.add_bytes(room, node, size, is_unique);
@@ -318,7 +319,6 @@ impl Tree {
     }
 
     /// The child of the node `at` that has the key, found by a search. It is made if there is none.
-    #[tactic(auto, using(crate::proofs::NodeReads::child_steps))]
     fn search_child(&mut self, at: usize, key: &Key) -> Result<usize, AllocError>
         requires { at < length self.old }
         ensures entered { IfOk result (IsEntered self.old self.new at key.now 0 false) }
@@ -342,7 +342,6 @@ impl Tree {
     }
 
     /// Cuts the list of a node's children into chunks if it is long. If memory runs out it stays one list.
-    #[tactic(auto, using(crate::proofs::NodeReads::list_steps))]
     fn cut_long_list(&mut self, at: usize)
         requires { at < length self.old }
         ensures { self.new ≡ self.old }
