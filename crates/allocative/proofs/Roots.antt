@@ -240,8 +240,5 @@ sum_of_profiles p q o o' m a b e =
           (whole_following a.shown b.shown a.whole b.whole apart, is ∙ graphs_add a.shown b.shown can);
     }
 
--- The rules for what is answered of a collector of a sum.
-pub ruleset answering = (visit_answered, visit_refused)
-
 -- The rules for visits of roots.
 pub ruleset running = (visits_one_more, profile_ended, sum_of_profiles, root_refused)

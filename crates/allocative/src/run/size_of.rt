@@ -1,5 +1,4 @@
 //! The bytes that values hold on the heap, and those that they own.
-#![tactic(auto, using(crate::proofs::Roots::answering))]
 
 ghost use Rattle.std.specs.Prelude.{IfOk, IfErr};
 ghost use Rattle.allocative.specs.Closures.{KeepsVisitor, CalledAtRoot, AnswersSum};
