@@ -1,21 +1,16 @@
 -- What was entered as the merged forest was entered as the forests that it merges.
 use Rattle.std.proofs.Common.{◌≡◌, ℕ, Bool, true, false, Result, Ok, refl, sym, ap, subst, ◌∙◌, arith, Option, Some}
 use Rattle.std.proofs.Common.{◌<◌, ◌≤◌, ◌^◌}
-use Rattle.allocative_graph.specs.Owned.{direct}
-use Rattle.allocative_graph.specs.Sums.{bytes_entered}
-use Rattle.allocative_graph.specs.Visits.{added}
-use Rattle.allocative.specs.Strict.{had_failed}
+use Rattle.allocative_graph.specs.{Owned.direct, Sums.bytes_entered, Visits.added}
 use Rattle.allocative.proofs.Common.{Refusal, Key, Forest, Empty, followed_by, entry_of, Kind, OfGraph, OfSum, State}
 use Rattle.allocative.proofs.Common.{plus, Showing, Nothing, Both, InsideAs, AddsForest, already, refused, hidden}
 use Rattle.allocative.proofs.Common.{forgotten, CanTake, HasRoomFor, FailsOnlyIfFull, has_added, has_refused, Entered}
-use Rattle.allocative.proofs.Common.{Means}
-use Rattle.allocative.proofs.Meaning.{entered_as, entered_none}
-use Rattle.allocative.proofs.Strict.{may_refuse, bytes_entered-plus}
+use Rattle.allocative.{specs.Strict.had_failed, proofs.Meaning.entered_as, proofs.Meaning.entered_none}
+use Rattle.allocative.{proofs.Strict.may_refuse, proofs.Strict.bytes_entered-plus}
 use Rattle.allocative_tally.specs.{IsPlain, Merged, Width, is_unique, Shape, NoEntry, Beside, EntryAt, forest_of}
 use Rattle.allocative_tally.specs.{IsNothing, entry_counted, shape_shows, is_shape, is_there, EntersShape, IsWithin}
-use Rattle.allocative_tally.specs.Tallies.{Tallies}
-use Rattle.allocative_tally.specs.declared.tally.Sum.{Sum}
-use Rattle.allocative_tally.proofs.Merging.{plain_taken, plain_shows}
+use Rattle.allocative_tally.proofs.Merging.{plain_taken, plain_facts}
+use Rattle.allocative_tally.specs.{Tallies.Tallies, declared.tally.Sum.Sum}
 
 -- ---- no collector tells the two apart
 -- The bytes that a collector has counted.
@@ -43,7 +38,7 @@ shown_alone (is_shape e) = e
 -- A collector that can take p can take what was counted.
 can_take : {p : Showing} {t : Shape} (b : Kind) → Counts p t → CanTake b p → CanTake b (shape_shows t)
 can_take {t = t} b w (d, room) = (
-  (forest_of t, is_shape refl, plain_shows (forest_of t) w.merged.plain_merged),
+  (forest_of t, is_shape refl, (plain_facts (forest_of t) w.merged.plain_merged).2),
   λ h x. subst (HasRoomFor b) (sym (shown_alone x)) (room_merged b w.one (forest_of t) w.merged (room w.one w.allowed)),
 )
 
@@ -94,31 +89,31 @@ counts {n = n} {s = s} {t = t} none c e room =
     }
 
 -- ---- what a tally enters
--- What was entered as a part was entered as the shape that it means.
-pub enters_shape : {p : Showing} {s : Shape} {a b : _} {r : Result (Unit {0}) Refusal} → Entered true p a b r →
-    Means true p (shape_shows s) → EntersShape s a b r
-enters_shape h m = record { entered = entered_as h m }
+-- What was entered as a part was entered as the shape whose forest alone the part shows.
+enters_as : {p : Showing} {s : Shape} {a b : _} {r : Result (Unit {0}) Refusal} → Entered true p a b r →
+    ((f : Forest) → p f → f ≡ forest_of s) → p (forest_of s) → EntersShape s a b r
+enters_as {p} h alone there = record {
+  entered = entered_as h (record {
+    means = λ f x. is_shape (alone f x);
+    declared = λ i (f, x, c). (f, subst p (sym (shown_alone x)) there, c);
+  });
+}
 
 -- Two shapes with the same forest are entered alike.
 pub enters_same : {s t : Shape} {a b : _} {r : Result (Unit {0}) Refusal} → forest_of s ≡ forest_of t →
     EntersShape s a b r → EntersShape t a b r
-enters_same e h = enters_shape h.entered (record {
-  means = λ f a. is_shape (shown_alone a ∙ e);
-  declared = λ j (f, a, c). (f, is_shape (shown_alone a ∙ sym e), c);
-})
+enters_same e h = enters_as h.entered (λ f x. shown_alone x ∙ e) (is_shape (sym e))
 
 -- Two shapes were entered, one after another.
 pub enters_both : {s t : Shape} {a b : _} {r : Result (Unit {0}) Refusal} →
     Entered true (Both (shape_shows s) (shape_shows t)) a b r → EntersShape (Beside s t) a b r
-enters_both {s} {t} h = enters_shape h (record {
-  means = λ f (g, k, y, z, e). is_shape (e ∙ (λ i. followed_by (shown_alone y i) (shown_alone z i)));
-  declared = λ i (f, a, c). (f, (forest_of s, forest_of t, is_shape refl, is_shape refl, shown_alone a), c);
-})
+enters_both {s} {t} h = enters_as h
+    (λ f (g, k, y, z, e). e ∙ (λ i. followed_by (shown_alone y i) (shown_alone z i)))
+    (forest_of s, forest_of t, is_shape refl, is_shape refl, refl)
 
 -- No entry was entered.
 pub enters_nothing : {a b : _} {r : Result (Unit {0}) Refusal} → Entered true Nothing a b r → EntersShape NoEntry a b r
-enters_nothing h = enters_shape h
-    (record { means = λ f a. is_shape a; declared = λ i (f, a, c). (f, shown_alone a, c) })
+enters_nothing h = enters_as h (λ f x. x) refl
 
 -- The entry of a sum that is there was entered, with the shape inside it.
 pub enters_entry : (x : Width) {k : Key} {sum : Sum} {s : Shape} {a b : _} {r : Result (Unit {0}) Refusal} →
@@ -127,10 +122,8 @@ pub enters_entry : (x : Width) {k : Key} {sum : Sum} {s : Shape} {a b : _} {r : 
 enters_entry x {k} {sum} {s} some h =
     let there : is_there sum ≡ true = grind (arith, some) in
     let e = ap (λ (y : Bool). entry_counted y (is_unique x) k sum.bytes (forest_of s)) there in
-    enters_shape h (record {
-      means = λ f (g, a, i). is_shape (i ∙ ap (entry_of (is_unique x) k sum.bytes) (shown_alone a) ∙ sym e);
-      declared = λ j (f, a, c). (f, (forest_of s, is_shape refl, shown_alone a ∙ e), c);
-    })
+    enters_as h (λ f (g, y, i). i ∙ ap (entry_of (is_unique x) k sum.bytes) (shown_alone y) ∙ sym e)
+    (forest_of s, is_shape refl, e)
 
 -- A call that enters nothing and returns Ok has entered the entry of a sum that is not there.
 pub enters_none : (x : Width) {k : Key} {sum : Sum} {s : Shape} (a : _) → sum.count ≡ 0 →

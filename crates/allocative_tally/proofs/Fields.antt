@@ -1,25 +1,23 @@
 -- How values of structs and enums are counted, by their fields.
-use Rattle.std.proofs.Common.{◌≡◌, ◌≤◌, ◌<◌, ◌+◌, ◌*◌, mul-add, ℕ, Option, Some, None, refl, sym, ap, subst, arith, ◌∙◌}
+use Rattle.std.proofs.Common.{◌≡◌, ◌≤◌, ◌+◌, ◌*◌, mul-add, ℕ, Option, Some, None, refl, sym, ap, subst, arith, ◌∙◌}
 use Rattle.std.proofs.Common.{Result, Ok, Err, MatchResult}
-use Rattle.std.specs.Result.{result_and}
-use Rattle.std.proofs.lemmas.Result.{MatchResult-weaker}
-use Rattle.allocative_tally.specs.{CannotTally}
-use Rattle.allocative_tally.specs.declared.tally.CountError.{CountError}
-use Rattle.allocative_tally.proofs.Weighing.{cannot_field, cannot_first, cannot_second}
-use Rattle.allocative_graph.specs.Owned.{direct}
-use Rattle.allocative.proofs.Common.{Key, Forest, Showing, Nothing, Both, Inside, Field}
-use Rattle.allocative_tally.specs.{Shape, NoEntry, Beside, IsNothing, bytes_times, entries, sum_of, sum_times}
-use Rattle.allocative_tally.specs.{TalliesNext, TalliesFields, TalliesOwn, AddsEntry, IsDeclared, both_bounds, ShownAs}
-use Rattle.allocative_tally.specs.Tallies.{Tallies}
+use Rattle.std.{specs.Result.result_and, proofs.lemmas.Result.MatchResult-weaker}
+use Rattle.allocative_tally.specs.{CannotTally, CannotTallyOwn, ShapeCounts, Shape, NoEntry, Beside, IsNothing}
+use Rattle.allocative_tally.specs.{bytes_times, entries, sum_of, sum_times, TalliesNext, TalliesFields, TalliesOwn}
+use Rattle.allocative_tally.specs.{AddsEntry, IsDeclared, both_bounds, ShownAs, Told}
+use Rattle.allocative_tally.proofs.Weighing.{cannot_case, exceeds_as, exceeds_first, exceeds_second, exceeds_field}
 use Rattle.allocative_tally.proofs.Counting.{counted_leaf, counted_field, counted_inline, tallies_both, tallies_none}
-use Rattle.allocative_tally.proofs.Counting.{tallies_as, tallies_within}
+use Rattle.allocative_tally.proofs.Counting.{tallies_as}
 use Rattle.allocative_tally.proofs.Sizes.{HoldsBound, holds_up, holds_both, holds_first, holds_second, holds_first_of}
 use Rattle.allocative_tally.proofs.Sizes.{holds_second_of, holds_itself, holds_bytes, holds_nothing, holds_grouped}
+use Rattle.allocative_tally.specs.{declared.tally.CountError.CountError, Tallies.Tallies}
+use Rattle.allocative_graph.specs.Owned.{direct}
+use Rattle.allocative.proofs.Common.{Key, Forest, Showing, Nothing, Both, Inside, Field}
 
 -- ---- sums
--- Entries have more bytes.
-pub adds_of : (n m : ℕ) {a b c : ℕ} → 0 < m → m ≤ n + 1 → c ≡ a + b → AddsEntry b (sum_of n a) (sum_of m c)
-adds_of n m some one e = record { is_there = grind (arith, some); bytes = λ room. e; weighs = omega arith }
+-- One more entry has more bytes.
+pub adds_of : (n m : ℕ) {a b c : ℕ} → m ≡ n + 1 → c ≡ a + b → AddsEntry b (sum_of n a) (sum_of m c)
+adds_of n m more e = record { is_there = grind (arith, more); bytes = λ room. e; weighs = omega arith }
 
 -- One more value of a declared size is one more entry.
 pub one_more : (size : Option ℕ) (n m : ℕ) {z : ℕ} → size ≡ Some z → m ≡ n + 1 →
@@ -27,17 +25,11 @@ pub one_more : (size : Option ℕ) (n m : ℕ) {z : ℕ} → size ≡ Some z →
 one_more None n m e i = absurd (cc)
 one_more (Some s) n m {z} e i =
     let same : s ≡ z = cc in
-    let some : 0 < m = omega (arith, i) in
     let all : s * m ≡ s * n + s * 1 = ap (λ (y : ℕ). s * y) i ∙ mul-add s n 1 in record {
-      is_there = grind (arith, some);
+      is_there = grind (arith, i);
       bytes = λ room. omega (arith, room, same, all);
       weighs = omega (arith, i, same, all);
     }
-
--- No entry of no values.
-times_none : (size : Option ℕ) → bytes_times size 0 ≡ 0
-times_none None = refl
-times_none (Some s) = omega arith
 
 -- ---- nothing counted
 -- Nothing is counted in the entry of no values.
@@ -46,7 +38,7 @@ starts_entry k s size none = record {
   is_empty = refl;
   holds = (
     none.holds,
-    (λ e. (times_none size, none.is_empty)),
+    (λ e. (elim size as (λ v. bytes_times v 0 ≡ 0) [ None ↦ refl | Some n ↦ omega arith ], none.is_empty)),
     subst (λ (f : Forest). direct f ≤ bytes_times size 0) (sym none.is_empty) (omega arith),
   );
 }
@@ -59,26 +51,13 @@ starts_both s t a b = record { is_empty = rw (a.is_empty, b.is_empty) refl; hold
 pub ruleset starting = (starts_entry, starts_both)
 
 -- ---- fields
--- Fields within a bound are within a size that holds the bound.
-pub next_within : {v w : Option ℕ} {p : Showing} {s t : ℕ → Shape} → HoldsBound v w → TalliesFields w p s t →
-    TalliesFields v p s t
-next_within h a = record { next = λ n. tallies_within h (a.next n) }
-
 -- A value is its own entry with its fields inside it.
-whole_counted : (n m : ℕ) {b : ℕ} {size w : Option ℕ} {k : Key} {p : Showing} {s t : Shape} → size ≡ Some b → m ≡ n + 1 →
-    Tallies w p s t → HoldsBound size w → Tallies size (Field k size p) (entries k size n s) (entries k size m t)
+whole_counted : (n m : ℕ) {b : ℕ} {size w : Option ℕ} {k : Key} {p : Showing} {s t : Shape} → size ≡ Some b →
+    m ≡ n + 1 → Tallies w p s t → HoldsBound size w →
+    Tallies size (Field k size p) (entries k size n s) (entries k size m t)
 whole_counted n m {size = size} {w} sized more fields holds =
     counted_field sized (counted_inline (one_more size n m sized more) fields
     (subst (λ (v : Option ℕ). HoldsBound v w) sized holds))
-
--- What a value shows, counted as the only field.
-pub next_value : {v : Option ℕ} {p : Showing} {s t : ℕ → Shape} → TalliesNext v p s t → TalliesFields v p s t
-next_value a = record { next = a.next }
-
--- A field is its entry with what its value shows.
-pub next_field : {v : Option ℕ} {k : Key} {p : Showing} {s t : ℕ → Shape} → TalliesNext v p s t →
-    TalliesFields v (Field k v p) (λ n. entries k v n (s n)) (λ n. entries k v n (t n))
-next_field a = record { next = λ n. whole_counted n (n + 1) a.declared.sized refl (a.next n) holds_itself }
 
 -- Fields and then others.
 pub next_both : {v w : Option ℕ} {p q : Showing} {s s' t t' : ℕ → Shape} → TalliesFields v p s s' →
@@ -108,49 +87,73 @@ next_fixed = record { next = λ n. fixed_counted n (n + 1) refl }
 pub next_whole : {size w : Option ℕ} {k : Key} {p : Showing} {s t : ℕ → Shape} → IsDeclared size →
     TalliesFields w p s t → HoldsBound size w →
     TalliesNext size (Field k size p) (λ n. entries k size n (s n)) (λ n. entries k size n (t n))
-next_whole d fields holds = record { declared = d; next = λ n. whole_counted n (n + 1) d.sized refl (fields.next n) holds }
+next_whole d fields holds =
+    record { declared = d; next = λ n. whole_counted n (n + 1) d.sized refl (fields.next n) holds }
+
+-- ---- what is told of results
+-- What a contract tells of a result.
+pub told_by : {X E P Q : Type 0} (r : Result X E) → MatchResult r (λ _. P) (λ _. Q) → Told r P Q
+told_by r m = record { told = m }
+
+-- What follows from what is told of a result.
+pub told_then : {X E P Q S T : Type 0} {r : Result X E} → Told r P Q → (P → S) → (Q → T) → Told r S T
+told_then {r = r} m ok err = told_by r (MatchResult-weaker r m.told (λ _. ok) (λ _. err))
+
+-- What follows for two results joined by `and`: from the first, and where that is `Ok`, from the second.
+pub and_told : {A Z P Q E : Type 0} {a b r : Result (Unit {0}) E} → r ≡ result_and a b → Told a A Z → (A → Told b P Q) →
+    (Z → Q) → Told r P Q
+and_told {a = Ok u} e x ok err = rw e (ok x.told)
+and_told {a = Err f} e x ok err = rw e (record { told = err x.told })
+
+-- What is told of two results joined by `and`, if they are `Ok`.
+pub both_ok : {A Z P Q X Y E : Type 0} {a : Result X E} {b r : Result Y E} {y : Y} → r ≡ result_and a b → r ≡ Ok y →
+    Told a A Z → Told b P Q → A × P
+both_ok {a = Ok u} {b = Ok v} e i x z = (x.told, z.told)
+both_ok {a = Ok u} {b = Err f} e i x z = absurd (cc)
+both_ok {a = Err f} e i x z = absurd (cc)
 
 -- ---- fields that are counted, or cannot be
 -- What counting a value's fields comes to: they were counted, or they cannot be.
-pub record FieldsCount (size : Option ℕ) (p : Showing) (s t : ℕ → Shape) (r : Result (Unit {0}) CountError) : Type 0 where
-  pub told : MatchResult r (λ _. TalliesFields size p s t) (λ _. CannotTally p s)
+abbrev pub FieldsCount : Option ℕ → Showing → (ℕ → Shape) → (ℕ → Shape) → Result (Unit {0}) CountError → Type 0
+FieldsCount size p s t r = Told r (TalliesFields size p s t) (CannotTally p s)
 
 -- A field is counted, or cannot be, as its value.
 pub field_counts : (v : Option ℕ) (k : Key) (p : Showing) (s t : ℕ → Shape) (r : Result (Unit {0}) CountError) →
     MatchResult r (λ _. TalliesNext v p s t) (λ _. CannotTally p s) →
     FieldsCount v (Field k v p) (λ n. entries k v n (s n)) (λ n. entries k v n (t n)) r
-field_counts v k p s t r m = record { told = MatchResult-weaker r m (λ _. next_field) (λ _. cannot_field) }
+field_counts v k p s t r m = told_then (told_by r m)
+    (λ a. record { next = λ n. whole_counted n (n + 1) a.declared.sized refl (a.next n) holds_itself })
+    (λ a. record { next = λ n. exceeds_field (a.next n) })
 
 -- Fields that are surely counted, and then others.
 pub sure_first : {v w : Option ℕ} {p q : Showing} {s s' t t' : ℕ → Shape} {b : Result (Unit {0}) CountError} →
     TalliesFields v p s s' → FieldsCount w q t t' b →
     FieldsCount (both_bounds v w) (Both p q) (λ n. Beside (s n) (t n)) (λ n. Beside (s' n) (t' n)) b
-sure_first {b = b} x y = record { told = MatchResult-weaker b y.told (λ _. next_both x) (λ _. cannot_second) }
+sure_first x y = told_then y (next_both x) (λ a. record { next = λ n. exceeds_second (a.next n) })
 
 -- Fields, and then others that are surely counted.
 pub sure_second : {v w : Option ℕ} {p q : Showing} {s s' t t' : ℕ → Shape} {a : Result (Unit {0}) CountError} →
     FieldsCount v p s s' a → TalliesFields w q t t' →
     FieldsCount (both_bounds v w) (Both p q) (λ n. Beside (s n) (t n)) (λ n. Beside (s' n) (t' n)) a
-sure_second {a = a} x y = record { told = MatchResult-weaker a x.told (λ _ z. next_both z y) (λ _. cannot_first) }
+sure_second x y = told_then x (λ z. next_both z y) (λ a. record { next = λ n. exceeds_first (a.next n) })
 
 -- Fields and then others are counted, or one of them cannot be, as their results joined.
 pub both_count : {v w : Option ℕ} {p q : Showing} {s s' t t' : ℕ → Shape} {a b r : Result (Unit {0}) CountError} →
     r ≡ result_and a b → FieldsCount v p s s' a → FieldsCount w q t t' b →
     FieldsCount (both_bounds v w) (Both p q) (λ n. Beside (s n) (t n)) (λ n. Beside (s' n) (t' n)) r
-both_count {a = Ok u} e x y = rw e (sure_first x.told y)
-both_count {a = Err f} e x y = rw e (record { told = cannot_first x.told })
+both_count e x y = and_told e x (λ f. sure_first f y) (λ a. record { next = λ n. exceeds_first (a.next n) })
 
 -- What counting fields comes to, from that for fields that were counted, and that for fields that cannot be.
 pub told_as : {w : Option ℕ} {p : Showing} {s t : ℕ → Shape} {r : Result (Unit {0}) CountError} {P Q : Type 0} →
     FieldsCount w p s t r → (TalliesFields w p s t → P) → (CannotTally p s → Q) → MatchResult r (λ _. P) (λ _. Q)
-told_as {r = r} m ok err = MatchResult-weaker r m.told (λ _. ok) (λ _. err)
+told_as m ok err = (told_then m ok err).told
 
 -- A value is counted, or cannot be, as its fields.
 pub whole_counts : {v w : Option ℕ} (k : Key) {p : Showing} {s t : ℕ → Shape} {r : Result (Unit {0}) CountError} →
     IsDeclared v → HoldsBound v w → FieldsCount w p s t r →
     MatchResult r (λ _. TalliesNext v (Field k v p) (λ n. entries k v n (s n)) (λ n. entries k v n (t n)))
     (λ _. CannotTally (Field k v p) (λ n. entries k v n (s n)))
-whole_counts k d holds m = told_as m (λ f. next_whole d f holds) cannot_field
+whole_counts k d holds m = told_as m (λ f. next_whole d f holds) (λ a. record { next = λ n. exceeds_field (a.next n) })
 
 -- What was counted as p was counted as q, if p is shown as q.
 pub next_as : {w : Option ℕ} {p q : Showing} {s t : ℕ → Shape} → ShownAs p q → TalliesNext w p s t →
@@ -163,11 +166,6 @@ pub next_case : {size w : Option ℕ} {k : Key} {p : Showing} {s t : Shape} → 
     HoldsBound size w → TalliesNext size (Field k size p) (λ n. entries k size n s) (λ n. entries k size n t)
 next_case d inside holds = next_whole d (record { next = λ n. inside }) holds
 
--- A value that may show an entry with nothing inside it is that entry.
-pub next_leaf : {size : Option ℕ} {k : Key} {p : Showing} → ShownAs (Field k size Nothing) p → IsDeclared size →
-    TalliesNext size p (λ n. entries k size n NoEntry) (λ n. entries k size n NoEntry)
-next_leaf {size} a d = next_as a (next_case d nothing_counted (holds_nothing size))
-
 -- A case of several fields is its entry, with the fields inside it.
 pub case_counted : {v w : Option ℕ} {k : Key} {p : Showing} {n m : ℕ} {s t : ℕ → Shape} → IsDeclared v → m ≡ n + 1 →
     TalliesFields w p s t → HoldsBound v w → Tallies v (Field k v p) (entries k v n (s n)) (entries k v m (t m))
@@ -176,20 +174,39 @@ case_counted {n = n} d more fields holds = rw more (whole_counted n (n + 1) d.si
 -- A case of one value is its entry, with what the value shows.
 pub own_counted : {v : Option ℕ} {k : Key} {p : Showing} {n m : ℕ} {s t : ℕ → Shape} → TalliesOwn v p n s m t →
     Tallies v (Field k v p) (entries k v n (s n)) (entries k v m (t m))
-own_counted a = case_counted a.value.declared a.more (next_value a.value) holds_itself
+own_counted {s = s} {t} a =
+    case_counted {s = s} {t = t} a.value.declared a.more (record { next = a.value.next }) holds_itself
+
+-- ---- shapes that are counted, or cannot be
+-- What is counted as p is counted as q, if p is shown as q.
+pub shown_counts : {X E : Type 0} {w : Option ℕ} {p q : Showing} {s t : Shape} {r : Result X E} → ShownAs p q →
+    ShapeCounts w p s t r → ShapeCounts w q s t r
+shown_counts a m = told_then m (tallies_as a) (exceeds_as a)
+
+-- Two shapes, one after another, are counted as their results joined.
+pub both_shapes : {E : Type 0} {v w : Option ℕ} {p q : Showing} {s s' t t' : Shape} {a b r : Result (Unit {0}) E} →
+    r ≡ result_and a b → ShapeCounts v p s s' a → ShapeCounts w q t t' b →
+    ShapeCounts (both_bounds v w) (Both p q) (Beside s t) (Beside s' t') r
+both_shapes e x y = and_told e x (λ f. told_then y (tallies_both f) exceeds_second) exceeds_first
+
+-- A case of one value is counted as its entry.
+pub own_counts : {X E : Type 0} {v : Option ℕ} {k : Key} {p : Showing} {n m : ℕ} {s t : ℕ → Shape} {r : Result X E} →
+    Told r (TalliesOwn v p n s m t) (CannotTallyOwn v p n s) →
+    ShapeCounts v (Field k v p) (entries k v n (s n)) (entries k v m (t m)) r
+own_counts own = told_then own own_counted (λ a. a.next _)
+
+-- A value is counted as its own entry, with what its case shows inside it.
+pub case_counts : {X E : Type 0} {size w : Option ℕ} (k : Key) {p : Showing} {s t : Shape} {r : Result X E} →
+    IsDeclared size → HoldsBound size w → ShapeCounts w p s t r →
+    MatchResult r (λ _. TalliesNext size (Field k size p) (λ n. entries k size n s) (λ n. entries k size n t))
+    (λ _. CannotTally (Field k size p) (λ n. entries k size n s))
+case_counts k d holds m = (told_then m (λ inside. next_case d inside holds) cannot_case).told
+
+-- The lemmas for what the sizes of fields, one after another, have room for.
+pub ruleset holding_fields = (holds_up, holds_both, holds_itself, holds_nothing)
 
 -- The lemmas for what a declared size has room for.
-pub ruleset holding = (
-  holds_up,
-  holds_both,
-  holds_first,
-  holds_second,
-  holds_first_of,
-  holds_second_of,
-  holds_itself,
-  holds_bytes,
-  holds_nothing,
-)
+pub ruleset holding = (holding_fields, holds_first, holds_second, holds_first_of, holds_second_of, holds_bytes)
 
 -- The lemmas for what the sizes of tuples have room for.
-pub ruleset holding_tuples = (holds_grouped, holds_up, holds_both, holds_itself)
+pub ruleset holding_tuples = (holds_grouped, holding_fields)

@@ -14,8 +14,5 @@ pub use Fields.*
 pub use Items.*
 pub use Rattle.std.proofs.Common.{arith, rules, refl, codes, length, sym, ap, true, false, Some}
 pub use Rattle.std.proofs.Common.{◌≡◌, ◌∙◌, ◌+◌, ◌-◌}
-pub use Rattle.std.proofs.lemmas.Iterator.{YieldsList-from_slice}
-pub use Rattle.std.proofs.lemmas.Iterator.Consumers.{YieldsList-from_rest}
-pub use Rattle.std.proofs.lemmas.Result.{MatchResult-weaker}
-pub use Rattle.allocative_tally.specs.Shapes.{Narrow, Wide, Unique}
-pub use Rattle.allocative_tally.specs.Whole.{as_itself}
+pub use Rattle.std.proofs.lemmas.{Iterator.YieldsList-from_slice, Iterator.Consumers.YieldsList-from_rest}
+pub use Rattle.allocative_tally.specs.{Narrow, Wide, Unique, as_itself}

@@ -1,24 +1,19 @@
 -- Forests without shared entries, and how merged forests compose.
-use Rattle.std.proofs.Common.{◌≡◌, ℕ, suc, ◌+◌, ◌-◌, ◌<◌, ◌^◌, Bool, true, false, cond, List, [], ◌∷◌, ◌++◌, refl, sym}
-use Rattle.std.proofs.Common.{ap, subst, ◌∙◌, arith, append-nil}
+use Rattle.std.proofs.Common.{◌≡◌, ℕ, suc, ◌+◌, ◌-◌, ◌<◌, ◌^◌, Bool, true, false, cond, [], ◌∷◌, ◌++◌, refl, sym, ap}
+use Rattle.std.proofs.Common.{◌∙◌, arith, append-nil}
 use Rattle.std.proofs.lemmas.List.Sums.{fold-append, sum_by-append}
-use Rattle.allocative_graph.specs.Path.{Path}
-use Rattle.allocative_graph.specs.Forest.{Inline, Unique, Entry, Bag, Mark, AsInline, AsUnique, own_behind, contents}
-use Rattle.allocative_graph.specs.Forest.{Fits, met_after}
-use Rattle.allocative_graph.specs.Identity.{Identities}
-use Rattle.allocative_graph.specs.Sums.{Sums, add}
-use Rattle.allocative_graph.specs.Owned.{direct}
+use Rattle.allocative_graph.specs.Forest.{Inline, Unique, Entry, Bag, AsInline, AsUnique, own_behind, contents, Fits}
+use Rattle.allocative_graph.specs.Forest.{met_after}
 use Rattle.allocative_graph.specs.Collector.{Restore, forest_bytes, figure_after, entries_at}
-use Rattle.allocative_graph.specs.declared.restore.Restore.TheVariants.{Held, Owned}
-use Rattle.allocative_graph.proofs.Basics.{same_path_itself}
 use Rattle.allocative_graph.proofs.Sums.{add_all-same, get-add, same_sums}
-use Rattle.allocative_graph.proofs.Showings.{own-following}
-use Rattle.allocative_graph.proofs.Owned.{direct-following, owned-following}
 use Rattle.allocative_graph.proofs.Plus.{plus-following, forest_bytes-following, inside_entry}
-use Rattle.allocative.specs.Strict.{FitsWords}
+use Rattle.allocative_graph.{specs.Path.Path, specs.Identity.Identities, specs.Sums.Sums, specs.Sums.add}
+use Rattle.allocative_graph.{specs.Owned.direct, specs.declared.restore.Restore.TheVariants.Held}
+use Rattle.allocative_graph.{specs.declared.restore.Restore.TheVariants.Owned, proofs.Basics.same_path_itself}
+use Rattle.allocative_graph.{proofs.Showings.own-following, proofs.Owned.direct-following, proofs.Owned.owned-following}
 use Rattle.allocative.proofs.Common.{Key, Forest, Empty, First, Again, followed_by, entry_of, add_all, ShowsContents}
 use Rattle.allocative.proofs.Common.{Kind, OfGraph, OfSum, Takes, plus, enter, leave, outer_of}
-use Rattle.allocative.proofs.Strict.{followed_by_assoc, words_both as words_apart}
+use Rattle.allocative.{specs.Strict.FitsWords, proofs.Strict.words_both as words_apart}
 use Rattle.allocative_tally.specs.{IsPlain, Merged}
 
 -- Two forests without shared entries have none one after another.
@@ -45,31 +40,23 @@ pub plain_inside : (u : Bool) (k : Key) (n : ℕ) (f : Forest) → IsPlain (entr
 plain_inside true k n f h = h.0
 plain_inside false k n f h = h.0
 
--- A forest without shared entries has no contents.
-pub plain_contents : (f : Forest) → IsPlain f → contents f ≡ []
-plain_contents Empty h = refl
-plain_contents (Inline k n f after) h = λ i. plain_contents f h.0 i ++ plain_contents after h.1 i
-plain_contents (Unique k n f after) h = λ i. plain_contents f h.0 i ++ plain_contents after h.1 i
-plain_contents f h = absurd h
-
--- A forest without shared entries fits any identities.
-pub plain_fits : (s : Identities) (f : Forest) → IsPlain f → Fits s f
-plain_fits s Empty h = tt
-plain_fits s (Inline k n f after) h = (plain_fits s f h.0, plain_fits (met_after s f) after h.1)
-plain_fits s (Unique k n f after) h = (plain_fits s f h.0, plain_fits (met_after s f) after h.1)
-plain_fits s f h = absurd h
-
--- A forest without shared entries shows all its contents.
-pub plain_shows : (f : Forest) → IsPlain f → ShowsContents f
-plain_shows Empty h = tt
-plain_shows (Inline k n f after) h = (plain_shows f h.0, plain_shows after h.1)
-plain_shows (Unique k n f after) h = (plain_shows f h.0, plain_shows after h.1)
-plain_shows f h = absurd h
+-- A forest without shared entries has no contents, fits any identities, and shows all its contents.
+pub plain_facts : (f : Forest) → IsPlain f → (contents f ≡ []) × ((s : Identities) → Fits s f) × ShowsContents f
+plain_facts Empty h = (refl, λ s. tt, tt)
+plain_facts (Inline k n f after) h =
+    let a = plain_facts f h.0 in
+    let b = plain_facts after h.1 in
+    (λ i. a.0 i ++ b.0 i, λ s. (a.1 s, b.1 (met_after s f)), (a.2, b.2))
+plain_facts (Unique k n f after) h =
+    let a = plain_facts f h.0 in
+    let b = plain_facts after h.1 in
+    (λ i. a.0 i ++ b.0 i, λ s. (a.1 s, b.1 (met_after s f)), (a.2, b.2))
+plain_facts f h = absurd h
 
 -- Each collector takes a forest without shared entries.
 pub plain_taken : (c : Kind) (f : Forest) → IsPlain f → Takes c f
-plain_taken (OfGraph c) f h = plain_fits c.met f h
-plain_taken (OfSum s) f h = rw (plain_contents f h) tt
+plain_taken (OfGraph c) f h = (plain_facts f h).1 c.met
+plain_taken (OfSum s) f h = rw (plain_facts f h).0 tt
 
 -- ---- merged forests
 -- A forest with no shared entry merges itself.
@@ -87,26 +74,22 @@ merged_then m l = record {
   fits = λ o w. l.fits o (m.fits o w);
 }
 
--- A forest without shared entries adds its own entries alone.
-own_added : (p : Path) (f : Forest) → IsPlain f → entries_at p f ≡ own_behind p f
-own_added p f h = rw (plain_contents f h) (append-nil (own_behind p f))
-
--- A forest without shared entries meets no identity.
-same_met : (s : Identities) (f : Forest) → IsPlain f → met_after s f ≡ s
-same_met s f h = rw (plain_contents f h) refl
-
--- Each collector is the same after two forests without shared entries that add the same to all sums at each place, and
--- the same bytes to each sum.
-same_plus : (f g : Forest) → IsPlain f → IsPlain g →
+-- A forest merges another one, and neither has a shared entry, if they add the same to all sums at each place and the
+-- same bytes to each sum, have as many bytes at the top, and it exceeds no word unless the other does.
+merged_by : {f g : Forest} → IsPlain f → IsPlain g →
     ((s : Sums) (p : Path) → add_all s (own_behind p f) ≡ add_all s (own_behind p g)) →
-    ((r : Restore) → forest_bytes r f ≡ forest_bytes r g) → direct f ≡ direct g → (b : Kind) → plus b f ≡ plus b g
-same_plus f g x y sums bytes direct_is (OfGraph c) =
-    let own = ap (add_all c.sums) (own_added c.here f x) ∙ sums c.sums c.here
-    ∙ sym (ap (add_all c.sums) (own_added c.here g y)) in
-    let met = same_met c.met f x ∙ sym (same_met c.met g y) in
-    λ i. OfGraph (record c { sums = own i; met = met i })
-same_plus f g x y sums bytes direct_is (OfSum s) =
-    λ i. OfSum (record s { sum = s.sum + bytes s.figure i; figure = figure_after s.figure (direct_is i) })
+    ((r : Restore) → forest_bytes r f ≡ forest_bytes r g) → direct f ≡ direct g →
+    ((o : ℕ) → FitsWords o f → FitsWords o g) → Merged f g
+merged_by {f} {g} x y sums bytes top fits =
+    record { plain = x; plain_merged = y; same = same; same_direct = top; fits = fits }
+  where
+    same : (b : Kind) → plus b f ≡ plus b g
+    same (OfGraph c) =
+        let own : add_all c.sums (entries_at c.here f) ≡ add_all c.sums (entries_at c.here g) =
+        rw ((plain_facts f x).0, (plain_facts g y).0) (simp append-nil (sums c.sums c.here)) in
+        let met : met_after c.met f ≡ met_after c.met g = rw ((plain_facts f x).0, (plain_facts g y).0) refl in
+        λ i. OfGraph (record c { sums = own i; met = met i })
+    same (OfSum s) = λ i. OfSum (record s { sum = s.sum + bytes s.figure i; figure = figure_after s.figure (top i) })
 
 -- ---- one forest after another
 -- Adding two forests, one after another, adds the first and then the second.
@@ -133,11 +116,8 @@ merged_both {f} {g} {h} {k} m l = record {
 }
 
 -- ---- in any order
-abbrev swapped : List Entry → List Entry → Type 0
-swapped a b = (s : Sums) → add_all s (a ++ b) ≡ add_all s (b ++ a)
-
 -- Adding two bags does not depend on which comes first.
-swaps : (a b : Bag) → swapped a b
+swaps : (a b : Bag) (s : Sums) → add_all s (a ++ b) ≡ add_all s (b ++ a)
 swaps a b s = add_all-same s (a ++ b) (b ++ a) (λ w. simp sum_by-append (omega arith))
 
 -- Two forests add the same bytes to a sum in either order.
@@ -148,38 +128,16 @@ bytes_swapped f g (Owned spare) =
 
 -- Two forests merge each other in the other order.
 pub merged_swapped : (f g : Forest) → IsPlain f → IsPlain g → Merged (followed_by f g) (followed_by g f)
-merged_swapped f g h l =
-    let x = plain_both f g h l in
-    let y = plain_both g f l h in
-    let top : direct (followed_by f g) ≡ direct (followed_by g f) =
-    omega (arith, direct-following f g, direct-following g f) in
-    record {
-      plain = x;
-      plain_merged = y;
-      same = same_plus _ _ x y (λ s p. ap (add_all s) (own-following p f g)
-          ∙ swaps (own_behind p f) (own_behind p g) s ∙ sym (ap (add_all s) (own-following p g f)))
-          (bytes_swapped f g) top;
-      same_direct = top;
-      fits = λ o w. let r = words_apart o f g w in words_both o g f r.1 r.0;
-    }
-
--- Two forests after two others, each beside its own.
-pub merged_crossed : (f g h k : Forest) → IsPlain f → IsPlain g → IsPlain h → IsPlain k →
-    Merged (followed_by (followed_by f g) (followed_by h k)) (followed_by (followed_by f h) (followed_by g k))
-merged_crossed f g h k x y z w =
-    let middle = merged_both (merged_same f x) (merged_both (merged_swapped g h y z) (merged_same k w)) in
-    let e = followed_by_assoc f g (followed_by h k) ∙ ap (followed_by f) (sym (followed_by_assoc g h k)) in
-    let i = ap (followed_by f) (followed_by_assoc h g k) ∙ sym (followed_by_assoc f h (followed_by g k)) in
-    subst (λ (t : Forest). Merged t (followed_by (followed_by f h) (followed_by g k))) (sym e)
-    (subst (λ (t : Forest). Merged (followed_by f (followed_by (followed_by g h) k)) t) i middle)
+merged_swapped f g h l = merged_by (plain_both f g h l) (plain_both g f l h)
+    (λ s p. ap (add_all s) (own-following p f g) ∙ swaps (own_behind p f) (own_behind p g) s
+    ∙ sym (ap (add_all s) (own-following p g f))) (bytes_swapped f g)
+    (omega (arith, direct-following f g, direct-following g f))
+    (λ o w. let r = words_apart o f g w in words_both o g f r.1 r.0)
 
 -- ---- entries
-abbrev mark_of : Bool → Mark
-mark_of u = cond u AsUnique AsInline
-
 -- An entry by itself, unique or inline.
 abbrev entry_at : Bool → Path → Key → ℕ → Entry
-entry_at u p k n = record { path = p ++ k ∷ []; size = n; mark = mark_of u }
+entry_at u p k n = record { path = p ++ k ∷ []; size = n; mark = cond u AsUnique AsInline }
 
 -- The own entries of one entry: itself, and then those inside it.
 own_entry : (u : Bool) (p : Path) (k : Key) (n : ℕ) (f : Forest) →
@@ -241,17 +199,9 @@ pub merged_entry : (u : Bool) (k : Key) (n m : ℕ) (f g : Forest) → IsPlain f
 merged_entry u k n m f g x y room keeps =
     let first = entry_of u k n f in
     let second = entry_of u k m g in
-    let plain = plain_both first second (plain_entry u k n f x) (plain_entry u k m g y) in
-    let plain_one = plain_entry u k (n + m) (followed_by f g) (plain_both f g x y) in
-    let top : direct (followed_by first second) ≡ direct (entry_of u k (n + m) (followed_by f g)) =
-    omega (arith, direct-following first second, direct_entry) in
-    record {
-      plain = plain;
-      plain_merged = plain_one;
-      same = same_plus _ _ plain plain_one (sums_entry u k n m f g) (bytes_entry u k n m f g keeps) top;
-      same_direct = top;
-      fits = by_kind u;
-    }
+    merged_by (plain_both first second (plain_entry u k n f x) (plain_entry u k m g y))
+    (plain_entry u k (n + m) (followed_by f g) (plain_both f g x y)) (sums_entry u k n m f g)
+    (bytes_entry u k n m f g keeps) (omega (arith, direct-following first second, direct_entry)) (by_kind u)
   where
     by_kind : (u : Bool) (o : ℕ) → FitsWords o (followed_by (entry_of u k n f) (entry_of u k m g)) →
         FitsWords o (entry_of u k (n + m) (followed_by f g))
@@ -264,7 +214,8 @@ pub merged_inside : (u : Bool) (k : Key) (n : ℕ) {f g : Forest} → Merged f g
 merged_inside u k n {f} {g} m = record {
   plain = plain_entry u k n f m.plain;
   plain_merged = plain_entry u k n g m.plain_merged;
-  same = λ b. sym (inside_entry u k n b f) ∙ ap (leave (outer_of n b)) (m.same (enter u k n b)) ∙ inside_entry u k n b g;
+  same = λ b. sym (inside_entry u k n b f) ∙ ap (leave (outer_of n b)) (m.same (enter u k n b))
+      ∙ inside_entry u k n b g;
   same_direct = direct_entry u k n f ∙ sym (direct_entry u k n g);
   fits = by_kind u;
 }

@@ -1,33 +1,17 @@
 -- Declared sizes have room for what is inside.
-use Rattle.std.proofs.Common.{◌≡◌, ◌≤◌, ◌<◌, ◌+◌, ◌-◌, ◌*◌, ◌^◌, ℕ, suc, Option, Some, None, min, refl, subst, arith}
+use Rattle.std.proofs.Common.{◌≤◌, ◌+◌, ℕ, suc, Option, Some, None, arith}
 use Rattle.std.proofs.Common.{rules}
-use Rattle.std.proofs.lemmas.Bool.Decides.{nat_tests}
+use Rattle.std.proofs.lemmas.{Bool.Decides.nat_tests}
 use Rattle.allocative_described.specs.Sizes.{checked, up, size_sum, size_max, size_up}
-use Rattle.allocative_tally.specs.{bytes_times, least_weight, IsWithin, both_bounds}
+use Rattle.allocative_tally.specs.{IsWithin, both_bounds}
 
 -- Whatever a bound allows is within a declared size.
 pub record HoldsBound (size w : Option ℕ) : Type 0 where
   pub room : (d : ℕ) → IsWithin d w → IsWithin d size
 
--- A size that is checked and there is the size itself.
-pub checked_is : (m n : ℕ) → checked m ≡ Some n → m ≡ n
-checked_is m n e = grind (arith, nat_tests, e)
-
 -- A size that is checked is the size or none.
 pub room_checked : (m d : ℕ) → d ≤ m → IsWithin d (checked m)
 room_checked m d h = search (rules, nat_tests)
-
--- The bytes of values of a checked size are at most those of the size.
-pub times_checked : (m n : ℕ) → bytes_times (checked m) n ≤ min (m * n) (2 ^ 64 - 1)
-times_checked m n = grind (arith, nat_tests)
-
--- What exceeds a size has no less to count than a value of the size, if it is checked.
-pub least_checked : (m : ℕ) {n : ℕ} → m < n → least_weight (checked m) ≤ n
-least_checked m h = grind (arith, nat_tests, h)
-
--- A value of a checked size has more to count than the size, up to what exceeds a word.
-pub checked_least : (m : ℕ) → min (m + 1) (2 ^ 64) ≤ least_weight (checked m)
-checked_least m = grind (arith, nat_tests)
 
 -- A size holds itself.
 pub holds_itself : {w : Option ℕ} → HoldsBound w w
@@ -67,24 +51,14 @@ pub holds_second_of : (u v : Option ℕ) {w : Option ℕ} → HoldsBound v w →
 holds_second_of (Some m) (Some n) h = record { room = λ d i. omega (arith, h.room d i) }
 holds_second_of u v h = record { room = λ d i. tt }
 
--- A size holds only a bound that is there and not greater.
-pub not_greater : (w : Option ℕ) (m : ℕ) → HoldsBound (Some m) w → (k : ℕ) × (w ≡ Some k) × (k ≤ m)
-not_greater None m h = absurd (omega (arith, h.room (suc m) tt))
-not_greater (Some k) m h = (k, refl, h.room k (omega arith))
-
 -- Two lists of fields.
 pub holds_both : (u v w x : Option ℕ) → HoldsBound u w → HoldsBound v x → HoldsBound (size_sum u v) (both_bounds w x)
-holds_both (Some m) (Some n) w x a b =
-    let y = not_greater w m a in
-    let z = not_greater x n b in
-    let sums = λ (d : ℕ) (h : IsWithin d (both_bounds w x)). subst (λ (u : Option ℕ). IsWithin d
-    (both_bounds u (Some z.0))) y.1 (subst (λ (u : Option ℕ). IsWithin d (both_bounds w u)) z.1 h) in
-    record { room = λ d h. room_checked (m + n) d (omega (arith, y.2, z.2, sums d h)) }
+holds_both (Some m) (Some n) (Some k) (Some l) a b = record {
+  room = λ d h. room_checked (m + n) d (omega (arith, h, a.room k (omega arith), b.room l (omega arith)));
+}
+holds_both (Some m) (Some n) None x a b = absurd (omega (arith, a.room (suc m) tt))
+holds_both (Some m) (Some n) (Some k) None a b = absurd (omega (arith, b.room (suc n) tt))
 holds_both u v w x a b = record { room = λ d h. tt }
-
--- The pair of two sizes has room for both.
-pub holds_pair : (v w : Option ℕ) → HoldsBound (size_sum v w) (both_bounds v w)
-holds_pair v w = holds_both v w v w holds_itself holds_itself
 
 -- Fields can be grouped either way.
 pub holds_grouped : (u v w : Option ℕ) {size : Option ℕ} → HoldsBound size (both_bounds (both_bounds u v) w) →

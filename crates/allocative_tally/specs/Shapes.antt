@@ -2,15 +2,11 @@
 -- mark as one entry.
 use Rattle.std.specs.Prelude.{◌≡◌, ◌≤◌, ◌*◌, ◌-◌, ◌^◌, ◌+◌, ◌==◌, min, not, ℕ, Bool, true, false, cond, ⊤, Option, None}
 use Rattle.std.specs.Prelude.{Some, codes}
-use Rattle.allocative_graph.specs.Path.{Key}
 use Rattle.allocative_graph.specs.Forest.{Forest, Empty, Inline, First, Again, followed_by, entry_of}
 use Rattle.allocative_graph.specs.Forest.{Unique as unique_entry}
-use Rattle.allocative_graph.specs.Owned.{direct}
-use Rattle.allocative_graph.specs.Shows.{Showing}
-use Rattle.allocative_graph.specs.Collector.{Kind, plus}
+use Rattle.allocative_graph.specs.{Path.Key, Owned.direct, Shows.Showing, Collector.Kind, Collector.plus}
 use Rattle.allocative.specs.Strict.{FitsWords}
-use Rattle.allocative_tally.specs.declared.tally.Sum.{Sum}
-use Rattle.allocative_tally.specs.declared.map.DataTally.{DataTally}
+use Rattle.allocative_tally.specs.declared.{tally.Sum.Sum, map.DataTally.DataTally}
 
 -- No entry is shared.
 abbrev pub IsPlain : Forest → Type 0

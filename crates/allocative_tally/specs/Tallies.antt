@@ -1,20 +1,13 @@
 -- What counting a value does to what was counted before.
-use Rattle.std.specs.Prelude.{◌≡◌, ◌≤◌, ◌<◌, ◌+◌, ◌*◌, ◌^◌, ℕ, Bool, true, false, List, Option, None}
-use Rattle.std.specs.Prelude.{Some, Result, ⊤, codes}
-use Rattle.std.specs.Option.{ForSome}
-use Rattle.std.specs.Iterator.{AlwaysYields}
-use Rattle.allocative_graph.specs.Path.{Key}
-use Rattle.allocative_graph.specs.Forest.{Forest, followed_by}
-use Rattle.allocative_graph.specs.Owned.{direct}
-use Rattle.allocative_graph.specs.Shows.{Showing, Field, slice_shows}
-use Rattle.allocative_graph.specs.declared.refusal.Refusal.{Refusal}
-use Rattle.allocative.specs.Bodies.{are_shown_each, cut_shows}
-use Rattle.allocative.specs.Visited.{Entered}
-use Rattle.allocative.specs.declared.visitor.Visitor.{Visitor}
+use Rattle.std.specs.Prelude.{◌≡◌, ◌≤◌, ◌<◌, ◌+◌, ◌*◌, ◌^◌, ℕ, Bool, true, false, List, Option, None, Some, Result}
+use Rattle.std.specs.Prelude.{MatchResult, ⊤, codes}
+use Rattle.std.specs.{Option.ForSome, Iterator.AlwaysYields}
+use Rattle.allocative_graph.specs.{Path.Key, Forest.Forest, Forest.followed_by, Owned.direct, Shows.Showing}
+use Rattle.allocative_graph.specs.{Shows.Field, Shows.slice_shows, declared.refusal.Refusal.Refusal}
+use Rattle.allocative.specs.{Bodies.are_shown_each, Bodies.cut_shows, Visited.Entered, declared.visitor.Visitor.Visitor}
 use Rattle.allocative_tally.specs.Shapes.{Merged, Shape, forest_of, Holds, IsRight, shape_shows, entries, items_shape}
 use Rattle.allocative_tally.specs.Shapes.{buffer_shape, bytes_times, is_there, load, weight, least_weight, top_bytes}
-use Rattle.allocative_tally.specs.declared.tally.Sum.{Sum}
-use Rattle.allocative_tally.specs.declared.places.Places.{Places}
+use Rattle.allocative_tally.specs.declared.{tally.Sum.Sum, places.Places.Places}
 
 -- The bound of two values, one after another.
 abbrev pub both_bounds : Option ℕ → Option ℕ → Option ℕ
@@ -40,6 +33,14 @@ pub record Tallies (size : Option ℕ) (p : Showing) (s t : Shape) : Type 0 wher
 -- No forest that p allows can be counted into a shape: what it has to count and the numbers of s exceed a word.
 pub record Exceeds (p : Showing) (s : Shape) : Type 0 where
   pub most : (f : Forest) → p f → 2 ^ 64 ≤ load s + weight f
+
+-- What holds if a result is `Ok`, and what if it is `Err`.
+pub record Told {X E : Type 0} (r : Result X E) (P Q : Type 0) : Type 0 where
+  pub told : MatchResult r (λ _. P) (λ _. Q)
+
+-- A value was counted into a shape, or it cannot be.
+abbrev pub ShapeCounts : {X E : Type 0} → Option ℕ → Showing → Shape → Shape → Result X E → Type 0
+ShapeCounts size p s t r = Told r (Tallies size p s t) (Exceeds p s)
 
 -- A declared size is there, and fits a word.
 pub record IsDeclared (size : Option ℕ) : Type 0 where

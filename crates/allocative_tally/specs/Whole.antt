@@ -1,8 +1,6 @@
 -- What a tally's type has to show of itself: that its values are entries of their declared size.
 use Rattle.std.proofs.Common.{◌≡◌, ◌≤◌, ◌+◌, ℕ, Bool, true, false, Option, ap, arith}
-use Rattle.allocative_graph.specs.Path.{Key}
-use Rattle.allocative_graph.specs.Forest.{Forest, entry_of}
-use Rattle.allocative_graph.specs.Shows.{Showing, Field, sized}
+use Rattle.allocative_graph.specs.{Path.Key, Forest.Forest, Forest.entry_of, Shows.Showing, Shows.Field, Shows.sized}
 use Rattle.allocative_tally.specs.Shapes.{weight, least_weight, ShownAs, Shape, entries}
 use Rattle.allocative_tally.specs.Tallies.{IsWhole}
 

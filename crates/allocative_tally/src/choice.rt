@@ -63,8 +63,7 @@ impl<T: Tallied, E: Tallied> Tallied for Result<T, E> {
     fn show(tally: &Self::Tally, count: usize, visitor: &mut Visitor<'_>) -> Result<(), Refusal> {
         let ok = FieldMany::<T>("Ok", &tally.first.values, tally.first.count);
         let err = FieldMany::<E>("Err", &tally.second.values, tally.second.count);
-        let inside = (ok, err);
-        SizedMany::<Result<T, E>, _, _>("Result", count, inside, PhantomData).enter(visitor)
+        SizedMany::<Result<T, E>, _, _>("Result", count, (ok, err), PhantomData).enter(visitor)
     }
 
     #[inline(always)]
@@ -96,8 +95,7 @@ impl<L: Tallied, R: Tallied> Tallied for Either<L, R> {
     fn show(tally: &Self::Tally, count: usize, visitor: &mut Visitor<'_>) -> Result<(), Refusal> {
         let left = FieldMany::<L>("Left", &tally.first.values, tally.first.count);
         let right = FieldMany::<R>("Right", &tally.second.values, tally.second.count);
-        let inside = (left, right);
-        SizedMany::<Either<L, R>, _, _>("Either", count, inside, PhantomData).enter(visitor)
+        SizedMany::<Either<L, R>, _, _>("Either", count, (left, right), PhantomData).enter(visitor)
     }
 
     #[inline(always)]

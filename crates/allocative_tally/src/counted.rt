@@ -1,15 +1,13 @@
 //! Parts of values that are counted first.
 #![tactic(auto)]
 
-ghost use Rattle.std.specs.Prelude.{ℕ, IfOk, MatchResult, Option, length};
-ghost use Rattle.std.specs.Iterator.{IsFinite};
-ghost use Rattle.std.specs.Map.Iter.{deref, deref_pair};
+ghost use Rattle.std.specs.Prelude.{ℕ, MatchResult, Option, length};
+ghost use Rattle.std.specs.{Iterator.IsFinite, Map.Iter.deref, Map.Iter.deref_pair};
 ghost use Rattle.allocative_described.specs.Sizes.{size_sum};
-ghost use Rattle.allocative_graph.specs.Forest.{Forest};
-ghost use Rattle.allocative_graph.specs.Shows.{each_shows};
+ghost use Rattle.allocative_graph.specs.{Forest.Forest, Shows.each_shows};
 ghost use Rattle.allocative.specs.Runs.{field_of, pair_shows};
 ghost use Rattle.allocative_tally.specs.{Shape, entries, pairs_shape, TalliesFields, TalliesMany, CannotTally};
-ghost use Rattle.allocative_tally.specs.{HoldsOfEveryRun, FitsWord};
+ghost use Rattle.allocative_tally.specs.{HoldsOfEveryRun, Told};
 
 use crate::tally::{CountError, Tallied, product};
 use allocative::{Allocative, Described, IntoKey, Part, Refusal, Visitor};
@@ -102,9 +100,8 @@ impl<'a, K: Tallied, V: Tallied> CountItem<(&'a K, &'a V), (K::Tally, V::Tally)>
         item: (&'a K, &'a V),
         tally: &mut (K::Tally, V::Tally),
     ) -> Result<(), CountError> {
-        let (key, value) = item;
-        let key = key.tally(&mut tally.0);
-        let value = value.tally(&mut tally.1);
+        let key = item.0.tally(&mut tally.0);
+        let value = item.1.tally(&mut tally.1);
         key.and(value)
     }
 }
@@ -117,32 +114,14 @@ pub(crate) fn count_run<A: Drop, S, C: CountItem<A, S>, I: Iterator<Item = A> + 
 ) -> Result<(), CountError>
     requires can { I.can_next items }
     requires ends { IsFinite (I.remaining items) }
-    ensures { HoldsOfEveryRun I.next_gives items C.seen (λ xs. MatchResult result
-        (λ _. TalliesMany C.size (length xs) (each_shows (C.may_show how) xs) (C.shape how tally.old) (C.shape how tally.new))
-        (λ _. CannotTally (each_shows (C.may_show how) xs) (C.shape how tally.old))) }
+    ensures { HoldsOfEveryRun I.next_gives items C.seen (λ xs. Told result
+        (TalliesMany C.size (length xs) (each_shows (C.may_show how) xs) (C.shape how tally.old) (C.shape how tally.new))
+        (CannotTally (each_shows (C.may_show how) xs) (C.shape how tally.old))) }
 {
     for item in items {
         how.count_item(item, tally)?;
     }
     Ok(())
-}
-
-/// Counts each of so many items that an iterator gives, if their bytes fit a word.
-pub(crate) fn count_fitting<A: Drop, S, C: CountItem<A, S>, I: Iterator<Item = A> + Drop>(
-    how: C,
-    items: I,
-    size: Option<usize>,
-    count: usize,
-    tally: &mut S,
-) -> Result<(), CountError>
-    requires can { I.can_next items }
-    requires ends { IsFinite (I.remaining items) }
-    ensures each { HoldsOfEveryRun I.next_gives items C.seen (λ xs. IfOk result (λ _.
-        TalliesMany C.size (length xs) (each_shows (C.may_show how) xs) (C.shape how tally.old) (C.shape how tally.new))) }
-    ensures fits { IfOk result (λ _. FitsWord size count) }
-{
-    product(size, count)?;
-    count_run(how, items, tally)
 }
 
 /// What a value shows, counted first and entered once.
@@ -229,7 +208,9 @@ impl<'a, T: Tallied> Part for CountedEach<&'a [T]> {
     fn enter(self, visitor: &mut Visitor<'_>) -> Result<(), Refusal> {
         let mut tally = T::none_counted();
         let count = self.0.len();
-        match count_fitting(Itself, self.0.iter(), T::size(), count, &mut tally) {
+        let fits = product(T::size(), count);
+        let run = count_run(Itself, self.0.iter(), &mut tally);
+        match fits.and(run) {
             Ok(()) => T::show(&tally, count, visitor),
             Err(_) => visitor.visit_each(self.0),
         }

@@ -30,8 +30,8 @@ impl<'a, T: Tallied> Entries for FieldMany<'a, T> {
     ghost shape = { λ e. entries (⟦<&'static str as IntoKey>⟧.key e.0) T.size e.2 (T.shape e.1.now e.2) };
 
     fn enter(self, visitor: &mut Visitor<'_>) -> Result<(), Refusal> {
-        let sum = Sum::times(T::size(), self.2);
-        InlineSum(self.0, sum, Many::<T>(self.1, self.2)).enter(visitor)
+        let values = Many::<T>(self.1, self.2);
+        SizedMany::<T, _, _>(self.0, self.2, values, PhantomData).enter(visitor)
     }
 }
 

@@ -2,20 +2,18 @@
 //! of 8 bytes.
 #![tactic(auto)]
 
-ghost use Rattle.std.specs.Prelude.{◌≡◌, ◌&&◌, codes, MatchResult, Some, length};
+ghost use Rattle.std.specs.Prelude.{◌≡◌, ◌&&◌, codes, Some, length};
 ghost use Rattle.std.specs.Iterator.{IsFinite};
 ghost use Rattle.allocative_described.specs.Sizes.{size_sum};
 ghost use Rattle.allocative_graph.specs.Shows.{Inside as shows_inside, each_shows};
-ghost use Rattle.allocative.specs.Runs.{pair_shows};
-ghost use Rattle.allocative.specs.StdShows.{in_any_order};
+ghost use Rattle.allocative.specs.{Runs.pair_shows, StdShows.in_any_order};
 ghost use Rattle.allocative_tally.specs.{Beside, EntryAt, Wide, Narrow, entries, pairs_shape, data_shape, sum_times};
-ghost use Rattle.allocative_tally.specs.{Exceeds, AreFields, HoldsOfEveryRun, is_whole};
-ghost use Rattle.allocative_tally.specs.Tallies.{Tallies};
+ghost use Rattle.allocative_tally.specs.{ShapeCounts, AreFields, HoldsOfEveryRun, is_whole};
 
-use crate::counted::{CountItem, FieldUnder, KeyAndValue, count_fitting, count_run};
+use crate::counted::{CountItem, FieldUnder, KeyAndValue, count_run};
 use crate::field::{FieldMany, SizedMany};
 use crate::places::Buffers;
-use crate::tally::{CountError, Entries, InlineSum, Sum, Tallied, bytes_of};
+use crate::tally::{CountError, Entries, InlineSum, Sum, Tallied, bytes_of, product};
 use allocative::{Described, Pairs, Part, Refusal, Visitor};
 use std::collections::{BTreeMap, BTreeSet, HashMap, HashSet};
 use std::hash::Hash;
@@ -62,22 +60,20 @@ fn count_data<A: Drop, S, C: CountItem<A, S>, I: Iterator<Item = A> + Drop>(
     requires can { I.can_next items }
     requires ends { IsFinite (I.remaining items) }
     requires sized { size ≡ C.size }
-    requires are_fields { AreFields C.size (C.may_show how) (C.shape how) }
-    ensures { HoldsOfEveryRun I.next_gives items C.seen (λ xs. count ≡ length xs → MatchResult result
-        (λ _. Tallies (Some 8) (shows_inside (codes "data") 8 (each_shows (C.may_show how) xs))
-        (data_shape tally.old (C.shape how)) (data_shape tally.new (C.shape how)))
-        (λ _. Exceeds (shows_inside (codes "data") 8 (each_shows (C.may_show how) xs))
-        (data_shape tally.old (C.shape how)))) }
+    ensures { HoldsOfEveryRun I.next_gives items C.seen (λ xs. count ≡ length xs →
+        AreFields C.size (C.may_show how) (C.shape how) → ShapeCounts (Some 8)
+        (shows_inside (codes "data") 8 (each_shows (C.may_show how) xs))
+        (data_shape tally.old (C.shape how)) (data_shape tally.new (C.shape how)) result) }
 {
     if count == 0 {
         return tally.small.places.add_full(Some(0), 0);
     }
     if bytes_of(size, count) <= 8 {
-        count_run(how, items, &mut tally.small.values)?;
-        return tally.small.places.add_full(size, count);
+        let run = count_run(how, items, &mut tally.small.values);
+        return run.and(tally.small.places.add_full(size, count));
     }
-    count_run(how, items, &mut tally.large.values)?;
-    tally.large.places.add_full(size, count)
+    let run = count_run(how, items, &mut tally.large.values);
+    run.and(tally.large.places.add_full(size, count))
 }
 
 /// The entries `data` of a tally, with entries inside those whose items have at most 8 bytes, and with others inside
@@ -91,18 +87,10 @@ impl<'a, S, P: Entries, Q: Entries> Entries for DataMany<'a, S, P, Q> {
         (EntryAt Narrow (codes "data") (sum_times (Some 8) e.0.now.large.places.buffers) (Q.shape e.2)) };
 
     fn enter(self, visitor: &mut Visitor<'_>) -> Result<(), Refusal> {
-        let DataMany(tally, small, large) = self;
-        let small = InlineSum(
-            "data",
-            Sum::times(Some(8), tally.small.places.buffers),
-            small,
-        );
-        let large = InlineSum(
-            "data",
-            Sum::times(Some(8), tally.large.places.buffers),
-            large,
-        );
-        (small, large).enter(visitor)
+        let sum = Sum::times(Some(8), self.0.small.places.buffers);
+        let small = InlineSum("data", sum, self.1);
+        let sum = Sum::times(Some(8), self.0.large.places.buffers);
+        (small, InlineSum("data", sum, self.2)).enter(visitor)
     }
 }
 
@@ -129,13 +117,8 @@ impl<K: Tallied + Eq + Hash, V: Tallied> Tallied for HashMap<K, V> {
     }
 
     fn tally(&self, tally: &mut Self::Tally) -> Result<(), CountError> {
-        count_data(
-            KeyAndValue,
-            self.iter(),
-            pair_size::<K, V>(),
-            self.len(),
-            tally,
-        )
+        let size = pair_size::<K, V>();
+        count_data(KeyAndValue, self.iter(), size, self.len(), tally)
     }
 }
 
@@ -162,13 +145,8 @@ impl<K: Tallied + Ord, V: Tallied> Tallied for BTreeMap<K, V> {
     }
 
     fn tally(&self, tally: &mut Self::Tally) -> Result<(), CountError> {
-        count_data(
-            KeyAndValue,
-            self.iter(),
-            pair_size::<K, V>(),
-            self.len(),
-            tally,
-        )
+        let size = pair_size::<K, V>();
+        count_data(KeyAndValue, self.iter(), size, self.len(), tally)
     }
 }
 
@@ -238,8 +216,9 @@ impl<'a, K: Tallied + Ord, V: Tallied> Part for CountedPairs<&'a BTreeMap<K, V>>
     fn enter(self, visitor: &mut Visitor<'_>) -> Result<(), Refusal> {
         let count = self.0.len();
         let mut tally = (K::none_counted(), V::none_counted());
-        let size = pair_size::<K, V>();
-        match count_fitting(KeyAndValue, self.0.iter(), size, count, &mut tally) {
+        let fits = product(pair_size::<K, V>(), count);
+        let run = count_run(KeyAndValue, self.0.iter(), &mut tally);
+        match fits.and(run) {
             Ok(()) => PairsMany::<K, V>(&tally, count).enter(visitor),
             Err(_) => Pairs(self.0).enter(visitor),
         }
@@ -254,8 +233,9 @@ impl<'a, K: Tallied + Eq + Hash, V: Tallied> Part for CountedPairs<&'a HashMap<K
     fn enter(self, visitor: &mut Visitor<'_>) -> Result<(), Refusal> {
         let count = self.0.len();
         let mut tally = (K::none_counted(), V::none_counted());
-        let size = pair_size::<K, V>();
-        match count_fitting(KeyAndValue, self.0.iter(), size, count, &mut tally) {
+        let fits = product(pair_size::<K, V>(), count);
+        let run = count_run(KeyAndValue, self.0.iter(), &mut tally);
+        match fits.and(run) {
             Ok(()) => PairsMany::<K, V>(&tally, count).enter(visitor),
             Err(_) => Pairs(self.0).enter(visitor),
         }

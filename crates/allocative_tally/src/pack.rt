@@ -1,11 +1,10 @@
 //! `IndexMap`, `IndexSet`, `SmallVec` and `Slab`.
 #![tactic(auto)]
 
-ghost use Rattle.std.specs.Prelude.{codes, MatchResult, Some};
+ghost use Rattle.std.specs.Prelude.{codes, Some};
 ghost use Rattle.allocative.specs.Bodies.{table_shows};
 ghost use Rattle.allocative_tally.specs.{Unique as unique_width, EntryAt, Beside, entries, sum_times, buffer_shape};
-ghost use Rattle.allocative_tally.specs.{pairs_shape, table_shape, Exceeds, buffer_of, is_whole};
-ghost use Rattle.allocative_tally.specs.Tallies.{Tallies};
+ghost use Rattle.allocative_tally.specs.{pairs_shape, table_shape, ShapeCounts, buffer_of, is_whole};
 
 use crate::counted::{FieldUnder, KeyAndValue, count_run};
 use crate::field::{FieldMany, OwnTally, SizedMany};
@@ -38,23 +37,20 @@ impl<'a, S, P: Entries> Entries for IndexMany<'a, S, P> {
         e.0.now.items.places.unused) (table_shape e.0.now.tables e.0.now.buckets) };
 
     fn enter(self, visitor: &mut Visitor<'_>) -> Result<(), Refusal> {
-        let IndexMany(tally, items) = self;
-        let places = tally.items.places;
+        let places = self.0.items.places;
         let unused = Sum::of(places.buffers, places.unused);
-        let inside = (items, InlineSum("unused_capacity", unused, ()));
+        let inside = (self.1, InlineSum("unused_capacity", unused, ()));
         let data = UniqueSum("data", Sum::times(Some(8), places.buffers), inside);
-        let buckets = InlineSum("alloc", Sum::of(tally.tables, tally.buckets), ());
-        let table = UniqueSum("raw_table", Sum::times(Some(8), tally.tables), buckets);
+        let buckets = InlineSum("alloc", Sum::of(self.0.tables, self.0.buckets), ());
+        let table = UniqueSum("raw_table", Sum::times(Some(8), self.0.tables), buckets);
         (data, table).enter(visitor)
     }
 }
 
 // Counts the hash table of `count` items. It returns `Err` as `Tallied::tally` does.
 fn count_table(count: usize, tables: &mut usize, buckets: &mut usize) -> Result<(), CountError>
-    ensures { MatchResult result
-        (λ _. Tallies (Some 8) (table_shows count)
-        (table_shape tables.old buckets.old) (table_shape tables.new buckets.new))
-        (λ _. Exceeds (table_shows count) (table_shape tables.old buckets.old)) }
+    ensures { ShapeCounts (Some 8) (table_shows count)
+        (table_shape tables.old buckets.old) (table_shape tables.new buckets.new) result }
 {
     if count == 0 {
         return Ok(());
@@ -95,9 +91,9 @@ impl<K: Tallied + Eq + Hash, V: Tallied> Tallied for IndexMap<K, V> {
         let count = self.len();
         let unused = self.capacity() - count;
         let sizes = (pair_size::<K, V>(), <(K, V)>::size());
-        count_run(KeyAndValue, self.iter(), &mut tally.items.values)?;
-        tally.items.places.add(sizes, count, unused)?;
-        count_table(count, &mut tally.tables, &mut tally.buckets)
+        let run = count_run(KeyAndValue, self.iter(), &mut tally.items.values);
+        let data = run.and(tally.items.places.add(sizes, count, unused));
+        data.and(count_table(count, &mut tally.tables, &mut tally.buckets))
     }
 }
 
@@ -129,9 +125,9 @@ impl<T: Tallied + Eq + Hash> Tallied for IndexSet<T> {
         let count = self.len();
         let unused = self.capacity() - count;
         let sizes = (T::size(), T::size());
-        count_run(FieldUnder("value"), self.iter(), &mut tally.items.values)?;
-        tally.items.places.add(sizes, count, unused)?;
-        count_table(count, &mut tally.tables, &mut tally.buckets)
+        let run = count_run(FieldUnder("value"), self.iter(), &mut tally.items.values);
+        let data = run.and(tally.items.places.add(sizes, count, unused));
+        data.and(count_table(count, &mut tally.tables, &mut tally.buckets))
     }
 }
 
@@ -170,18 +166,16 @@ impl<T: Tallied, const N: usize> Tallied for SmallVec<T, N> {
 
     fn tally(&self, tally: &mut Self::Tally) -> Result<(), CountError> {
         declared::<SmallVec<T, N>>()?;
+        let count = self.len();
+        let items = self.as_slice().iter();
         if self.spilled() {
-            let items = self.as_slice().iter();
-            count_run(FieldUnder("data"), items, &mut tally.spilled.values)?;
-            return tally.spilled.places.add_full(T::size(), self.len());
+            let run = count_run(FieldUnder("data"), items, &mut tally.spilled.values);
+            return run.and(tally.spilled.places.add_full(T::size(), count));
         }
         // They have at most the bytes of the places, so they fit the entry.
-        let count = self.len();
         prove!(count <= N);
-        let items = self.as_slice().iter();
-        count_run(FieldUnder("data"), items, &mut tally.in_place.values)?;
         tally.in_place.count = added(tally.in_place.count, count)?;
-        Ok(())
+        count_run(FieldUnder("data"), items, &mut tally.in_place.values)
     }
 }
 
@@ -198,8 +192,9 @@ impl<T: Tallied> Tallied for Slab<T> {
     }
 
     fn show(tally: &Self::Tally, count: usize, visitor: &mut Visitor<'_>) -> Result<(), Refusal> {
-        let buffers = BuffersMany::<T>(tally);
-        SizedMany::<Slab<T>, _, _>("Slab", count, buffers, PhantomData).enter(visitor)
+        SizedMany::<Slab<T>, _, _>("Slab", count, BuffersMany::<T>(tally), PhantomData).enter(
+            visitor,
+        )
     }
 
     fn tally(&self, tally: &mut Self::Tally) -> Result<(), CountError> {

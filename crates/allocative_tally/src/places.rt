@@ -1,10 +1,10 @@
 //! Numbers of buffers and of their items, and the bytes of their unused places.
 #![tactic(auto)]
 
-ghost use Rattle.std.specs.Prelude.{◌≡◌, IfOk, MatchResult};
-ghost use Rattle.allocative_tally.specs.{bytes_times, no_places, AddsPlaces, AddsItems, CannotAdd, CannotAddItems};
+ghost use Rattle.std.specs.Prelude.{◌≡◌, MatchResult};
+ghost use Rattle.allocative_tally.specs.{no_places, AddsPlaces, AddsItems, CannotAdd, CannotAddItems};
 
-use crate::tally::{CountError, added, product};
+use crate::tally::{CountError, added, bytes_of, product};
 
 /// How many buffers there are, how many items are in them, and the bytes of their unused places.
 #[derive(Clone, Copy)]
@@ -15,34 +15,24 @@ pub struct Places {
 }
 
 impl Places {
-    // Adds a buffer as `add_full` does. Returns the bytes of all items.
-    #[inline(always)]
-    fn add_items(&mut self, size: Option<usize>, items: usize) -> Result<usize, CountError>
-        ensures adds { MatchResult result (λ _. AddsItems size items self.old self.new)
-            (λ _. CannotAddItems size items self.old) }
-        ensures bytes { IfOk result (λ b. b ≡ bytes_times size self.new.items) }
-    {
-        let buffers = added(self.buffers, 1)?;
-        let items = added(self.items, items)?;
-        let bytes = product(size, items)?;
-        self.buffers = buffers;
-        self.items = items;
-        Ok(bytes)
-    }
-
     /// Adds a buffer of so many items of a declared size, where no place is unused. It returns `Err` exactly if the
-    /// size is missing, or a number or the bytes of all items do not fit a word.
+    /// size is missing, or a number or the bytes of all items do not fit a word. Discard the numbers then.
     #[inline(always)]
     pub fn add_full(&mut self, size: Option<usize>, items: usize) -> Result<(), CountError>
         ensures { MatchResult result (λ _. AddsItems size items self.old self.new)
             (λ _. CannotAddItems size items self.old) }
     {
-        self.add_items(size, items)?;
+        let buffers = added(self.buffers, 1)?;
+        let items = added(self.items, items)?;
+        product(size, items)?;
+        self.buffers = buffers;
+        self.items = items;
         Ok(())
     }
 
     /// Adds a buffer of so many items and unused places. The first size is that of an item, the second that of a place.
-    /// It returns `Err` exactly if a size is missing, or a number or the bytes of all do not fit a word.
+    /// It returns `Err` exactly if a size is missing, or a number or the bytes of all do not fit a word. Discard the
+    /// numbers then.
     #[inline(always)]
     pub fn add(
         &mut self,
@@ -56,8 +46,8 @@ impl Places {
         let (item, place) = sizes;
         let spare = product(place, unused)?;
         let spare = added(self.unused, spare)?;
-        let bytes = self.add_items(item, items)?;
-        added(bytes, spare)?;
+        self.add_full(item, items)?;
+        added(bytes_of(item, self.items), spare)?;
         self.unused = spare;
         Ok(())
     }

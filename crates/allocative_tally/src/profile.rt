@@ -2,9 +2,7 @@
 #![tactic(auto)]
 
 ghost use Rattle.std.specs.Prelude.{◌<◌, ◌^◌, IfOk, IfErr};
-ghost use Rattle.allocative_graph.specs.Graph.{total};
-ghost use Rattle.allocative_graph.specs.Shows.{each_shows};
-ghost use Rattle.allocative_graph.specs.Visits.{IsProfileOf};
+ghost use Rattle.allocative_graph.specs.{Graph.total, Shows.each_shows, Visits.IsProfileOf};
 ghost use Rattle.allocative.specs.Strict.{MayRefuseProfile};
 
 use crate::counted::{CountedRoots, CountedValue};

@@ -2,13 +2,11 @@
 #![tactic(auto)]
 
 ghost use Rattle.std.specs.Prelude.{◌≡◌, None, Bool, codes, MatchResult, Some, length};
-ghost use Rattle.std.specs.Iterator.{IsFinite};
-ghost use Rattle.std.specs.Map.Iter.{deref};
+ghost use Rattle.std.specs.{Iterator.IsFinite, Map.Iter.deref};
 ghost use Rattle.allocative.specs.Bodies.{are_shown_each as is_each, buffer_shows};
-ghost use Rattle.allocative_tally.specs.{Unique, EntryAt, entries, items_shape, bytes_times};
-ghost use Rattle.allocative_tally.specs.{sum_times, text_shape, Exceeds, HoldsOfEveryRun, buffer_of};
+ghost use Rattle.allocative_tally.specs.{Unique, EntryAt, entries, sum_times, text_shape};
+ghost use Rattle.allocative_tally.specs.{Exceeds, HoldsOfEveryRun, buffer_of, in_slices, is_whole};
 ghost use Rattle.allocative_tally.specs.Tallies.{Tallies};
-ghost use Rattle.allocative_tally.specs.{in_slices, is_whole};
 
 use crate::counted::{FieldUnder, Itself, count_run};
 use crate::field::{FieldMany, Many, OwnTally, SizedMany};
@@ -71,24 +69,6 @@ pub fn are_shown_each<T: Described>() -> bool
     }
 }
 
-/// The items of buffers: what they show, or one entry of their bytes.
-#[derive(Drop)]
-struct ItemsMany<'a, T: Tallied>(&'a Buffers<T::Tally>);
-
-impl<'a, T: Tallied> Entries for ItemsMany<'a, T> {
-    ghost shape = { λ e. items_shape (is_each T.needs_drop T.size) T.name e.0.now.places.buffers
-        (bytes_times T.size e.0.now.places.items) (T.shape e.0.now.values e.0.now.places.items) };
-
-    fn enter(self, visitor: &mut Visitor<'_>) -> Result<(), Refusal> {
-        let places = self.0.places;
-        if are_shown_each::<T>() {
-            return T::show(&self.0.values, places.items, visitor);
-        }
-        let slice = Sum::of(places.buffers, bytes_of(T::size(), places.items));
-        InlineSum(T::name(), slice, ()).enter(visitor)
-    }
-}
-
 /// Buffers, with their items and unused places inside them.
 #[derive(Drop)]
 pub struct BuffersMany<'a, T: Tallied>(pub &'a Buffers<T::Tally>);
@@ -98,12 +78,16 @@ impl<'a, T: Tallied> Entries for BuffersMany<'a, T> {
 
     fn enter(self, visitor: &mut Visitor<'_>) -> Result<(), Refusal> {
         let places = self.0.places;
+        let pointer = Sum::times(Some(8), places.buffers);
         let unused = Sum::of(places.buffers, places.unused);
-        let inside = (
-            ItemsMany::<T>(self.0),
-            InlineSum("unused_capacity", unused, ()),
-        );
-        UniqueSum("ptr", Sum::times(Some(8), places.buffers), inside).enter(visitor)
+        let unused = InlineSum("unused_capacity", unused, ());
+        if are_shown_each::<T>() {
+            let items = Many::<T>(&self.0.values, places.items);
+            return UniqueSum("ptr", pointer, (items, unused)).enter(visitor);
+        }
+        let slice = Sum::of(places.buffers, bytes_of(T::size(), places.items));
+        let items = InlineSum(T::name(), slice, ());
+        UniqueSum("ptr", pointer, (items, unused)).enter(visitor)
     }
 }
 
@@ -140,8 +124,8 @@ pub fn count_buffer<'a, T: Tallied + 'a, I: Iterator<Item = &'a T> + Drop>(
     let sizes = (Some(size), Some(size));
     let unused = capacity.saturating_sub(count);
     if are_shown_each::<T>() {
-        count_run(Itself, items, &mut tally.values)?;
-        return tally.places.add(sizes, count, unused);
+        let run = count_run(Itself, items, &mut tally.values);
+        return run.and(tally.places.add(sizes, count, unused));
     }
     tally.places.add(sizes, count, unused)
 }
@@ -166,8 +150,8 @@ impl<T: Tallied> Tallied for Box<T> {
 
     #[inline(always)]
     fn tally(&self, tally: &mut Self::Tally) -> Result<(), CountError> {
-        (**self).tally(&mut tally.values)?;
-        tally.places.add_full(T::size(), 1)
+        let value = (**self).tally(&mut tally.values);
+        value.and(tally.places.add_full(T::size(), 1))
     }
 }
 
@@ -184,8 +168,7 @@ impl<T: Tallied> Tallied for Vec<T> {
     }
 
     fn show(tally: &Self::Tally, count: usize, visitor: &mut Visitor<'_>) -> Result<(), Refusal> {
-        let buffers = BuffersMany::<T>(tally);
-        SizedMany::<Vec<T>, _, _>("Vec", count, buffers, PhantomData).enter(visitor)
+        SizedMany::<Vec<T>, _, _>("Vec", count, BuffersMany::<T>(tally), PhantomData).enter(visitor)
     }
 
     #[inline(always)]
@@ -237,8 +220,7 @@ impl<T: Tallied, const N: usize> Tallied for [T; N] {
     #[inline(always)]
     fn tally(&self, tally: &mut Self::Tally) -> Result<(), CountError> {
         declared::<[T; N]>()?;
-        count_run(FieldUnder("data"), self.iter(), &mut tally.values)?;
         tally.count = added(tally.count, N)?;
-        Ok(())
+        count_run(FieldUnder("data"), self.iter(), &mut tally.values)
     }
 }

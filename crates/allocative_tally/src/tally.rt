@@ -83,9 +83,7 @@ pub fn bytes_of(size: Option<usize>, count: usize) -> usize
 pub fn declared<T: Described>() -> Result<(), CountError>
     ensures { MatchResult result (λ _. IsDeclared T.size) (λ _. T.size ≡ None) }
 {
-    let Some(_size) = T::size() else {
-        return Err(CountError);
-    };
+    T::size().ok_or(CountError)?;
     Ok(())
 }
 
@@ -95,9 +93,7 @@ pub fn product(size: Option<usize>, count: usize) -> Result<usize, CountError>
     ensures fits { MatchResult result (λ _. FitsWord size count) (λ _. ForSome size (λ s. 2 ^ 64 ≤ s * count)) }
     ensures bytes { IfOk result (λ b. b ≡ bytes_times size count) }
 {
-    let Some(bytes) = size else {
-        return Err(CountError);
-    };
+    let bytes = size.ok_or(CountError)?;
     bytes.checked_mul(count).ok_or(CountError)
 }
 
@@ -146,8 +142,7 @@ impl<P: Entries, Q: Entries> Entries for (P, Q) {
     ghost shape = { λ e. Beside (P.shape e.0) (Q.shape e.1) };
 
     fn enter(self, visitor: &mut Visitor<'_>) -> Result<(), Refusal> {
-        let (first, second) = self;
-        Part::enter((EntriesPart(first), EntriesPart(second)), visitor)
+        Part::enter((EntriesPart(self.0), EntriesPart(self.1)), visitor)
     }
 }
 

@@ -25,8 +25,7 @@ impl<A: Tallied, B: Tallied> Tallied for (A, B) {
     fn show(tally: &Self::Tally, count: usize, visitor: &mut Visitor<'_>) -> Result<(), Refusal> {
         let first = FieldMany::<A>("0", &tally.0, count);
         let second = FieldMany::<B>("1", &tally.1, count);
-        let inside = (first, second);
-        SizedMany::<(A, B), _, _>("tuple2", count, inside, PhantomData).enter(visitor)
+        SizedMany::<(A, B), _, _>("tuple2", count, (first, second), PhantomData).enter(visitor)
     }
 
     #[inline(always)]

@@ -1,11 +1,11 @@
 -- of count_run: one more item is counted, and the run ends
-use Rattle.std.proofs.lemmas.List.{map-append}
-use Rattle.std.proofs.Common.{map}
-use Rattle.allocative_tally.proofs.{refl, stops, many_none, many_more, run_as, run_cannot, run_ends}
+use Rattle.std.proofs.{lemmas.List.map-append, Common.map}
+use Rattle.allocative_tally.proofs.{◌≡◌, arith, refl, tallies_none, stops, many_more, run_as, run_cannot, run_ends}
+use Rattle.allocative_tally.proofs.{told_by}
 use Rattle.allocative_tally.proofs.counted.count_run.Goals as goal
 
 pub loop-item-init : goal.loop-item-init
-loop-item-init g c = many_none refl
+loop-item-init g c = record { next = λ n m e. let same : m ≡ n = omega (arith, e) in rw same (tallies_none refl) }
 
 pub loop-item-preserved : goal.loop-item-preserved
 loop-item-preserved g c =
@@ -16,11 +16,13 @@ loop-item-preserved g c =
 pub returns-in_err-count_item : goal.returns-in_err-count_item
 returns-in_err-count_item g c =
     let l = c.loop-item in
-    rw (← c.into_iter-item-iterator.ensures.into_iter_gives) (run_as (run_cannot _ l.item-iterator l.yielded l.yielded_by
-    c.in-Some.ensures.steps l.invariant c.in_err-count_item.ensures) (λ xs. stops _ _ _ c.from_residual.ensures.0))
+    let none = run_cannot _ l.item-iterator l.yielded l.yielded_by c.in-Some.ensures.steps l.invariant
+    c.in_err-count_item.ensures in
+    rw (← c.into_iter-item-iterator.ensures.into_iter_gives)
+    (run_as none (λ xs n. told_by _ (stops _ _ _ c.from_residual.ensures.0 n)))
 
 pub returns : goal.returns
 returns g c =
     let l = c.loop-item in
-    rw (← c.into_iter-item-iterator.ensures.into_iter_gives) (run_ends l.item-iterator c.next.new.self l.yielded l.yielded_by c.in-None.ensures.steps
-    l.invariant)
+    rw (← c.into_iter-item-iterator.ensures.into_iter_gives) (run_ends l.item-iterator c.next.new.self l.yielded
+    l.yielded_by c.in-None.ensures.steps (record { told = l.invariant }))

@@ -1,8 +1,7 @@
 -- of count_run: the invariant of its loop
 use Rattle.std.proofs.Common.{map}
 use Rattle.allocative_graph.specs.Shows.{each_shows}
-use Rattle.allocative_tally.proofs.{length}
-use Rattle.allocative_tally.specs.{TalliesMany}
+use Rattle.allocative_tally.{proofs.length, specs.TalliesMany}
 use Rattle.allocative_tally.proofs.counted.count_run.Given as goal
 
 -- The items so far are counted.

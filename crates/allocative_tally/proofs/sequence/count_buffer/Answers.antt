@@ -1,8 +1,7 @@
 -- of count_buffer: no buffer, or one with its items
 use Rattle.allocative.proofs.Common.{without_room, without_size}
-use Rattle.allocative_tally.proofs.{◌≡◌, ◌∙◌, ◌-◌, length, Some, refl, sym, ap, arith, rules, tallies_none, stops}
-use Rattle.allocative_tally.proofs.{buffer_unsized, slice_each, slice_one, buffer_added, true, exceeds_as}
-use Rattle.allocative_tally.proofs.{exceeds_inside, exceeds_first, each_in, buffer_as}
+use Rattle.allocative_tally.proofs.{◌≡◌, ◌∙◌, ◌-◌, length, Some, refl, sym, ap, arith, rules, tallies_none}
+use Rattle.allocative_tally.proofs.{buffer_unsized, slice_each, slice_one, buffer_counts, told_by}
 use Rattle.allocative_tally.proofs.sequence.count_buffer.Goals as goal
 
 pub returns-in_default : goal.returns-in_default
@@ -14,20 +13,9 @@ returns-then-size-eq0 g c =
     record { along = λ xs y count cut. tallies_none (without_size none refl) }
 
 pub returns-then-max-eq0 : goal.returns-then-max-eq0
-returns-then-max-eq0 g c = record {
-  along = λ xs y count cut. tallies_none
-      (without_room (sym c.size.ensures ∙ c.in-Some.is) (omega arith) (omega arith) refl);
-}
-
-pub returns-in_err-count_run : goal.returns-in_err-count_run
-returns-in_err-count_run g c =
+returns-then-max-eq0 g c =
     let is = sym c.size.ensures ∙ c.in-Some.is in
-    let each = rw is at (sym c.are_shown_each.ensures ∙ c.if-are_shown_each.true) in record {
-      along = λ xs y count cut. stops _ _ _ c.from_residual.ensures.0 (rw (count, is)
-          (exceeds_as (buffer_as refl (omega arith) (omega (arith, count))) (exceeds_inside true 8 (exceeds_first
-          (rw each (exceeds_as (each_in cut _ _ _ _ xs each)
-          ((c.in_err-count_run.ensures.along xs y).next c.args.tally.now.places.items)))))));
-    }
+    record { along = λ xs y count cut. tallies_none (without_room is (omega arith) (omega arith) refl) }
 
 pub returns-then-are_shown_each : goal.returns-then-are_shown_each
 returns-then-are_shown_each g c =
@@ -35,10 +23,9 @@ returns-then-are_shown_each g c =
     let each = rw is at (sym c.are_shown_each.ensures ∙ c.if-are_shown_each.true) in record {
       along = λ xs y count cut.
           let unused : c.saturating_sub-unused.result ≡ c.args.capacity - length xs = omega (arith, count) in
-          rw (count, is) (buffer_added cut c.args.capacity _ _ _ _ c.add.result (omega arith) (omega (arith, count))
-          (rw is at g.met.T.Tallied.whole)
-          (slice_each cut _ _ _ xs _ _ each (rw is at (c.in_ok-count_run.ensures.along xs y)))
-          (rw (count, unused) at c.add.ensures));
+          rw (count, is) ((buffer_counts cut c.and.ensures (omega arith) (omega (arith, count))
+          (rw is at g.met.T.Tallied.whole) (slice_each cut each (rw is at (c.count_run-run.ensures.along xs y)))
+          (told_by c.add.result (rw (count, unused) at c.add.ensures))).told);
     }
 
 pub returns : goal.returns
@@ -47,6 +34,6 @@ returns g c =
     let one = rw is at (sym c.are_shown_each.ensures ∙ c.if-are_shown_each.false) in record {
       along = λ xs y count cut.
           let unused : c.saturating_sub-unused.result ≡ c.args.capacity - length xs = omega (arith, count) in
-          rw (count, is) (buffer_added cut c.args.capacity _ _ _ _ c.add-2.result (omega arith) (omega (arith, count))
-          (rw is at g.met.T.Tallied.whole) (slice_one cut _ _ _ xs _ _ one) (rw (count, unused) at c.add-2.ensures));
+          rw (count, is) ((buffer_counts cut refl (omega arith) (omega (arith, count)) (rw is at g.met.T.Tallied.whole)
+          (slice_one cut one) (told_by c.add-2.result (rw (count, unused) at c.add-2.ensures))).told);
     }

@@ -1,14 +1,14 @@
 -- of the tally of `Result`: the value's entry, and inside it that of its case
-use Rattle.allocative_tally.proofs.{MatchResult-weaker, first_counted, second_counted, next_case, own_counted, holding}
-use Rattle.allocative_tally.proofs.{cannot_case, exceeds_left, exceeds_right}
+use Rattle.allocative_tally.proofs.{case_counts, own_counts, first_counted, second_counted, told_by, told_then, holding}
+use Rattle.allocative_tally.proofs.{exceeds_left, exceeds_right}
 use Rattle.allocative_tally.proofs.choice.ResultTallied.tally.Goals as goal
 
 pub returns-in-Ok : goal.returns-in-Ok
-returns-in-Ok g c = rw c.in-Ok.is (MatchResult-weaker c.count_own.result c.count_own.ensures
-    (λ _ own. next_case c.in_ok-declared.ensures (first_counted (own_counted own)) (search holding))
-    (λ _ own. cannot_case (exceeds_left (own.next _))))
+returns-in-Ok g c = rw c.in-Ok.is (case_counts _ c.in_ok-declared.ensures (search holding)
+    (told_then (own_counts (told_by c.count_own.result c.count_own.ensures)) first_counted exceeds_left))
 
 pub returns-in-Err : goal.returns-in-Err
-returns-in-Err g c = rw c.in-Err.is (MatchResult-weaker c.count_own-in-Err.result c.count_own-in-Err.ensures
-    (λ _ own. next_case c.in_ok-declared.ensures (second_counted (own_counted own)) (search holding))
-    (λ _ own. cannot_case (exceeds_right (own.next _))))
+returns-in-Err g c =
+    let own = told_by c.count_own-in-Err.result c.count_own-in-Err.ensures in
+    rw c.in-Err.is (case_counts _ c.in_ok-declared.ensures (search holding)
+    (told_then (own_counts own) second_counted exceeds_right))

@@ -3,9 +3,7 @@ use Rattle.allocative_tally.proofs.{arith, codes, rules, YieldsList-from_rest, f
 use Rattle.allocative_tally.proofs.{are_fields}
 use Rattle.allocative_tally.proofs.map.BTreeSetTallied.tally.Goals as goal
 
-pub count_data-requires-clause-are_fields : goal.count_data-requires-clause-are_fields
-count_data-requires-clause-are_fields g c = are_fields (codes "key") _ _ _
-
 pub returns : goal.returns
-returns g c = container 24 8 c.count_data.result _ _ _ _ (omega arith) (omega arith) field_as
-    (of_every (YieldsList-from_rest _ c.iter.ensures.rest) c.count_data.ensures (search rules))
+returns g c =
+    let entry = of_every (YieldsList-from_rest _ c.iter.ensures.rest) c.count_data.ensures in
+    container 24 _ (omega arith) (omega arith) field_as (entry (search rules) (are_fields (codes "key") _ _ _))

@@ -1,35 +1,17 @@
 -- of the tally of `IndexMap`: its pairs, its unused places and its table
 use Rattle.indexmap.specs.IndexMap.{spare}
-use Rattle.allocative_tally.proofs.{◌≡◌, ◌-◌, arith, refl, rules, true, YieldsList-from_rest, MatchResult-weaker}
-use Rattle.allocative_tally.proofs.{of_every, index_counted, pairs_are_fields, cannot_case, exceeds_first}
-use Rattle.allocative_tally.proofs.{exceeds_second, exceeds_inside, exceeds_as, stops, index_data_as, index_exceeds}
-use Rattle.allocative_tally.proofs.{length}
+use Rattle.allocative_tally.proofs.{◌≡◌, ◌-◌, arith, refl, rules, length, YieldsList-from_rest, field_as, of_every}
+use Rattle.allocative_tally.proofs.{container, both_shapes, index_counts, pairs_are_fields, told_by}
 use Rattle.allocative_tally.proofs.pack.IndexMapTallied.tally.Goals as goal
-
-pub returns-in_err-count_run : goal.returns-in_err-count_run
-returns-in_err-count_run g c =
-    let run = of_every (YieldsList-from_rest _ c.iter.ensures.rest) c.in_err-count_run.ensures in
-    stops _ _ _ c.from_residual.ensures.0 (cannot_case (exceeds_first (exceeds_as index_data_as
-    (exceeds_inside true 8 (exceeds_first (run.next c.args.tally.now.items.places.items))))))
-
-pub returns-in_err-add : goal.returns-in_err-add
-returns-in_err-add g c =
-    let count : c.len-count.result ≡ length c.args.self.now.entries = search rules in
-    let unused : c.capacity.result - c.len-count.result ≡ spare c.args.self.now = omega arith in
-    let run = of_every (YieldsList-from_rest _ c.iter.ensures.rest) c.in_ok-count_run.ensures in
-    let fields = pairs_are_fields g.K.Described.size g.V.Described.size g.K.Allocative.may_show g.V.Allocative.may_show
-    g.K.Tallied.shape g.V.Tallied.shape in
-    stops _ _ _ c.from_residual-in_err-add.ensures.0 (cannot_case (exceeds_first
-    (index_exceeds _ _ (λ e. rw e refl) (rw (c.pair_size.ensures, c.size.ensures, unused, count) at c.in_err-add.ensures)
-    (fields.numbers c.count_run.new.tally _) (run.next c.args.tally.now.items.places.items _ refl))))
 
 pub returns : goal.returns
 returns g c =
     let count : c.len-count.result ≡ length c.args.self.now.entries = search rules in
     let unused : c.capacity.result - c.len-count.result ≡ spare c.args.self.now = omega arith in
-    let run = of_every (YieldsList-from_rest _ c.iter.ensures.rest) c.in_ok-count_run.ensures in
+    let run = of_every (YieldsList-from_rest _ c.iter.ensures.rest) c.count_run-run.ensures in
     let fields = pairs_are_fields g.K.Described.size g.V.Described.size g.K.Allocative.may_show g.V.Allocative.may_show
     g.K.Tallied.shape g.V.Tallied.shape in
-    MatchResult-weaker c.count_table.result (rw count at c.count_table.ensures)
-    (λ _. index_counted (rw (c.pair_size.ensures, c.size.ensures, unused, count) at c.in_ok-add.ensures) run
-    (fields.most c.args.tally.now.items.values)) (λ _ table. cannot_case (exceeds_second table))
+    container 72 _ (omega arith) (omega arith) field_as (both_shapes c.and.ensures (index_counts c.args.self.now.entries
+    {v = c.args.tally.now.items.values} {v' = c.count_run-run.new.tally} c.and-data.ensures (λ e. rw e refl) fields run
+    (told_by c.add.result (rw (c.pair_size.ensures, c.size.ensures, unused, count) at c.add.ensures)))
+    (rw count at c.count_table.ensures))
