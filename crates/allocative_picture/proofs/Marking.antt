@@ -3,14 +3,13 @@ use Rattle.std.proofs.Common.{◌≡◌, ℕ, ◌≤◌, Bor, IfSome, IfNone, op
 use Rattle.std.proofs.Common.{refl, sym, unwrap_or, arith, ◌==◌, not, List, map, sum_by}
 use Rattle.allocative_picture.proofs.Common.{entries, Path, Graph, total_at, is_same_path, sum_by-le-sum_by}
 use Rattle.allocative_picture.proofs.Common.{sum_by-cons, Key, size_at, begins, IsBehind, HasNothing, default}
-use Rattle.allocative_picture.proofs.Common.{mark_with, mark_by, mark_in, warned_mark, warning_of, list_any, total-path}
+use Rattle.allocative_picture.proofs.Common.{mark_with, mark_by, mark_in, warned_mark, warning_of, list_any}
 use Rattle.allocative_picture.proofs.Common.{graph_of_path, path_total, size_at-path, eq_by_cmp_equiv}
 use Rattle.allocative_collectors.specs.declared.output.WarnedPath.{WarnedPath}
 use Rattle.allocative_picture.specs.declared.frames.Marks.{Marks}
 use Rattle.allocative_picture.specs.declared.frames.Marks.TheVariants as marks
 use Rattle.allocative_picture.specs.Frames.{is_warned}
-use Rattle.allocative_graph.proofs.Graphs.{added_up, size_at-added_up, size_at-default, total-default, total-sum_of}
-use Rattle.std.proofs.lemmas.List.Sums.{fold_more}
+use Rattle.allocative_graph.proofs.Graphs.{added_up, size_at-added_up, size_at-default}
 
 -- An entry that counts below a path also counts below the first key of the path.
 fewer : (p q : Path) (k : Key) (n : ℕ) → cond (begins (k ∷ p) q) n 0 ≤ cond (begins (k ∷ []) q) n 0
@@ -58,6 +57,3 @@ mark_warned ws p =
     let bytes : size_at (bytes_at ws) p ≡ sum_by (count_at p) ws =
     omega (arith, size_at-added_up byte_at default ws p, size_at-default p, each) in
     grind (arith, none_counted ws p)
-
--- The lemmas by which the graph of some warnings is made.
-pub ruleset warning = (fold_more, total-sum_of, total-path, total-default)

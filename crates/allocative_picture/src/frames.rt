@@ -146,7 +146,6 @@ pub(crate) fn push_frames(
 }
 
 /// A graph that has bytes at the paths that have a warning, and at no others. The only error is that memory runs out.
-#[tactic(auto, using(crate::proofs::Marking::warning))]
 pub(crate) fn graph_of_warned(
     alloc: Global,
     warned: &[WarnedPath],
