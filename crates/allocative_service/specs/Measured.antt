@@ -1,5 +1,5 @@
 -- The bytes that are counted of a value.
-use Rattle.std.specs.Prelude.{◌≡◌, ℕ, Bool, Option, Result, IfErr}
+use Rattle.std.specs.Prelude.{◌≡◌, ℕ, Bool, Option, Result, IfErr, MatchResult}
 use Rattle.allocative.specs.Strict.{MayRefuseProfile}
 use Rattle.allocative.specs.Graph.{Graph, total}
 use Rattle.allocative.specs.Refusal.{Refusal}
@@ -9,6 +9,8 @@ use Rattle.allocative.specs.SizeOf.{AnswersSize, AnswersVisit}
 use Rattle.allocative.specs.RefusedVisits.{RefusesVisit, RefusesProfile}
 use Rattle.allocative.specs.Visited.{Effect}
 use Rattle.allocative.specs.Visits.{IsGraphOf}
+use Rattle.allocative_service.specs.declared.ledger.rejection.Rejection.{Rejection}
+use Rattle.allocative_service.specs.declared.ledger.rejection.Rejection.TheVariants.{NotMeasured}
 use Rattle.allocative_service.specs.declared.measure.Measure.{Measure}
 use Rattle.allocative_service.specs.declared.measure.Measure.TheVariants.{Owned, Shown, Unique}
 
@@ -28,6 +30,11 @@ abbrev pub MayRefuseMeasure : Measure → Bool → Option ℕ → Showing → Re
 MayRefuseMeasure Owned is_strict size p e = MayRefuseOwned is_strict p e
 MayRefuseMeasure Shown is_strict size p e = MayRefuseProfile is_strict p e
 MayRefuseMeasure Unique is_strict size p e = MayRefuseSize is_strict size p e
+
+-- What measuring a value comes to: bytes that it declares, or why it could not be measured, as the rejection says.
+abbrev pub Measures : Measure → Bool → Option ℕ → Showing → Result ℕ Rejection → Type 0
+Measures measure is_strict size p result = MatchResult result (Declares measure size p)
+    (λ r. (e : Refusal) × (r ≡ NotMeasured e) × MayRefuseMeasure measure is_strict size p e)
 
 -- What is answered, by the measure, of a value of a declared size: that of `size_of_owned`, or of `size_of_unique`, after
 -- a visit of this effect, which shows p; an error of `size_of_shown` is one of a profile after such a visit.

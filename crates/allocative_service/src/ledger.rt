@@ -1,5 +1,5 @@
 //! The accounts of all tenants.
-ghost use Rattle.std.specs.Prelude.{◌≡◌, ℕ, ◌+◌, ◌-◌, ◌^◌, ◌<◌, ◌≤◌, ◌↔◌, Some, None, Ok, [], IfOk, OnOk, IfErr, OnErr, IfSome, OnSome, IfNone, IsSomeAnd, IsTrue, MatchOption, option_map, unwrap_or};
+ghost use Rattle.std.specs.Prelude.{◌≡◌, ℕ, ◌+◌, ◌-◌, ◌^◌, ◌<◌, ◌≤◌, ◌↔◌, Some, None, Ok, Err, [], IfOk, OnOk, IfErr, OnErr, IfSome, OnSome, IfNone, IsSomeAnd, IsTrue, MatchOption, option_map, unwrap_or};
 ghost use Rattle.allocative_service.specs.AccountData.{all_bytes};
 
 pub mod account;
@@ -47,7 +47,7 @@ pub struct Ledger {
 impl Ledger {
     ghost use Rattle.allocative_service.specs.Accounts.{account_of, accounts_of, all_most_of, entry_of, limit_of, measure_of, overgrown_of, total_of, ChangesAccount, Enters, IsUnchanged, Lowers, MapsAccount, RejectsGrowth, RejectsNewBytes, RejectsPut, Releases, StandsAt, Stores};
     ghost use Rattle.allocative_service.specs.AccountData.{IsLargest, IsSummed, bytes_at, most_of, new_account, sum_of, with_limit, with_peak_reset, with_soft_limit};
-    ghost use Rattle.allocative_service.specs.Measured.{Declares};
+    ghost use Rattle.allocative_service.specs.Measured.{Declares, Measures};
     ghost use Rattle.allocative_service.specs.Rejected.{IsLedgerFull, RejectsBy, RejectsChange, RejectsCredit, RejectsIn, RejectsLimit, RejectsMeasured, RejectsNew, RejectsOpening};
 
     /// A ledger with no account and no limit of its own. It allocates nothing.
@@ -261,10 +261,17 @@ impl Ledger {
         ensures unchanged { OnErr result (IsUnchanged self.old self.new) }
     {
         let (measure, alloc) = (self.measure, self.alloc);
-        let standing = self.put_with(tenant, number, Some(self.limit), |had| match had {
-            None => Ok(measure.size_of(alloc, value)?),
-            Some(_) => Err(Rejection::Taken { number }),
-        })?;
+        let bytes_of = |had|
+            ensures { MatchOption had
+                (Measures measure T.is_strict T.size (T.may_show value.entry.now) result)
+                (λ _. result ≡ Err (Rejection.Taken number)) }
+        {
+            match had {
+                None => Ok(measure.size_of(alloc, value)?),
+                Some(_) => Err(Rejection::Taken { number }),
+            }
+        };
+        let standing = self.put_with(tenant, number, Some(self.limit), bytes_of)?;
         Ok(standing.bytes)
     }
 
@@ -289,10 +296,17 @@ impl Ledger {
         ensures unchanged { OnErr result (IsUnchanged self.old self.new) }
     {
         let (measure, alloc) = (self.measure, self.alloc);
-        let standing = self.put_with(tenant, number, Some(self.limit), |had| match had {
-            None => Err(Rejection::NotThere { number }),
-            Some(_) => Ok(measure.size_of(alloc, value)?),
-        })?;
+        let bytes_of = |had|
+            ensures { MatchOption had
+                (result ≡ Err (Rejection.NotThere number))
+                (λ _. Measures measure T.is_strict T.size (T.may_show value.entry.now) result) }
+        {
+            match had {
+                None => Err(Rejection::NotThere { number }),
+                Some(_) => Ok(measure.size_of(alloc, value)?),
+            }
+        };
+        let standing = self.put_with(tenant, number, Some(self.limit), bytes_of)?;
         Ok(standing.bytes)
     }
 

@@ -33,3 +33,30 @@ returns-clause-put g c = search (rules, sum_of-written, overwritten, had_within)
 
 pub returns-clause-sum : goal.returns-clause-sum
 returns-clause-sum g c = search (rules, sum_of-written, had_within)
+
+pub returns-clause-part : goal.returns-clause-part
+returns-clause-part g c = search (rules, had_within)
+
+pub returns-in_err-bytes-clause-part : goal.returns-in_err-bytes-clause-part
+returns-in_err-bytes-clause-part g c = search (rules, had_within)
+
+pub returns-in_err-bytes-2-clause-part : goal.returns-in_err-bytes-2-clause-part
+returns-in_err-bytes-2-clause-part g c = search (rules, had_within)
+
+pub returns-in_err-check_room-clause-part : goal.returns-in_err-check_room-clause-part
+returns-in_err-check_room-clause-part g c = search (rules, had_within)
+
+pub returns-in_err-check_room-2-clause-part : goal.returns-in_err-check_room-2-clause-part
+returns-in_err-check_room-2-clause-part g c = search (rules, had_within)
+
+pub returns-in_default-clause-part : goal.returns-in_default-clause-part
+returns-in_default-clause-part g c = search (rules, had_within)
+
+pub returns-in_default-insert-clause-part : goal.returns-in_default-insert-clause-part
+returns-in_default-insert-clause-part g c = search (rules, had_within)
+
+pub check_room-requires-2-clause-part : goal.check_room-requires-2-clause-part
+check_room-requires-2-clause-part g c = search (rules, had_within)
+
+pub overflow_sub-self : goal.overflow_sub-self
+overflow_sub-self g c = search (rules, had_within)
