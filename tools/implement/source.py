@@ -309,7 +309,7 @@ class Source:
         used = {"shows"}.union(*(each.used for each in found)) - mine.ghost_uses
         used -= {name for name, path in mine.uses.items() if path[0] in ("allocative", "allocative_tally")}
         words = {"std.specs.Prelude": PRELUDE, "allocative.specs.Shows": {"shows"}, "allocative.specs.Levels": LEVELS}
-        words |= foreign.MODULES | {"allocative_tally.specs.Whole": {"is_whole"}}
+        words |= foreign.MODULES | {"allocative_tally.specs.Whole": {"is_whole", "starting"}}
         words |= {"allocative_tally.specs.Shapes": SHAPES}
         lists = [(f"Rattle.{path}", used & names) for path, names in words.items()]
         opened = sorted({word.removeprefix("out-").removesuffix("-F") for word in used if "-" in word})

@@ -31,6 +31,8 @@ SHAPES = {"Beside", "NoEntry", "entries"}
 WEIGHTS = dict.fromkeys(NUMBERS, 1) | dict.fromkeys(("BTreeMap", "HashMap"), 6)
 WEIGHTS |= dict.fromkeys(("BTreeSet", "HashSet", "IndexMap", "IndexSet", "Slab", "SmallVec"), 10)
 LARGEST_TALLY = 96
+# How many letters `rt fmt` allows on a line to calls of methods, one after another, and to the argument of the last.
+CHAIN, LAST = 60, 58
 NAMED_LENGTH = re.compile(r"; *[A-Za-z_]")
 HUMP = re.compile(r"(?<=[a-z0-9])(?=[A-Z])")
 DECLARED = "c.in_ok-declared.ensures"
@@ -176,7 +178,7 @@ class Tally:
             kind = Type("other", part.kind or "usize")
             kind = Type("path", f"OwnTally<{part.kind}>", (), (kind,)) if part.is_own else kind
             lines += f"    {part.name}: {laid(kind, 4, WIDTH - 7 - len(part.name))},\n"
-        head = f"/// Values of `{self.writer.name}`, counted.\n#[derive(Drop)]\n"
+        head = f"/// Values of `{self.writer.name}`, counted.\n#[derive(Default, Drop)]\n"
         body = f"{{\n{lines}}}" if lines else "{}"
         return f"{head}pub struct {self.name}{in_angles(self.parameters)} {body}\n\n"
 
@@ -202,28 +204,15 @@ class Tally:
             names = locals_of(self.definition.variants[0])
             body += self.together(self.root.inside, names, [f"&self.{part.key}" for part in self.root.inside], INDENT)
         writer.answer(f"{writer.name}Tallied/tally", self.counted(), writer.lemma)
-        depth = 2 * len(self.flat) + 2
-        writer.answer(f"{writer.name}Tallied/none_counted", [("returns", f"search (rules, starting) depth {depth}")])
         return (
             f"{writer.head('Tallied', 'Tallied')}    type Tally = {kind};\n\n"
             f"    ghost shape = {{ λ t n. {self.shape(self.root, 'n')[1:-1]} }};\n\n"
-            f"    ghost whole = {{ is_whole }};\n\n"
-            f"    fn none_counted() -> Self::Tally {{\n{self.none()}    }}\n\n"
+            f"    ghost whole = {{ is_whole (Prim.search starting) }};\n\n"
             f"    fn show(tally: &Self::Tally, count: usize, visitor: &mut Visitor<'_>) -> Result<(), Refusal> {{\n"
             f"{self.entering()}    }}\n\n"
             f"    #[inline(always)]\n"
             f"    fn tally(&self, tally: &mut Self::Tally) -> Result<(), CountError> {{\n{body}    }}\n}}\n"
         )
-
-    def none(self) -> str:
-        """The lines that make a tally of nothing."""
-        lines = ""
-        for part in self.kept:
-            value = f"<{part.type} as Tallied>::none_counted()" if part.kind else "0"
-            if part.is_own:
-                value = f"OwnTally {{\n{' ' * 16}count: 0,\n{' ' * 16}values: {value},\n{' ' * 12}}}"
-            lines += f"{' ' * 12}{part.name}: {value},\n"
-        return f"{INDENT}{self.name} {{\n{lines}{INDENT}}}\n" if lines else f"{INDENT}{self.name} {{}}\n"
 
     def entering(self) -> str:
         """The lines that enter what was counted."""
@@ -255,7 +244,7 @@ class Tally:
             if part.kind
         )
         results = [name if part.kind else "" for part, name in zip(parts, names)]
-        return f"{lines}{indent}{joined(results, lambda some: chained(some, indent)) or 'Ok(())'}\n"
+        return f"{lines}{indent}{chained(joined(results, joined_by_and), indent) or 'Ok(())'}\n"
 
     def arm(self, variant: Variant, part: Part | None) -> str:
         """The lines that count the fields of a variant."""
@@ -353,18 +342,34 @@ def locals_of(variant: Variant) -> list[str]:
     return [name for each, name in zip(variant.members, names_of(variant)) if not each.is_skipped]
 
 
-def chained(results: list[str], indent: str) -> str:
-    """Results as one, laid out as `rt fmt` does."""
-    first, *later = [each for each in results if each] or [""]
-    if not later:
-        return first
-    rest = chained(later, "")
-    line = f"{first}.and({rest})"
-    if len(line) <= 60:
+def joined_by_and(results: list[Any]) -> Any:
+    """Results joined by `and`: each pair is one and what is joined to it. A result that is empty is left out."""
+    some = list(filter(None, results))
+    return reduce(lambda later, one: (one, later), some[-2::-1], some[-1]) if some else ""
+
+
+def in_one_line(tree: Any) -> str:
+    return tree if isinstance(tree, str) else f"{in_one_line(tree[0])}.and({in_one_line(tree[1])})"
+
+
+def chained(tree: Any, indent: str) -> str:
+    """Results that are joined by `and`, laid out as `rt fmt` does. Their names have at most 4 letters if they are many."""
+
+    def link(later: Any, indent: str) -> str:
+        line = in_one_line(later)
+        return f".and({line})" if len(line) <= LAST else f".and(\n{indent}    {chained(later, indent + ' ' * 4)},\n{indent})"
+
+    line, links = in_one_line(tree), []
+    if len(line) <= CHAIN:
         return line
-    if len(rest) > 60:
-        return f"{first}.and(\n{indent}    {chained(later, indent + ' ' * 4)},\n{indent})"
-    return f"{first}\n{indent}    .and({rest})"
+    start = in_one_line(tree[0])
+    if len(start) <= CHAIN and len(in_one_line(tree[1])) > LAST:
+        return start + link(tree[1], indent)
+    while not isinstance(tree, str):
+        tree, later = tree
+        links.insert(0, link(later, f"{indent}    "))
+    text = f"\n{indent}    ".join(links)
+    return f"{tree}\n{indent}    {text}" if not links[1:] else f"{tree}{text}"
 
 
 def fields(parts: tuple[Part, ...], names: list[str], step: Step) -> tuple[str, bool]:

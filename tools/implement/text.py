@@ -61,7 +61,7 @@ LEMMAS = {
     "allocative.proofs.Parts": "strict",
     "allocative_tally.proofs.Counting": "first_counted second_counted",
     "allocative_tally.proofs.Fields": "both_count case_counted field_counts fixed_counted holding next_as next_both next_case "
-    "next_fixed next_nothing next_whole nothing_counted own_counted starting sure_first sure_second told_as whole_counts",
+    "next_fixed next_nothing next_whole nothing_counted own_counted sure_first sure_second told_as whole_counts",
     "allocative_tally.proofs.Sizes": "holds_bytes",
     "allocative_tally.proofs.Weighing": "cannot_case exceeds_field exceeds_full exceeds_left exceeds_missing exceeds_right "
     "exceeds_sum from_fact stops",
@@ -694,7 +694,8 @@ def called(head: str, name: str, arguments: list[str], end: str, indent: str) ->
 
 def broken(name: str, arguments: list[str], indent: str) -> str:
     """A call with each argument on a line of its own."""
-    *firsts, last = arguments
-    last = laid(type_of(last), len(indent) + 4, WIDTH - len(indent) - 5)
-    lines = "".join(f"{indent}    {each},\n" for each in (*firsts, last))
+    lines = ""
+    for each in arguments:
+        is_simple = each.startswith(('"', "&"))
+        lines += f"{indent}    {each if is_simple else laid(type_of(each), len(indent) + 4, WIDTH - len(indent) - 5)},\n"
     return f"{name}(\n{lines}{indent})"

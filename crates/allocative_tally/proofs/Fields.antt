@@ -1,9 +1,9 @@
 -- How values of structs and enums are counted, by their fields.
-use Rattle.std.proofs.Common.{◌≡◌, ◌≤◌, ◌+◌, ◌*◌, mul-add, ℕ, Option, Some, None, refl, sym, ap, subst, arith, ◌∙◌}
+use Rattle.std.proofs.Common.{◌≡◌, ◌+◌, ◌*◌, mul-add, ℕ, Option, Some, None, refl, ap, subst, arith, ◌∙◌}
 use Rattle.std.proofs.Common.{Result, Ok, Err, MatchResult}
 use Rattle.std.{specs.Result.result_and, proofs.lemmas.Result.MatchResult-weaker}
-use Rattle.allocative_tally.specs.{CannotTally, CannotTallyOwn, ShapeCounts, Shape, NoEntry, Beside, IsNothing}
-use Rattle.allocative_tally.specs.{bytes_times, entries, sum_of, sum_times, TalliesNext, TalliesFields, TalliesOwn}
+use Rattle.allocative_tally.specs.{CannotTally, CannotTallyOwn, ShapeCounts, Shape, NoEntry, Beside}
+use Rattle.allocative_tally.specs.{entries, sum_of, sum_times, TalliesNext, TalliesFields, TalliesOwn}
 use Rattle.allocative_tally.specs.{AddsEntry, IsDeclared, both_bounds, ShownAs, Told}
 use Rattle.allocative_tally.proofs.Weighing.{cannot_case, exceeds_as, exceeds_first, exceeds_second, exceeds_field}
 use Rattle.allocative_tally.proofs.Counting.{counted_leaf, counted_field, counted_inline, tallies_both, tallies_none}
@@ -11,8 +11,7 @@ use Rattle.allocative_tally.proofs.Counting.{tallies_as}
 use Rattle.allocative_tally.proofs.Sizes.{HoldsBound, holds_up, holds_both, holds_first, holds_second, holds_first_of}
 use Rattle.allocative_tally.proofs.Sizes.{holds_second_of, holds_itself, holds_bytes, holds_nothing, holds_grouped}
 use Rattle.allocative_tally.specs.{declared.tally.CountError.CountError, Tallies.Tallies}
-use Rattle.allocative_graph.specs.Owned.{direct}
-use Rattle.allocative.proofs.Common.{Key, Forest, Showing, Nothing, Both, Inside, Field}
+use Rattle.allocative.proofs.Common.{Key, Showing, Nothing, Both, Inside, Field}
 
 -- ---- sums
 -- One more entry has more bytes.
@@ -30,25 +29,6 @@ one_more (Some s) n m {z} e i =
       bytes = λ room. omega (arith, room, same, all);
       weighs = omega (arith, i, same, all);
     }
-
--- ---- nothing counted
--- Nothing is counted in the entry of no values.
-pub starts_entry : (k : Key) (s : Shape) (size : Option ℕ) → IsNothing s → IsNothing (entries k size 0 s)
-starts_entry k s size none = record {
-  is_empty = refl;
-  holds = (
-    none.holds,
-    (λ e. (elim size as (λ v. bytes_times v 0 ≡ 0) [ None ↦ refl | Some n ↦ omega arith ], none.is_empty)),
-    subst (λ (f : Forest). direct f ≤ bytes_times size 0) (sym none.is_empty) (omega arith),
-  );
-}
-
--- Two shapes, one after another.
-pub starts_both : (s t : Shape) → IsNothing s → IsNothing t → IsNothing (Beside s t)
-starts_both s t a b = record { is_empty = rw (a.is_empty, b.is_empty) refl; holds = (a.holds, b.holds) }
-
--- The lemmas for what shows nothing.
-pub ruleset starting = (starts_entry, starts_both)
 
 -- ---- fields
 -- A value is its own entry with its fields inside it.

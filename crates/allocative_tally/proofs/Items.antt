@@ -23,7 +23,7 @@ use Rattle.allocative_tally.specs.{both_bounds, TalliesFields, AddsItems, AreFie
 use Rattle.allocative_tally.specs.{CannotTally, field_least, Exceeds, IsWhole, CannotAddItems, weight, load, Width}
 use Rattle.allocative_tally.specs.{is_unique, HasWidth, text_shape, AddsEntry, ShapeCounts, no_room_for_items}
 use Rattle.allocative_tally.specs.{no_room_for_places, no_room_for_both, too_many_buffers, too_many_items}
-use Rattle.allocative_tally.specs.{too_many_bytes, Told}
+use Rattle.allocative_tally.specs.{too_many_bytes, Told, starts_both, starts_sum, no_bytes}
 use Rattle.allocative_tally.proofs.Counting.{counted_field, counted_inline, counted_unique, counted_leaf, tallies_both}
 use Rattle.allocative_tally.proofs.Counting.{tallies_as, tallies_then, tallies_none, entry_direct, shape_direct}
 use Rattle.allocative_tally.proofs.Counting.{tallies_to, tallies_entry}
@@ -203,8 +203,8 @@ slice_one cut {name} {z} {needs_drop} {p} {xs} {n = n} {i} is =
 -- ---- buffers
 -- A buffer is counted with its items, if they were counted and added.
 pub buffer_counts : {T S E : Type 0} (cut : Bool) {z c : ℕ} {old new : Places} {name : Key} {needs_drop : Bool}
-    {p : T → Showing} {xs : List T} {g : S → ℕ → Shape} {u v : S} {a b r : Result (Unit {0}) E} → r ≡ result_and a b →
-    0 < z → 0 < length xs + c → IsWhole (Some z) g →
+    {p : T → Showing} {xs : List T} {is_none : S → Type 0} {g : S → ℕ → Shape} {u v : S} {a b r : Result (Unit {0}) E} →
+    r ≡ result_and a b → 0 < z → 0 < length xs + c → IsWhole (Some z) is_none g →
     SliceCounts cut name z needs_drop p xs (g u) (g v) old.buffers old.items a →
     Told b (AddsPlaces (Some z) (Some z) (length xs) (c - length xs) old new)
     (CannotAdd (Some z) (Some z) (length xs) (c - length xs) old) →
@@ -436,6 +436,11 @@ index_counts {item = Some z} {size = Some y} xs {g} {v} {v'} {old} e none fields
     (λ n. exceeds_inside true 8 (exceeds_first (n.next i))))
 
 -- ---- what is entered
+-- The fields of no pairs.
+pub starts_pairs : (v w : Option ℕ) {s t : Shape} → IsNothing s → IsNothing t →
+    IsNothing (Beside (entries (codes "key") v 0 s) (entries (codes "value") w 0 t))
+starts_pairs v w a b = starts_both (starts_sum refl (no_bytes v refl) a) (starts_sum refl (no_bytes w refl) b)
+
 -- Items that were counted from nothing, and entered, were entered as each of them shows.
 pub entered_all : {x : Bool} {size : Option ℕ} {n l : ℕ} {q u : Showing} {s t : ℕ → Shape} {a b : Visitor}
     {r : Result (Unit {0}) Refusal} → ShownAs q u → IsNothing (s 0) → FitsWord size n → n ≡ l →

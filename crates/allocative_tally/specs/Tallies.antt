@@ -5,7 +5,7 @@ use Rattle.std.specs.{Option.ForSome, Iterator.AlwaysYields}
 use Rattle.allocative_graph.specs.{Path.Key, Forest.Forest, Forest.followed_by, Owned.direct, Shows.Showing}
 use Rattle.allocative_graph.specs.{Shows.Field, Shows.slice_shows, declared.refusal.Refusal.Refusal}
 use Rattle.allocative.specs.{Bodies.are_shown_each, Bodies.cut_shows, Visited.Entered, declared.visitor.Visitor.Visitor}
-use Rattle.allocative_tally.specs.Shapes.{Merged, Shape, forest_of, Holds, IsRight, shape_shows, entries, items_shape}
+use Rattle.allocative_tally.specs.Shapes.{IsNothing, Merged, Shape, forest_of, Holds, IsRight, shape_shows, entries, items_shape}
 use Rattle.allocative_tally.specs.Shapes.{buffer_shape, bytes_times, is_there, load, weight, least_weight, top_bytes}
 use Rattle.allocative_tally.specs.declared.{tally.Sum.Sum, places.Places.Places}
 
@@ -59,10 +59,11 @@ pub record CannotTally (p : Showing) (s : ℕ → Shape) : Type 0 where
   pub next : (n : ℕ) → Exceeds p (s n)
 
 -- So many values are entries of their declared size: they have at most its bytes at the top, and at least those
--- numbers.
-pub record IsWhole {T : Type 0} (size : Option ℕ) (s : T → ℕ → Shape) : Type 0 where
+-- numbers. No value is no entry, by a tally of nothing.
+pub record IsWhole {T : Type 0} (size : Option ℕ) (is_none : T → Type 0) (s : T → ℕ → Shape) : Type 0 where
   pub most : (t : T) (n : ℕ) → top_bytes (s t n) ≤ bytes_times size n
   pub least : (t : T) (n : ℕ) → n + bytes_times size n ≤ load (s t n)
+  pub none : (t : T) (n : ℕ) → is_none t → n ≡ 0 → IsNothing (s t n)
 
 -- One more value's fields were counted, which have no declared size of their own.
 pub record TalliesFields (size : Option ℕ) (p : Showing) (s t : ℕ → Shape) : Type 0 where
@@ -114,10 +115,6 @@ pub record AddsEntry (n : ℕ) (old new : Sum) : Type 0 where
 -- The shape was entered, exactly.
 pub record EntersShape (s : Shape) (old new : Visitor) (r : Result (Unit {0}) Refusal) : Type 0 where
   pub entered : Entered true (shape_shows s) old new r
-
--- No buffer.
-abbrev pub no_places : Places
-no_places = record { buffers = 0; items = 0; unused = 0 }
 
 -- Buffers of items of a declared name and size, by what so many items show.
 abbrev pub buffer_of : Key → Option ℕ → Bool → Places → (ℕ → Shape) → Shape

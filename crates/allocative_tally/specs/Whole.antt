@@ -1,7 +1,8 @@
--- What a tally's type has to show of itself: that its values are entries of their declared size.
-use Rattle.std.proofs.Common.{◌≡◌, ◌≤◌, ◌+◌, ℕ, Bool, true, false, Option, ap, arith}
-use Rattle.allocative_graph.specs.{Path.Key, Forest.Forest, Forest.entry_of, Shows.Showing, Shows.Field, Shows.sized}
-use Rattle.allocative_tally.specs.Shapes.{weight, least_weight, ShownAs, Shape, entries}
+-- What a tally's type has to show of itself: that its values are entries of their declared size, and none shows nothing.
+use Rattle.std.proofs.Common.{◌≡◌, ◌≤◌, ◌+◌, ℕ, Bool, true, false, Option, None, Some, ap, refl, rules, arith}
+use Rattle.allocative_graph.specs.{Path.Key, Forest.Forest, Forest.Empty, Forest.entry_of, Shows.Showing, Shows.Field, Shows.sized}
+use Rattle.allocative_tally.specs.Shapes.{weight, least_weight, ShownAs, Shape, NoEntry, Beside, EntryAt, entries}
+use Rattle.allocative_tally.specs.Shapes.{Width, Unique, Wide, Narrow, HasWidth, IsNothing, bytes_times, sum_of, items_shape}
 use Rattle.allocative_tally.specs.Tallies.{IsWhole}
 
 -- An entry is one more than its bytes and what is inside it.
@@ -22,7 +23,47 @@ pub field_least : {k : Key} {size : Option ℕ} {p : Showing} (f : Forest) → F
     weight f
 field_least {k} f (sized {n} (g, x, e)) = omega (arith, ap weight e, weight_entry false k n g)
 
--- Values that are entries of their declared size.
-pub is_whole : {T : Type 0} {size : Option ℕ} {k : Key} {s : T → ℕ → Shape} → IsWhole size
-    (λ t n. entries k size n (s t n))
-is_whole = record { most = λ t n. omega arith; least = λ t n. omega arith }
+-- ---- nothing counted
+-- No entry.
+pub starts_none : IsNothing NoEntry
+starts_none = record { is_empty = refl; holds = tt }
+
+-- Two shapes, one after another.
+pub starts_both : {s t : Shape} → IsNothing s → IsNothing t → IsNothing (Beside s t)
+starts_both a b = record { is_empty = rw (a.is_empty, b.is_empty) refl; holds = (a.holds, b.holds) }
+
+-- No entries of no bytes.
+pub starts_sum : {x : Width} {k : Key} {n bytes : ℕ} {s : Shape} → n ≡ 0 → bytes ≡ 0 → IsNothing s →
+    IsNothing (EntryAt x k (sum_of n bytes) s)
+starts_sum {x} {k} {s = s} e b none = rw (e, b) (record {
+  is_empty = refl;
+  holds = (
+    none.holds,
+    (λ i. (refl, none.is_empty)),
+    rw none.is_empty (elim x as (λ w. HasWidth w 0 Empty)
+        [ Unique ↦ tt | Wide ↦ omega arith | Narrow ↦ omega arith ]),
+  );
+})
+
+-- No values of a declared size have no bytes.
+pub no_bytes : (size : Option ℕ) {n : ℕ} → n ≡ 0 → bytes_times size n ≡ 0
+no_bytes None e = refl
+no_bytes (Some s) e = rw e (omega arith)
+
+-- The items of no slices.
+pub starts_items : (b : Bool) (name : Key) {n bytes : ℕ} {s : Shape} → n ≡ 0 → bytes ≡ 0 → IsNothing s →
+    IsNothing (items_shape b name n bytes s)
+starts_items true name e i none = none
+starts_items false name e i none = starts_sum e i starts_none
+
+-- The lemmas for what shows nothing.
+pub ruleset starting = (rules, starts_none, starts_both, starts_sum, no_bytes, starts_items)
+
+-- Values that are entries of their declared size, if a tally of nothing shows nothing inside them.
+pub is_whole : {T : Type 0} {size : Option ℕ} {is_none : T → Type 0} {k : Key} {s : T → ℕ → Shape} →
+    ((t : T) (n : ℕ) → is_none t → n ≡ 0 → IsNothing (s t n)) → IsWhole size is_none (λ t n. entries k size n (s t n))
+is_whole {size = size} inside = record {
+  most = λ t n. omega arith;
+  least = λ t n. omega arith;
+  none = λ t n d e. starts_sum e (no_bytes size e) (inside t n d e);
+}

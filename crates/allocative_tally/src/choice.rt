@@ -1,8 +1,7 @@
 //! Types that are one of several: `Option`, `Result` and `Either`.
-#![tactic(auto, using(crate::proofs::Fields::starting))]
 
 ghost use Rattle.std.specs.Prelude.{codes};
-ghost use Rattle.allocative_tally.specs.{Beside, entries, is_whole};
+ghost use Rattle.allocative_tally.specs.{Beside, entries, is_whole, starting};
 
 use crate::field::{FieldMany, OwnTally, SizedMany, count_own};
 use crate::tally::{CountError, Entries, Tallied, declared};
@@ -16,11 +15,7 @@ impl<T: Tallied> Tallied for Option<T> {
     ghost shape = { λ t n. entries (codes "Option") ⟦<Option<T> as Described>⟧.size n
         (entries (codes "Some") T.size t.count (T.shape t.values t.count)) };
 
-    ghost whole = { is_whole };
-
-    fn none_counted() -> Self::Tally {
-        OwnTally::none(T::none_counted())
-    }
+    ghost whole = { is_whole (Prim.search starting) };
 
     fn show(tally: &Self::Tally, count: usize, visitor: &mut Visitor<'_>) -> Result<(), Refusal> {
         let some = FieldMany::<T>("Some", &tally.values, tally.count);
@@ -38,7 +33,7 @@ impl<T: Tallied> Tallied for Option<T> {
 }
 
 /// Values of one of two kinds, counted.
-#[derive(Drop)]
+#[derive(Default, Drop)]
 pub struct EitherTally<P, Q> {
     first: OwnTally<P>,
     second: OwnTally<Q>,
@@ -51,14 +46,7 @@ impl<T: Tallied, E: Tallied> Tallied for Result<T, E> {
         (Beside (entries (codes "Ok") T.size t.first.count (T.shape t.first.values t.first.count))
         (entries (codes "Err") E.size t.second.count (E.shape t.second.values t.second.count))) };
 
-    ghost whole = { is_whole };
-
-    fn none_counted() -> Self::Tally {
-        EitherTally {
-            first: OwnTally::none(T::none_counted()),
-            second: OwnTally::none(E::none_counted()),
-        }
-    }
+    ghost whole = { is_whole (Prim.search starting) };
 
     fn show(tally: &Self::Tally, count: usize, visitor: &mut Visitor<'_>) -> Result<(), Refusal> {
         let ok = FieldMany::<T>("Ok", &tally.first.values, tally.first.count);
@@ -83,14 +71,7 @@ impl<L: Tallied, R: Tallied> Tallied for Either<L, R> {
         (Beside (entries (codes "Left") L.size t.first.count (L.shape t.first.values t.first.count))
         (entries (codes "Right") R.size t.second.count (R.shape t.second.values t.second.count))) };
 
-    ghost whole = { is_whole };
-
-    fn none_counted() -> Self::Tally {
-        EitherTally {
-            first: OwnTally::none(L::none_counted()),
-            second: OwnTally::none(R::none_counted()),
-        }
-    }
+    ghost whole = { is_whole (Prim.search starting) };
 
     fn show(tally: &Self::Tally, count: usize, visitor: &mut Visitor<'_>) -> Result<(), Refusal> {
         let left = FieldMany::<L>("Left", &tally.first.values, tally.first.count);

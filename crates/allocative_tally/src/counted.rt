@@ -1,5 +1,4 @@
 //! Parts of values that are counted first.
-#![tactic(auto)]
 
 ghost use Rattle.std.specs.Prelude.{ℕ, MatchResult, Option, length};
 ghost use Rattle.std.specs.{Iterator.IsFinite, Map.Iter.deref, Map.Iter.deref_pair};
@@ -137,7 +136,7 @@ impl<'a, T: Tallied> Part for Counted<'a, T> {
     ghost is_strict = { T.is_strict };
 
     fn enter(self, visitor: &mut Visitor<'_>) -> Result<(), Refusal> {
-        let mut tally = T::none_counted();
+        let mut tally = T::Tally::default();
         match self.0.tally(&mut tally) {
             Ok(()) => T::show(&tally, 1, visitor),
             Err(_) => self.0.enter(visitor),
@@ -206,7 +205,7 @@ impl<'a, T: Tallied> Part for CountedEach<&'a [T]> {
     ghost is_strict = { T.is_strict };
 
     fn enter(self, visitor: &mut Visitor<'_>) -> Result<(), Refusal> {
-        let mut tally = T::none_counted();
+        let mut tally = T::Tally::default();
         let count = self.0.len();
         let fits = product(T::size(), count);
         let run = count_run(Itself, self.0.iter(), &mut tally);

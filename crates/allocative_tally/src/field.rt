@@ -1,5 +1,4 @@
 //! Entries of declared sizes, and values with a number of their own.
-#![tactic(auto)]
 
 ghost use Rattle.std.specs.Prelude.{◌≡◌, MatchResult};
 ghost use Rattle.allocative_tally.specs.{entries, TalliesOwn, CannotTallyOwn};
@@ -48,19 +47,10 @@ impl<T: Described, K: IntoKey, P: Entries> Entries for SizedMany<T, K, P> {
 }
 
 /// Values that have a number of their own, as those of one variant: how many, and their tally.
-#[derive(Drop)]
+#[derive(Default, Drop)]
 pub struct OwnTally<S> {
     pub count: usize,
     pub values: S,
-}
-
-impl<S: Drop> OwnTally<S> {
-    /// No value, by a tally of nothing.
-    pub fn none(values: S) -> OwnTally<S>
-        ensures { result ≡ record { count = 0; values = values } }
-    {
-        OwnTally { count: 0, values }
-    }
 }
 
 /// Counts one more value of a number of its own. It returns `Err` as `Tallied::tally` does.

@@ -1,6 +1,5 @@
 //! Maps and sets. They show a field `key` for each key, and maps a field `value` beside it, inside an inline entry `data`
 //! of 8 bytes.
-#![tactic(auto)]
 
 ghost use Rattle.std.specs.Prelude.{◌≡◌, ◌&&◌, codes, Some, length};
 ghost use Rattle.std.specs.Iterator.{IsFinite};
@@ -8,7 +7,7 @@ ghost use Rattle.allocative_described.specs.Sizes.{size_sum};
 ghost use Rattle.allocative_graph.specs.Shows.{Inside as shows_inside, each_shows};
 ghost use Rattle.allocative.specs.{Runs.pair_shows, StdShows.in_any_order};
 ghost use Rattle.allocative_tally.specs.{Beside, EntryAt, Wide, Narrow, entries, pairs_shape, data_shape, sum_times};
-ghost use Rattle.allocative_tally.specs.{ShapeCounts, AreFields, HoldsOfEveryRun, is_whole};
+ghost use Rattle.allocative_tally.specs.{ShapeCounts, AreFields, HoldsOfEveryRun, is_whole, starting};
 
 use crate::counted::{CountItem, FieldUnder, KeyAndValue, count_run};
 use crate::field::{FieldMany, SizedMany};
@@ -42,7 +41,7 @@ pub(crate) fn pair_size<K: Described, V: Described>() -> Option<usize>
 
 /// Entries `data` of maps and sets, counted: those whose items have at most its 8 bytes, and those whose items have
 /// more. No place in them is unused.
-#[derive(Drop)]
+#[derive(Default, Drop)]
 pub struct DataTally<S> {
     pub(crate) small: Buffers<S>,
     pub(crate) large: Buffers<S>,
@@ -100,14 +99,7 @@ impl<K: Tallied + Eq + Hash, V: Tallied> Tallied for HashMap<K, V> {
     ghost shape = { λ t n. entries (codes "HashMap") (Some 48) n
         (data_shape t (λ v. pairs_shape K.size V.size (K.shape v.0) (V.shape v.1))) };
 
-    ghost whole = { is_whole };
-
-    fn none_counted() -> Self::Tally {
-        DataTally {
-            small: Buffers::none((K::none_counted(), V::none_counted())),
-            large: Buffers::none((K::none_counted(), V::none_counted())),
-        }
-    }
+    ghost whole = { is_whole (Prim.search starting) };
 
     fn show(tally: &Self::Tally, count: usize, visitor: &mut Visitor<'_>) -> Result<(), Refusal> {
         let small = PairsMany::<K, V>(&tally.small.values, tally.small.places.items);
@@ -128,14 +120,7 @@ impl<K: Tallied + Ord, V: Tallied> Tallied for BTreeMap<K, V> {
     ghost shape = { λ t n. entries (codes "BTreeMap") (Some 24) n
         (data_shape t (λ v. pairs_shape K.size V.size (K.shape v.0) (V.shape v.1))) };
 
-    ghost whole = { is_whole };
-
-    fn none_counted() -> Self::Tally {
-        DataTally {
-            small: Buffers::none((K::none_counted(), V::none_counted())),
-            large: Buffers::none((K::none_counted(), V::none_counted())),
-        }
-    }
+    ghost whole = { is_whole (Prim.search starting) };
 
     fn show(tally: &Self::Tally, count: usize, visitor: &mut Visitor<'_>) -> Result<(), Refusal> {
         let small = PairsMany::<K, V>(&tally.small.values, tally.small.places.items);
@@ -156,14 +141,7 @@ impl<K: Tallied + Eq + Hash> Tallied for HashSet<K> {
     ghost shape = { λ t n. entries (codes "HashSet") (Some 48) n
         (data_shape t (λ v i. entries (codes "key") K.size i (K.shape v i))) };
 
-    ghost whole = { is_whole };
-
-    fn none_counted() -> Self::Tally {
-        DataTally {
-            small: Buffers::none(K::none_counted()),
-            large: Buffers::none(K::none_counted()),
-        }
-    }
+    ghost whole = { is_whole (Prim.search starting) };
 
     fn show(tally: &Self::Tally, count: usize, visitor: &mut Visitor<'_>) -> Result<(), Refusal> {
         let small = FieldMany::<K>("key", &tally.small.values, tally.small.places.items);
@@ -183,14 +161,7 @@ impl<K: Tallied + Ord> Tallied for BTreeSet<K> {
     ghost shape = { λ t n. entries (codes "BTreeSet") (Some 24) n
         (data_shape t (λ v i. entries (codes "key") K.size i (K.shape v i))) };
 
-    ghost whole = { is_whole };
-
-    fn none_counted() -> Self::Tally {
-        DataTally {
-            small: Buffers::none(K::none_counted()),
-            large: Buffers::none(K::none_counted()),
-        }
-    }
+    ghost whole = { is_whole (Prim.search starting) };
 
     fn show(tally: &Self::Tally, count: usize, visitor: &mut Visitor<'_>) -> Result<(), Refusal> {
         let small = FieldMany::<K>("key", &tally.small.values, tally.small.places.items);
@@ -215,7 +186,7 @@ impl<'a, K: Tallied + Ord, V: Tallied> Part for CountedPairs<&'a BTreeMap<K, V>>
 
     fn enter(self, visitor: &mut Visitor<'_>) -> Result<(), Refusal> {
         let count = self.0.len();
-        let mut tally = (K::none_counted(), V::none_counted());
+        let mut tally = <(K::Tally, V::Tally)>::default();
         let fits = product(pair_size::<K, V>(), count);
         let run = count_run(KeyAndValue, self.0.iter(), &mut tally);
         match fits.and(run) {
@@ -232,7 +203,7 @@ impl<'a, K: Tallied + Eq + Hash, V: Tallied> Part for CountedPairs<&'a HashMap<K
 
     fn enter(self, visitor: &mut Visitor<'_>) -> Result<(), Refusal> {
         let count = self.0.len();
-        let mut tally = (K::none_counted(), V::none_counted());
+        let mut tally = <(K::Tally, V::Tally)>::default();
         let fits = product(pair_size::<K, V>(), count);
         let run = count_run(KeyAndValue, self.0.iter(), &mut tally);
         match fits.and(run) {

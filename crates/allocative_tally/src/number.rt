@@ -1,8 +1,7 @@
 //! Numbers, times and addresses, which show one entry each.
-#![tactic(auto, using(crate::proofs::Fields::starting))]
 
 ghost use Rattle.allocative_graph.specs.Shows.{Field, Nothing};
-ghost use Rattle.allocative_tally.specs.Whole.{as_itself, is_whole};
+ghost use Rattle.allocative_tally.specs.Whole.{as_itself, is_whole, starting};
 ghost use Rattle.allocative_tally.specs.Shapes.{NoEntry, ShownAs, entries};
 
 use crate::tally::{CountError, Entries, InlineSum, Sum, Tallied, declared};
@@ -25,9 +24,7 @@ impl<T: Leaf> Tallied for T {
 
     ghost shape = { λ t n. entries T.name T.size n NoEntry };
 
-    ghost whole = { is_whole };
-
-    fn none_counted() -> () {}
+    ghost whole = { is_whole (Prim.search starting) };
 
     fn show(_tally: &(), count: usize, visitor: &mut Visitor<'_>) -> Result<(), Refusal> {
         InlineSum(T::name(), Sum::times(T::size(), count), ()).enter(visitor)

@@ -1,10 +1,9 @@
 //! `IndexMap`, `IndexSet`, `SmallVec` and `Slab`.
-#![tactic(auto)]
 
 ghost use Rattle.std.specs.Prelude.{codes, Some};
 ghost use Rattle.allocative.specs.Bodies.{table_shows};
 ghost use Rattle.allocative_tally.specs.{Unique as unique_width, EntryAt, Beside, entries, sum_times, buffer_shape};
-ghost use Rattle.allocative_tally.specs.{pairs_shape, table_shape, ShapeCounts, buffer_of, is_whole};
+ghost use Rattle.allocative_tally.specs.{pairs_shape, table_shape, ShapeCounts, buffer_of, is_whole, starting};
 
 use crate::counted::{FieldUnder, KeyAndValue, count_run};
 use crate::field::{FieldMany, OwnTally, SizedMany};
@@ -21,7 +20,7 @@ use std::marker::PhantomData;
 
 /// Containers in the order of insertion, counted: their items, how many hash tables there are, and the bytes of their
 /// buckets.
-#[derive(Drop)]
+#[derive(Default, Drop)]
 pub struct IndexTally<S> {
     items: Buffers<S>,
     tables: usize,
@@ -71,15 +70,7 @@ impl<K: Tallied + Eq + Hash, V: Tallied> Tallied for IndexMap<K, V> {
         t.items.places.unused)
         (table_shape t.tables t.buckets)) };
 
-    ghost whole = { is_whole };
-
-    fn none_counted() -> Self::Tally {
-        IndexTally {
-            items: Buffers::none((K::none_counted(), V::none_counted())),
-            tables: 0,
-            buckets: 0,
-        }
-    }
+    ghost whole = { is_whole (Prim.search starting) };
 
     fn show(tally: &Self::Tally, count: usize, visitor: &mut Visitor<'_>) -> Result<(), Refusal> {
         let items = PairsMany::<K, V>(&tally.items.values, tally.items.places.items);
@@ -105,15 +96,7 @@ impl<T: Tallied + Eq + Hash> Tallied for IndexSet<T> {
         t.items.places.unused)
         (table_shape t.tables t.buckets)) };
 
-    ghost whole = { is_whole };
-
-    fn none_counted() -> Self::Tally {
-        IndexTally {
-            items: Buffers::none(T::none_counted()),
-            tables: 0,
-            buckets: 0,
-        }
-    }
+    ghost whole = { is_whole (Prim.search starting) };
 
     fn show(tally: &Self::Tally, count: usize, visitor: &mut Visitor<'_>) -> Result<(), Refusal> {
         let items = FieldMany::<T>("value", &tally.items.values, tally.items.places.items);
@@ -132,7 +115,7 @@ impl<T: Tallied + Eq + Hash> Tallied for IndexSet<T> {
 }
 
 /// Small vectors, counted: the items of those that have them in place, and the allocations of the others.
-#[derive(Drop)]
+#[derive(Default, Drop)]
 pub struct SmallVecTally<S> {
     in_place: OwnTally<S>,
     spilled: Buffers<S>,
@@ -146,14 +129,7 @@ impl<T: Tallied, const N: usize> Tallied for SmallVec<T, N> {
         (EntryAt unique_width (codes "ptr") (sum_times (Some 8) t.spilled.places.buffers)
         (entries (codes "data") T.size t.spilled.places.items (T.shape t.spilled.values t.spilled.places.items)))) };
 
-    ghost whole = { is_whole };
-
-    fn none_counted() -> Self::Tally {
-        SmallVecTally {
-            in_place: OwnTally::none(T::none_counted()),
-            spilled: Buffers::none(T::none_counted()),
-        }
-    }
+    ghost whole = { is_whole (Prim.search starting) };
 
     fn show(tally: &Self::Tally, count: usize, visitor: &mut Visitor<'_>) -> Result<(), Refusal> {
         let places = tally.spilled.places;
@@ -172,8 +148,6 @@ impl<T: Tallied, const N: usize> Tallied for SmallVec<T, N> {
             let run = count_run(FieldUnder("data"), items, &mut tally.spilled.values);
             return run.and(tally.spilled.places.add_full(T::size(), count));
         }
-        // They have at most the bytes of the places, so they fit the entry.
-        prove!(count <= N);
         tally.in_place.count = added(tally.in_place.count, count)?;
         count_run(FieldUnder("data"), items, &mut tally.in_place.values)
     }
@@ -185,11 +159,7 @@ impl<T: Tallied> Tallied for Slab<T> {
     ghost shape = { λ t n. entries (codes "Slab") (Some 40) n
         (buffer_of T.name T.size T.needs_drop t.places (T.shape t.values)) };
 
-    ghost whole = { is_whole };
-
-    fn none_counted() -> Self::Tally {
-        Buffers::none(T::none_counted())
-    }
+    ghost whole = { is_whole (Prim.search starting) };
 
     fn show(tally: &Self::Tally, count: usize, visitor: &mut Visitor<'_>) -> Result<(), Refusal> {
         SizedMany::<Slab<T>, _, _>("Slab", count, BuffersMany::<T>(tally), PhantomData).enter(

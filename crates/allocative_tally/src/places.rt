@@ -1,13 +1,12 @@
 //! Numbers of buffers and of their items, and the bytes of their unused places.
-#![tactic(auto)]
 
 ghost use Rattle.std.specs.Prelude.{◌≡◌, MatchResult};
-ghost use Rattle.allocative_tally.specs.{no_places, AddsPlaces, AddsItems, CannotAdd, CannotAddItems};
+ghost use Rattle.allocative_tally.specs.{AddsPlaces, AddsItems, CannotAdd, CannotAddItems};
 
 use crate::tally::{CountError, added, bytes_of, product};
 
 /// How many buffers there are, how many items are in them, and the bytes of their unused places.
-#[derive(Clone, Copy)]
+#[derive(Clone, Copy, Default)]
 pub struct Places {
     pub(crate) buffers: usize,
     pub(crate) items: usize,
@@ -54,22 +53,8 @@ impl Places {
 }
 
 /// Values in buffers, counted: the numbers of the buffers, and the tally of the items.
-#[derive(Drop)]
+#[derive(Default, Drop)]
 pub struct Buffers<S> {
     pub(crate) places: Places,
     pub(crate) values: S,
-}
-
-impl<S: Drop> Buffers<S> {
-    /// No buffer, by a tally of nothing.
-    pub fn none(values: S) -> Buffers<S>
-        ensures { result ≡ record { places = no_places; values = values } }
-    {
-        let places = Places {
-            buffers: 0,
-            items: 0,
-            unused: 0,
-        };
-        Buffers { places, values }
-    }
 }

@@ -1,5 +1,4 @@
 //! Profiles of values that are counted first.
-#![tactic(auto)]
 
 ghost use Rattle.std.specs.Prelude.{◌<◌, ◌^◌, IfOk, IfErr};
 ghost use Rattle.allocative_graph.specs.{Graph.total, Shows.each_shows, Visits.IsProfileOf};

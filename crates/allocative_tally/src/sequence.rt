@@ -1,11 +1,10 @@
 //! Texts, boxes, vectors, deques and arrays.
-#![tactic(auto)]
 
 ghost use Rattle.std.specs.Prelude.{◌≡◌, None, Bool, codes, MatchResult, Some, length};
 ghost use Rattle.std.specs.{Iterator.IsFinite, Map.Iter.deref};
 ghost use Rattle.allocative.specs.Bodies.{are_shown_each as is_each, buffer_shows};
 ghost use Rattle.allocative_tally.specs.{Unique, EntryAt, entries, sum_times, text_shape};
-ghost use Rattle.allocative_tally.specs.{Exceeds, HoldsOfEveryRun, buffer_of, in_slices, is_whole};
+ghost use Rattle.allocative_tally.specs.{Exceeds, HoldsOfEveryRun, buffer_of, in_slices, is_whole, starting};
 ghost use Rattle.allocative_tally.specs.Tallies.{Tallies};
 
 use crate::counted::{FieldUnder, Itself, count_run};
@@ -19,7 +18,7 @@ use std::collections::VecDeque;
 use std::marker::PhantomData;
 
 /// Texts, counted: the bytes of their buffers, and how many of these are used and unused.
-#[derive(Drop)]
+#[derive(Default, Drop)]
 pub struct TextTally {
     capacity: usize,
     used: usize,
@@ -31,15 +30,7 @@ impl Tallied for String {
 
     ghost shape = { λ t n. entries (codes "String") (Some 24) n (text_shape n t.capacity t.used t.unused) };
 
-    ghost whole = { is_whole };
-
-    fn none_counted() -> TextTally {
-        TextTally {
-            capacity: 0,
-            used: 0,
-            unused: 0,
-        }
-    }
+    ghost whole = { is_whole (Prim.search starting) };
 
     fn show(tally: &Self::Tally, count: usize, visitor: &mut Visitor<'_>) -> Result<(), Refusal> {
         let used = InlineSum("u8", Sum::of(count, tally.used), ());
@@ -136,11 +127,7 @@ impl<T: Tallied> Tallied for Box<T> {
     ghost shape = { λ t n. entries (codes "Box") (Some 8) n
         (EntryAt Unique (codes "ptr") (sum_times (Some 8) t.places.buffers) (T.shape t.values t.places.items)) };
 
-    ghost whole = { is_whole };
-
-    fn none_counted() -> Self::Tally {
-        Buffers::none(T::none_counted())
-    }
+    ghost whole = { is_whole (Prim.search starting) };
 
     fn show(tally: &Self::Tally, count: usize, visitor: &mut Visitor<'_>) -> Result<(), Refusal> {
         let values = Many::<T>(&tally.values, tally.places.items);
@@ -161,11 +148,7 @@ impl<T: Tallied> Tallied for Vec<T> {
     ghost shape = { λ t n. entries (codes "Vec") (Some 24) n
         (buffer_of T.name T.size T.needs_drop t.places (T.shape t.values)) };
 
-    ghost whole = { is_whole };
-
-    fn none_counted() -> Self::Tally {
-        Buffers::none(T::none_counted())
-    }
+    ghost whole = { is_whole (Prim.search starting) };
 
     fn show(tally: &Self::Tally, count: usize, visitor: &mut Visitor<'_>) -> Result<(), Refusal> {
         SizedMany::<Vec<T>, _, _>("Vec", count, BuffersMany::<T>(tally), PhantomData).enter(visitor)
@@ -183,11 +166,7 @@ impl<T: Tallied> Tallied for VecDeque<T> {
     ghost shape = { λ t n. entries (codes "VecDeque") (Some 32) n
         (buffer_of T.name T.size T.needs_drop t.places (T.shape t.values)) };
 
-    ghost whole = { is_whole };
-
-    fn none_counted() -> Self::Tally {
-        Buffers::none(T::none_counted())
-    }
+    ghost whole = { is_whole (Prim.search starting) };
 
     fn show(tally: &Self::Tally, count: usize, visitor: &mut Visitor<'_>) -> Result<(), Refusal> {
         let buffers = BuffersMany::<T>(tally);
@@ -206,11 +185,7 @@ impl<T: Tallied, const N: usize> Tallied for [T; N] {
     ghost shape = { λ t n. entries T.name ⟦<[T; N] as Described>⟧.size n
         (entries (codes "data") T.size t.count (T.shape t.values t.count)) };
 
-    ghost whole = { is_whole };
-
-    fn none_counted() -> Self::Tally {
-        OwnTally::none(T::none_counted())
-    }
+    ghost whole = { is_whole (Prim.search starting) };
 
     fn show(tally: &Self::Tally, count: usize, visitor: &mut Visitor<'_>) -> Result<(), Refusal> {
         let items = FieldMany::<T>("data", &tally.values, tally.count);

@@ -1,9 +1,8 @@
 //! The trait of what can be counted, and the entries of what was counted.
-#![tactic(auto)]
 
 ghost use Rattle.std.specs.Prelude.{◌≡◌, ◌≤◌, ◌+◌, ◌*◌, ◌^◌, ℕ, true, None, IfOk, MatchResult};
 ghost use Rattle.std.specs.Option.{ForSome};
-ghost use Rattle.allocative_tally.specs.{Shape, NoEntry, Beside, EntryAt, Wide, Unique as unique_width, IsNothing};
+ghost use Rattle.allocative_tally.specs.{Shape, NoEntry, Beside, EntryAt, Wide, Unique as unique_width};
 ghost use Rattle.allocative_tally.specs.{shape_shows, bytes_times, sum_of, sum_times, TalliesNext, CannotTally};
 ghost use Rattle.allocative_tally.specs.{IsWhole, EntersShape, IsDeclared, FitsWord};
 
@@ -18,14 +17,11 @@ pub struct CountError;
 /// A value that can be counted. The tally of many values has what their number does not say, so whoever holds a tally
 /// knows how many values were counted. They show one forest, that of all the values, merged.
 pub trait Tallied: Allocative + Described {
-    type Tally: Drop;
+    /// The default is the tally of no value.
+    type Tally: Default + Drop;
 
     // What so many values show, by their tally.
     ghost shape: { Self.Tally → ℕ → Shape };
-
-    /// Nothing counted.
-    fn none_counted() -> Self::Tally
-        ensures { IsNothing (Self.shape result 0) };
 
     /// Shows what was counted of `count` values: enters each path once.
     fn show(tally: &Self::Tally, count: usize, visitor: &mut Visitor<'_>) -> Result<(), Refusal>
@@ -38,8 +34,8 @@ pub trait Tallied: Allocative + Described {
             (λ _. TalliesNext Self.size (Self.may_show self.now) (Self.shape tally.old) (Self.shape tally.new))
             (λ _. CannotTally (Self.may_show self.now) (Self.shape tally.old)) };
 
-    // So many values are entries of their declared size.
-    ghost whole: { IsWhole Self.size Self.shape };
+    // So many values are entries of their declared size, and no value is none.
+    ghost whole: { IsWhole Self.size Self.Tally.is_default Self.shape };
 }
 
 /// The bytes of the entries of one place, and a number that is 0 if there is none.

@@ -1,8 +1,7 @@
 //! Tuples, which show one entry for each field.
-#![tactic(auto, using(crate::proofs::Fields::starting))]
 
 ghost use Rattle.std.specs.Prelude.{codes};
-ghost use Rattle.allocative_tally.specs.{Beside, entries, is_whole};
+ghost use Rattle.allocative_tally.specs.{Beside, entries, is_whole, starting};
 
 use crate::field::{FieldMany, SizedMany};
 use crate::tally::{CountError, Entries, Tallied, declared};
@@ -16,11 +15,7 @@ impl<A: Tallied, B: Tallied> Tallied for (A, B) {
         (Beside (entries (codes "0") A.size n (A.shape t.0 n))
         (entries (codes "1") B.size n (B.shape t.1 n))) };
 
-    ghost whole = { is_whole };
-
-    fn none_counted() -> Self::Tally {
-        (A::none_counted(), B::none_counted())
-    }
+    ghost whole = { is_whole (Prim.search starting) };
 
     fn show(tally: &Self::Tally, count: usize, visitor: &mut Visitor<'_>) -> Result<(), Refusal> {
         let first = FieldMany::<A>("0", &tally.0, count);
@@ -45,11 +40,7 @@ impl<A: Tallied, B: Tallied, C: Tallied> Tallied for (A, B, C) {
         (Beside (entries (codes "1") B.size n (B.shape t.1 n))
         (entries (codes "2") C.size n (C.shape t.2 n)))) };
 
-    ghost whole = { is_whole };
-
-    fn none_counted() -> Self::Tally {
-        (A::none_counted(), B::none_counted(), C::none_counted())
-    }
+    ghost whole = { is_whole (Prim.search starting) };
 
     fn show(tally: &Self::Tally, count: usize, visitor: &mut Visitor<'_>) -> Result<(), Refusal> {
         let first = FieldMany::<A>("0", &tally.0, count);
@@ -78,16 +69,7 @@ impl<A: Tallied, B: Tallied, C: Tallied, D: Tallied> Tallied for (A, B, C, D) {
         (Beside (entries (codes "2") C.size n (C.shape t.2 n))
         (entries (codes "3") D.size n (D.shape t.3 n))))) };
 
-    ghost whole = { is_whole };
-
-    fn none_counted() -> Self::Tally {
-        (
-            A::none_counted(),
-            B::none_counted(),
-            C::none_counted(),
-            D::none_counted(),
-        )
-    }
+    ghost whole = { is_whole (Prim.search starting) };
 
     fn show(tally: &Self::Tally, count: usize, visitor: &mut Visitor<'_>) -> Result<(), Refusal> {
         let first = FieldMany::<A>("0", &tally.0, count);
@@ -119,17 +101,7 @@ impl<A: Tallied, B: Tallied, C: Tallied, D: Tallied, E: Tallied> Tallied for (A,
         (Beside (entries (codes "3") D.size n (D.shape t.3 n))
         (entries (codes "4") E.size n (E.shape t.4 n)))))) };
 
-    ghost whole = { is_whole };
-
-    fn none_counted() -> Self::Tally {
-        (
-            A::none_counted(),
-            B::none_counted(),
-            C::none_counted(),
-            D::none_counted(),
-            E::none_counted(),
-        )
-    }
+    ghost whole = { is_whole (Prim.search starting) };
 
     fn show(tally: &Self::Tally, count: usize, visitor: &mut Visitor<'_>) -> Result<(), Refusal> {
         let first = FieldMany::<A>("0", &tally.0, count);

@@ -4,7 +4,7 @@
 ghost use Rattle.std.specs.Prelude.{Some, codes, true, ◌&&◌};
 ghost use Rattle.allocative.specs.Shows as shows;
 ghost use Rattle.allocative.specs.Levels.{both, both_levels, box_of, btree_map_of, child, field, first, hash_map_of, opened, option_in, pair_in, plain, recursive, second, vec_in};
-ghost use Rattle.allocative_tally.specs.Whole.{is_whole};
+ghost use Rattle.allocative_tally.specs.Whole.{is_whole, starting};
 ghost use Rattle.allocative_tally.specs.Shapes.{Beside, NoEntry, entries};
 ghost use Rattle.test_generated_types.specs.declared.types.Job.{out-Job};
 ghost use Rattle.test_generated_types.specs.declared.types.Json.{Json-F, out-Json};
@@ -96,7 +96,7 @@ where
 }
 
 /// Values of `Table`, counted.
-#[derive(Drop)]
+#[derive(Default, Drop)]
 pub struct TableTally<S1, S2> {
     values: S1,
     last: S2,
@@ -112,14 +112,7 @@ where
         (Beside (entries (codes "values") ⟦<HashMap<K, V> as Described>⟧.size n (⟦<HashMap<K, V> as Tallied>⟧.shape t.values n))
         (entries (codes "last") ⟦<V as Described>⟧.size n (⟦<V as Tallied>⟧.shape t.last n))) };
 
-    ghost whole = { is_whole };
-
-    fn none_counted() -> Self::Tally {
-        TableTally {
-            values: <HashMap<K, V> as Tallied>::none_counted(),
-            last: <V as Tallied>::none_counted(),
-        }
-    }
+    ghost whole = { is_whole (Prim.search starting) };
 
     fn show(tally: &Self::Tally, count: usize, visitor: &mut Visitor<'_>) -> Result<(), Refusal> {
         let values = FieldMany::<HashMap<K, V>>("values", &tally.values, count);
@@ -262,7 +255,7 @@ impl Allocative for Event {
 }
 
 /// Values of `Event`, counted.
-#[derive(Drop)]
+#[derive(Default, Drop)]
 pub struct EventTally {
     note_value: OwnTally<<String as Tallied>::Tally>,
     marked_value: usize,
@@ -284,20 +277,7 @@ impl Tallied for Event {
         (Beside (entries (codes "shelf") ⟦<u64 as Described>⟧.size t.sale_count (⟦<u64 as Tallied>⟧.shape t.sale_shelf t.sale_count))
         (entries (codes "prices") ⟦<Vec<u64> as Described>⟧.size t.sale_count (⟦<Vec<u64> as Tallied>⟧.shape t.sale_prices t.sale_count))))))) };
 
-    ghost whole = { is_whole };
-
-    fn none_counted() -> Self::Tally {
-        EventTally {
-            note_value: OwnTally {
-                count: 0,
-                values: <String as Tallied>::none_counted(),
-            },
-            marked_value: 0,
-            sale_count: 0,
-            sale_shelf: <u64 as Tallied>::none_counted(),
-            sale_prices: <Vec<u64> as Tallied>::none_counted(),
-        }
-    }
+    ghost whole = { is_whole (Prim.search starting) };
 
     fn show(tally: &Self::Tally, count: usize, visitor: &mut Visitor<'_>) -> Result<(), Refusal> {
         let a = FieldMany::<String>("Note", &tally.note_value.values, tally.note_value.count);
@@ -392,7 +372,7 @@ impl Allocative for Cart {
 }
 
 /// Values of `Cart`, counted.
-#[derive(Drop)]
+#[derive(Default, Drop)]
 pub struct CartTally {
     bought_items_count: usize,
     bought_items_names: <Vec<String> as Tallied>::Tally,
@@ -405,14 +385,7 @@ impl Tallied for Cart {
         (entries (codes "BoughtItems") ⟦<CartBoughtItemsFields as Described>⟧.size t.bought_items_count
         (entries (codes "names") ⟦<Vec<String> as Described>⟧.size t.bought_items_count (⟦<Vec<String> as Tallied>⟧.shape t.bought_items_names t.bought_items_count))) };
 
-    ghost whole = { is_whole };
-
-    fn none_counted() -> Self::Tally {
-        CartTally {
-            bought_items_count: 0,
-            bought_items_names: <Vec<String> as Tallied>::none_counted(),
-        }
-    }
+    ghost whole = { is_whole (Prim.search starting) };
 
     fn show(tally: &Self::Tally, count: usize, visitor: &mut Visitor<'_>) -> Result<(), Refusal> {
         let bought_items_names = FieldMany::<Vec<String>>(

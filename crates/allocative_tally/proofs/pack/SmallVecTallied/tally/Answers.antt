@@ -26,5 +26,5 @@ pub returns : goal.returns
 returns g c =
     let run = of_every (YieldsList-from_slice c.args.self.now.items cc) c.count_run.ensures in
     case_counts _ c.in_ok-declared.ensures (holds_up _ _ (holds_second (Some 8) _ (holds_second_of (Some 16) _
-    (holds_items (length c.args.self.now.items) g.row.N g.T.Described.size (omega arith))))) (shown_counts
+    (holds_items (length c.args.self.now.items) g.row.N g.T.Described.size (search rules))))) (shown_counts
     (inline_as (search rules)) (told_then (many_counts _ (omega arith) run) first_counted exceeds_left))
