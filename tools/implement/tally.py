@@ -310,7 +310,7 @@ class Tally:
         declared = f"declared{arm or '-2'}"
         full, missing = refused("(exceeds_full {})"), refused("(exceeds_missing {})")
         found = [stopped(added, f"rw {fact}\n    {full}"), stopped(declared, f"rw {fact}\n    {missing}")]
-        proof, is_sure = fields(part.inside, names, step)
+        proof, is_sure = fields(part.inside, names, step, arm)
         case = f"(case_counted c.in_ok-{declared}.ensures (omega arith)\n    {{}}\n    {self.room})"
         if is_sure:
             return [*found, (goal, counted(case.format(proof)))]
@@ -330,6 +330,11 @@ def quoted(key: str) -> str:
 def ordinal(at: int) -> str:
     """What a step's name ends with, if it is one of several."""
     return f"-{at}" if at > 1 else ""
+
+
+def joining(first: str, at: int, arm: str) -> str:
+    """The name of a step that joins results, from that of the first one of its arm."""
+    return f"and{arm}{ordinal(at - 1)}" if arm and at > 1 and first == "and" else f"{first}{ordinal(at)}"
 
 
 def names_of(variant: Variant) -> list[str]:
@@ -372,8 +377,10 @@ def chained(tree: Any, indent: str) -> str:
     return f"{tree}\n{indent}    {text}" if not links[1:] else f"{tree}{text}"
 
 
-def fields(parts: tuple[Part, ...], names: list[str], step: Step) -> tuple[str, bool]:
-    """The proof for fields, which are counted under these names, and whether they are surely counted."""
+def fields(parts: tuple[Part, ...], names: list[str], step: Step, arm: str = "") -> tuple[str, bool]:
+    """The proof for fields, which are counted under these names, and whether they are surely counted. `arm` is what the
+    names of steps have of their arm, if it is one of several.
+    """
     # The steps that join results, in the order in which they are taken.
     numbers = count(1)
 
@@ -383,7 +390,7 @@ def fields(parts: tuple[Part, ...], names: list[str], step: Step) -> tuple[str, 
         (one, is_first_sure), (last, is_last_sure) = map(within, tree)
         lemma = "next_both" if is_last_sure else "sure_first"
         if not is_first_sure:
-            lemma = "sure_second" if is_last_sure else f"both_count c.{step('and')}{ordinal(next(numbers))}.ensures"
+            lemma = "sure_second" if is_last_sure else f"both_count c.{joining(step('and'), next(numbers), arm)}.ensures"
         return f"({lemma}\n    {one}\n    {last})", is_first_sure and is_last_sure
 
     counted = [(f"(field_counts _ _ _ _ _ _ c.{step(f'tally-{name}')}.ensures)", False) for name in names]
