@@ -81,4 +81,5 @@ def row_cases() -> Iterator[Case]:
     """The runs of the JSON programs and of the picture filter besides the stored ones."""
     yield from map(exact_case, rows_of("tools/documents/runs"))
     yield from map(filter_case, rows_of("tools/stacks/runs"))
+    yield filter_case([b"", b";" * 10000 + b" 1\n", b"2", b"line 1 of the input has more than 10000 keys"])
     yield filter_case([b"--before change.earlier", read("tools/stacks/change.folded"), b"0", read("tools/stacks/change.svg")])

@@ -8,10 +8,13 @@ import glob
 import os
 import re
 import shutil
+import subprocess
 import sys
+import tempfile
 
+from .proofs import MARK, answers_of
 from .source import Source, crate_of
-from .text import MARK, Writer, answers_of
+from .text import Writer
 from .tokens import Fault
 
 STALE, ARGUMENTS, FILES, FAULTS = 1, 2, 3, 4
@@ -66,7 +69,7 @@ def run(chosen: argparse.Namespace) -> int:
         is_inline = chosen.in_place or (chosen.check and not os.path.exists(shown))
         source = Source(text, chosen, is_inline)
         found = source.writers()
-        new = source.new_text(found) if not source.faults else ""
+        new = "" if source.faults else new_text(source, found)
     except Fault as fault:
         return tell(path, text, [fault])
     if source.faults:
@@ -92,6 +95,24 @@ def run(chosen: argparse.Namespace) -> int:
     return 0
 
 
+def new_text(source: Source, found: list[Writer]) -> str:
+    """The text of the module `shown`, or of the file with its pieces."""
+    texts = formatted(source.texts(found))
+    return source.with_pieces(found, texts) if source.is_inline else texts[0]
+
+
+def formatted(texts: list[str]) -> list[str]:
+    """Texts as `rt fmt` lays them out, or as they are if there is no `rt`."""
+    rt = shutil.which("rt")
+    if not rt:
+        return texts
+    with tempfile.TemporaryDirectory() as folder:
+        paths = [os.path.join(folder, "src", f"{number}.rt") for number in range(len(texts))]
+        put(dict(zip(paths, texts)))
+        subprocess.run([rt, "fmt"], cwd=folder, capture_output=True)
+        return [read(path) for path in paths]
+
+
 def placed(chosen: argparse.Namespace, folder: str, path: str) -> str:
     """A file of the crate in a folder, or its copy in the folder that is asked for."""
     return os.path.join(chosen.output, os.path.relpath(os.path.realpath(path), folder)) if chosen.output else path
@@ -99,7 +120,7 @@ def placed(chosen: argparse.Namespace, folder: str, path: str) -> str:
 
 def answers(folder: str, source: Source, found: list[Writer]) -> dict[str, str | None]:
     """The answers by their files in a folder, with nothing for those that are not wanted any more."""
-    texts = answers_of(source.crate.name, found)
+    texts = answers_of(source.crate.name, [each.proofs for each in found])
     new = {os.path.join(folder, name, "Answers.antt"): text for name, text in texts.items()}
     at = glob.escape(os.path.join(folder, *source.text_at))
     found_before = (path for each in ANSWERS for path in glob.glob(os.path.join(at, each, "Answers.antt")))
@@ -155,8 +176,14 @@ def put(files: dict[str, str | None]) -> None:
 
 
 def is_same(path: str, text: str | None) -> bool:
-    """Whether a file has a text, or is not there if that is nothing."""
-    return (read(path) if os.path.exists(path) else None) == text
+    """Whether a file has a text, or is not there if that is nothing. Its layout does not count."""
+    old = read(path) if os.path.exists(path) else None
+    return old == text or (old is not None and text is not None and bare(old) == bare(text))
+
+
+def bare(text: str) -> str:
+    """A text without its layout."""
+    return re.sub(r"\s+", "", re.sub(r",\s*(?=[)\]}>])", "", text))
 
 
 def added_lines(path: str, text: str, source: Source, is_inline: bool) -> dict[str, str | None]:
@@ -167,13 +194,19 @@ def added_lines(path: str, text: str, source: Source, is_inline: bool) -> dict[s
         files[path] = f"{text[:head]}mod shown;\n\n{text[head:]}"
     crates = os.path.join(os.path.dirname(source.crate.folder), "..", "crates.txt")
     if os.path.exists(crates):
-        lines = read(crates).splitlines(keepends=True)
-        for number, line in enumerate(lines):
-            name, _, words = line.partition(":")
-            if name.split()[:1] == [source.crate.name] and "allocative" not in words.split():
-                lines[number] = f"{line.rstrip()} allocative\n"
-        files[crates] = "".join(lines)
+        files[crates] = with_line(read(crates), source.crate.name, ["allocative", *["allocative_tally"] * bool(source.scope.tallied)])
     return files
+
+
+def with_line(text: str, crate: str, needed: list[str]) -> str:
+    """The text of `crates.txt` with the line of a crate, which lists what it needs."""
+    lines = text.splitlines(keepends=True)
+    for number, line in enumerate(lines):
+        name, _, words = line.partition(":")
+        if name.split()[:1] == [crate]:
+            lines[number] = " ".join((line.rstrip(), *(each for each in needed if each not in words.split()))) + "\n"
+            return "".join(lines)
+    return f"{text}{crate}: {' '.join(needed)}\n"
 
 
 def read(path: str) -> str:

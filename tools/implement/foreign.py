@@ -2,29 +2,80 @@
 
 from __future__ import annotations
 
-from .known import NUMBERS, Scope
-from .types import Foreign, Type
+from typing import NamedTuple
+
+from .known import Scope
+from .library import NUMBERS, Bytes
+from .types import Type
+
+
+class Foreign(NamedTuple):
+    """How a type is shown: its name and declared bytes.
+
+    A type with a buffer also has its path, the length of a value in clauses, the module of a word in that, and the call that
+    gives it in code.
+    """
+
+    name: str
+    bytes: Bytes
+    path: str = ""
+    length: str = ""
+    call: str = ""
+    module: str = ""
+
+    def word(self, value: str) -> str:
+        """What a value shows: an entry of the type's name."""
+        inside = "shows.Nothing"
+        if self.length:
+            inside = f'(shows.Inside (codes "u8") ({self.length.format(value)}) shows.Nothing)'
+            inside = f'(shows.Unique (codes "ptr") 8 {inside})'
+        return f'shows.Inside (codes "{self.name}") {self.bytes.size} {inside}'
+
+    def part(self, name: str, tactic: str) -> str:
+        """The part of a name that shows a value with a buffer."""
+        return f"""/// A `{self.name}` as it is shown: its size, and the bytes of its buffer.
+#[derive(Drop)]
+struct {name}<'a>(&'a {self.path});
+
+{tactic}impl<'a> Part for {name}<'a> {{
+    ghost may_show = {{ λ x. {self.word("x.0.now")} }};
+
+    ghost is_strict = {{ true }};
+
+    fn enter(self, visitor: &mut Visitor<'_>) -> Result<(), Refusal> {{
+        let bytes = Inside("u8", self.0.{self.call}, ());
+        Inside("{self.name}", {self.bytes.size}, Unique("ptr", 8, bytes)).enter(visitor)
+    }}
+}}
+
+"""
+
+
+def plain(name: str, size: int, align: int, needs_drop: bool = False) -> Foreign:
+    """A type that is shown by its size."""
+    return Foreign(name, Bytes(size, align, needs_drop))
 
 
 def buffer(path: str, size: int, length: str, call: str, module: str = "") -> Foreign:
-    """A type with a buffer, which counts as boxes of its size."""
-    return Foreign(path.rpartition("::")[2], f"[Box<()>; {size // 8}]", size, 8, path, length, module, call)
+    """A type with a buffer."""
+    return Foreign(path.rpartition("::")[2], Bytes(size, 8, True), path, length, call, module)
 
 
-# The types by their crates. The sizes are those of Rust 1.95 on x86-64, with `url` 2.3, `uuid` 1.2 and `bytes` 1.2. Those
+# The types by their crates, or by their paths. The sizes are those of Rust 1.95 on x86-64, with `url` 2.3, `uuid` 1.2 and `bytes` 1.2. Those
 # of `jiff` were not compared.
 KNOWN = {
-    ("uuid", "Uuid"): Foreign("Uuid", "[u8; 16]", 16, 1),
-    ("jiff", "Timestamp"): Foreign("Timestamp", "[u64; 2]", 16, 8),
-    ("jiff", "SignedDuration"): Foreign("SignedDuration", "[u64; 2]", 16, 8),
-    ("jiff", "Zoned"): Foreign("Zoned", "[Box<()>; 5]", 40, 8),
-    ("jiff", "Span"): Foreign("Span", "[u64; 8]", 64, 8),
-    ("jiff", "Date"): Foreign("Date", "[u16; 2]", 4, 2),
-    ("jiff", "Time"): Foreign("Time", "[u32; 2]", 8, 4),
-    ("jiff", "DateTime"): Foreign("DateTime", "[u32; 3]", 12, 4),
-    ("std", "SocketAddr"): Foreign("SocketAddr", "[u32; 8]", 32, 4),
-    ("std", "SocketAddrV4"): Foreign("SocketAddrV4", "[u16; 3]", 6, 2),
-    ("std", "SocketAddrV6"): Foreign("SocketAddrV6", "[u32; 7]", 28, 4),
+    ("uuid", "Uuid"): plain("Uuid", 16, 1),
+    ("jiff", "Timestamp"): plain("Timestamp", 16, 8),
+    ("jiff", "SignedDuration"): plain("SignedDuration", 16, 8),
+    ("jiff", "Zoned"): plain("Zoned", 40, 8, True),
+    ("jiff", "Span"): plain("Span", 64, 8),
+    ("jiff", "Date"): plain("Date", 4, 2),
+    ("jiff", "Time"): plain("Time", 8, 4),
+    ("jiff", "DateTime"): plain("DateTime", 12, 4),
+    ("std", "io", "Error"): plain("Error", 8, 8, True),
+    ("std", "SocketAddr"): plain("SocketAddr", 32, 4),
+    ("std", "SocketAddrV4"): plain("SocketAddrV4", 6, 2),
+    ("std", "SocketAddrV6"): plain("SocketAddrV6", 28, 4),
     ("url", "Url"): buffer("url::Url", 88, "length (serialize {})", "as_str().len()", "url.specs.Parts"),
     ("bytes", "Bytes"): buffer("bytes::Bytes", 32, "length {}", "len()"),
     ("bytes", "BytesMut"): buffer("bytes::BytesMut", 32, "length {}.items", "len()"),
@@ -43,21 +94,22 @@ def of(scope: Scope, kind: Type) -> Foreign | None:
     if not path or scope.own(kind):
         return None
     homes = path[:1] if len(path) > 1 else [each[0] for each in scope.module.globs]
-    known = [KNOWN[home, path[-1]] for home in homes if (home, path[-1]) in KNOWN]
+    known = [KNOWN[each] for each in (path, *((home, path[-1]) for home in homes)) if each in KNOWN]
     if known or not kind.parts:
         return known[0] if known else None
     part, *counts = kind.parts
     size = NUMBERS.get(part.name, 0) if part.text == part.name else 0
     if path == ("std", "ops", "Range") and size:
-        return Foreign("Range", f"[{part.name}; 2]", 2 * size, size)
+        return plain("Range", 2 * size, size)
     if path == ("std", "ops", "RangeInclusive") and size:
-        return Foreign("RangeInclusive", f"({part.name}, {part.name}, bool)", 3 * size, size)
+        return plain("RangeInclusive", 3 * size, size)
     count = counts[0].text if len(counts) == 1 else ""
     if path == ("arrayvec", "ArrayVec") and size and count.isdigit():
         # The layout of `arrayvec` 0.7: a `u32` for the length, and the array.
         align = max(4, size)
-        return Foreign("ArrayVec", f"(u32, [{part.name}; {count}])", -(-(4 + size * int(count)) // align) * align, align)
+        return plain("ArrayVec", -(-(4 + size * int(count)) // align) * align, align)
     held = of(scope, part) if path == ("Option",) else None
     if held is None or held.length:
         return None
-    return Foreign("Option", f"Option<{held.counts}>", (held.size // held.align + 1) * held.align, held.align)
+    size, align, needs_drop = held.bytes
+    return plain("Option", (size // align + 1) * align, align, needs_drop)

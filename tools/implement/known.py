@@ -4,55 +4,36 @@ from __future__ import annotations
 
 import re
 from functools import cache
-from typing import Callable, Container, Iterable
+from typing import Callable, Container, Iterable, Iterator
 
+from .library import BEFORE_HASHER, PRELUDE, TYPES
 from .types import Definition, Module, Type, type_of
 
-# The declared bytes of the types that are as large as their alignment.
-FORMS = ("u", "i", "NonZeroU", "NonZeroI", "AtomicU", "AtomicI")
-NUMBERS = {f"{form}{bits}": bits // 8 for form in FORMS for bits in (8, 16, 32, 64)}
-NUMBERS |= {f"{form}size": 8 for form in FORMS} | {"u128": 16, "i128": 16, "f32": 4, "f64": 8, "char": 4}
-NUMBERS |= {"bool": 1, "AtomicBool": 1}
-STD = """String Vec Option Result Box VecDeque BTreeMap BTreeSet HashMap HashSet ManuallyDrop PhantomData
-    BoxedSlice BoxedStr LinkedList BinaryHeap Duration Instant SystemTime IpAddr Ipv4Addr Ipv6Addr""".split()
-CELLS = "Cell RefCell OnceCell Mutex RwLock OnceLock".split()
-# The crate of each type that the library implements.
-HOMES = dict.fromkeys((*STD, *CELLS, *NUMBERS), "std") | {"Slab": "slab", "SmallVec": "smallvec", "Either": "either"}
-HOMES |= {"IndexMap": "indexmap", "IndexSet": "indexmap", "LruCache": "lru", "Value": "serde_json", "Number": "serde_json"}
-HOMES |= {"OnceBox": "once_cell", "Error": "anyhow", "IdRc": "allocative", "IdArc": "allocative"}
-SERVICE = "BoundedCache Ledger Account History".split()
-HOMES |= {"FlameGraph": "allocative"} | dict.fromkeys(SERVICE, "allocative_service")
-# What containers ask of their keys.
-KEYS = dict.fromkeys(("HashMap", "HashSet", "IndexMap", "IndexSet", "LruCache", "BoundedCache"), ("Eq", "Hash"))
-KEYS |= dict.fromkeys(("BTreeMap", "BTreeSet", "BinaryHeap"), ("Ord",))
-# What types ask of their first parameter.
-ASKED = KEYS | {"Cell": ("Copy",)}
-# How many parameters stand before the one that makes hashers, which is described and not shown.
-BEFORE_HASHER = {"HashMap": 2, "HashSet": 1, "IndexMap": 2, "IndexSet": 1, "LruCache": 2, "BoundedCache": 2}
-# What keeps its items behind a pointer.
-POINTERS = {"Vec", "Box", "BoxedSlice", "VecDeque", "LinkedList", "Slab", "IdRc", "IdArc", "OnceBox", *KEYS}
 # Traits with their paths, of which `Ord` alone implies another that a key needs.
 TRAITS = set("std cmp hash fmt Allocative Described Drop Clone Copy Debug PartialEq PartialOrd Eq Ord Hash".split())
-FUNCTIONS = ("fn(", "unsafe fn", "extern ", "unsafe extern")
+DYNAMIC = ("dyn ", "fn(", "unsafe fn", "extern ", "unsafe extern")
 # A name that stands alone, and not in a path.
 NAME = re.compile(r"(?<![\w:'])[A-Za-z_]\w*(?!\w|::)")
 Path = tuple[str, ...]
-NOT_STRICT = {"OnceBox", *CELLS}
-NOT_COPY = {"String", "BoxedStr", "SmallVec", "Value", "Error", "FlameGraph", *SERVICE, *POINTERS, *CELLS, *(name for name in NUMBERS if name.startswith("Atomic"))}
-# Types that need no `use`.
-PRELUDE = {"String", "Vec", "Option", "Result", "Box", *(name for name in NUMBERS if name[0].islower())}
 
 
 class Scope:
     """What is known where types stand: their module, those that are written now, what other files say."""
 
-    def __init__(self, module: Module, wanted: Iterable[str], outside: Callable[[Path], str]) -> None:
+    def __init__(
+        self,
+        module: Module,
+        wanted: Iterable[str],
+        outside: Callable[[Path], str],
+        declared: Callable[[str], Definition | None],
+    ) -> None:
         self.module = module
         self.wanted = set(wanted)
-        self.outside = outside
+        # Why a type of another file cannot be shown, and its definition.
+        self.outside, self.declared = outside, declared
         self.strict: set[str] = set()
         self.tallied: set[str] = set()
-        self.name_counts: dict[str, int] = {}
+        self.constants = {name for each in module.types.values() for name in each.names("const")}
         self.reason = cache(self.reason)
 
     def own(self, kind: Type) -> Definition | None:
@@ -73,19 +54,7 @@ class Scope:
 
     def path(self, kind: Type) -> Path:
         """The path of a name, from the `use` that brings it in."""
-        return self.module.uses.get(kind.path[0], kind.path[:1]) + kind.path[1:]
-
-    def names_in(self, kind: Type) -> int:
-        """How many names of types stand in a value of a type itself, and not behind a pointer."""
-        kind = self.real(kind)
-        definition = self.own(kind)
-        if definition is None:
-            inside = () if kind.name in POINTERS else kind.parts
-            return 1 + sum(map(self.names_in, inside))
-        if kind.name not in self.name_counts:
-            self.name_counts[kind.name] = 0
-            self.name_counts[kind.name] = sum(self.names_in(member.type) for member in definition.members)
-        return 1 + self.name_counts[kind.name]
+        return self.module.uses.get(kind.path[0], kind.path[:1]) + kind.path[1:] if kind.path else ()
 
     def reason(self, kind: Type, parameters: Path) -> str:
         """Why a field of a type cannot be shown, or nothing."""
@@ -97,7 +66,7 @@ class Scope:
         if kind.form == "tuple" and len(kind.parts) > 8:
             return f"`{kind.text}` has more than eight parts"
         if kind.form == "path":
-            if len(kind.path) == 1 and kind.name in parameters:
+            if len(kind.path) == 1 and (kind.name in parameters or self.is_constant(kind)):
                 return ""
             reason = self.path_reason(kind)
             if reason or kind.name == "PhantomData":
@@ -130,12 +99,20 @@ class Scope:
         is_alone = len(kind.path) == 1 and len(self.path(kind)) == 1
         return is_alone and self.own(kind) is None and kind.name[0].isupper() and not self.is_of_library(kind)
 
+    def is_constant(self, kind: Type) -> bool:
+        """Whether a type stands for a const parameter."""
+        return len(kind.path) == 1 and kind.name in self.constants and self.own(kind) is None
+
     def is_of_library(self, kind: Type) -> bool:
         """Whether a type is one of those that the library implements."""
-        path, home = self.path(kind), HOMES.get(kind.name, "")
+        path, known = self.path(kind), TYPES.get(kind.name)
         if len(path) == 1:
-            return kind.name in PRELUDE or bool(home and self.module.globs)
-        return path[0] == home
+            return kind.name in PRELUDE or bool(known and self.module.globs)
+        return known is not None and path[:1] == (known.crate,)
+
+    def has(self, kind: Type, word: str) -> bool:
+        """Whether a type of the library has a word."""
+        return kind.name in TYPES and word in TYPES[kind.name].words
 
     def own_reason(self, definition: Definition) -> str:
         traits = self.module.implemented.get(definition.name, set())
@@ -149,19 +126,35 @@ class Scope:
             return f"`{definition.name}` has `impl Allocative` and no `impl Described`"
         return f"`{definition.name}` of this file is not among the types that are named"
 
-    def refusal(self, kind: Type, definition: Definition) -> str:
-        """Why the checker refuses a field of a type, also if it is not shown, or nothing."""
+    def refusals(self, kind: Type, definition: Definition) -> Iterator[str]:
+        """Why the checker refuses a field of a type, also if it is not shown."""
         kind = self.real(kind)
-        if kind.form == "other" and kind.text.startswith(FUNCTIONS):
-            what = "is a function pointer, which the checker refuses in a type that is shown"
-            return f"`{kind.text}` {what}: put it into a struct of your own, and show that by its size"
+        held = self.dynamic(kind)
+        if held:
+            what = "the checker states no type that holds a trait object or a function pointer"
+            yield f"`{held}`: {what}: hold an enum of what it may be, or a type parameter, as `Sinks` in docs/IMPLEMENTING.md"
+            return
         if kind.name == "SmallVec" and any(part.name in definition.names("type") for part in kind.all()):
-            return f"the checker does not bound the size of `{kind.text}` over a type parameter: write a `Vec`"
-        asked = kind.parts[0].all() if kind.name in ASKED and kind.parts else ()
-        for part in asked:
-            if not set(ASKED[kind.name]) <= self.traits(part, definition):
-                return f"`{kind.text}` asks `{part.text}: {' + '.join(ASKED[kind.name])}`: write that bound, or derive it"
-        return next((found for part in kind.parts if (found := self.refusal(part, definition))), "")
+            yield f"the checker does not bound the size of `{kind.text}` over a type parameter: write a `Vec`"
+        asks = TYPES[kind.name].asks if kind.name in TYPES and kind.parts else []
+        for part in kind.parts[0].all() if asks else ():
+            if not set(asks) <= self.traits(part, definition):
+                yield f"`{kind.text}` asks `{part.text}: {' + '.join(asks)}`: write that bound, or derive it"
+        for part in kind.parts:
+            yield from self.refusals(part, definition)
+
+    def dynamic(self, kind: Type, passed: Path = ()) -> str:
+        """A trait object or a function pointer that values of a type hold, also in types of the crate, or nothing."""
+        for each in self.real(kind).all():
+            if each.form == "other" and each.text.startswith(DYNAMIC):
+                return each.text
+            path = self.path(each)
+            own = self.own(each) or (self.declared(each.name) if path[:1] in (("crate",), ("super",), ("self",)) else None)
+            for member in own.members if own and own.name not in passed else ():
+                found = self.dynamic(member.type, (*passed, own.name))
+                if found:
+                    return found
+        return ""
 
     def traits(self, kind: Type, definition: Definition) -> set[str]:
         """The traits that a type in a definition is seen to have; of a type that is not judged here all."""
@@ -175,7 +168,7 @@ class Scope:
             return found | ({"Eq"} if "Ord" in found else set()) if found <= TRAITS else TRAITS
         if kind.text in ("f32", "f64"):
             return TRAITS - {"Eq", "Ord", "Hash"}
-        return TRAITS - {"Copy"} if kind.name in NOT_COPY else TRAITS
+        return TRAITS - {"Copy"} if kind.name in TYPES and not self.has(kind, "copy") else TRAITS
 
     def flags(self, kind: Type, parameters: Path) -> set[str]:
         """The flags on which it depends whether a type is strict; none if it is."""
@@ -185,9 +178,11 @@ class Scope:
         found: set[str] = set()
         if kind.form == "path" and self.path(kind) == kind.path and kind.name in parameters:
             found = {f"{kind.name}.is_strict"}
+        elif self.is_constant(kind):
+            return set()
         elif kind.form == "path":
             definition = self.own(kind)
-            is_known = kind.name in HOMES and kind.name not in NOT_STRICT
+            is_known = kind.name in TYPES and not self.has(kind, "loose")
             if not is_known and not (definition and definition.name in self.strict):
                 return {f"⟦<{kind.text} as Allocative>⟧.is_strict"}
         return found.union(*(self.flags(part, parameters) for part in split_at_hasher(kind)[0]))
@@ -213,6 +208,5 @@ def split_at_hasher(kind: Type) -> tuple[tuple[Type, ...], tuple[Type, ...]]:
 
 
 def is_lasting(kind: Type) -> bool:
-    """Whether a reference is `&'static` to a type of a known size."""
-    text, part = kind.text, kind.parts[0]
-    return re.match(r"&'static (?!mut )", text) is not None and part.form != "other" and part.text != "str"
+    """Whether a reference is `&'static` to a text or a type of a known size."""
+    return re.match(r"&'static (?!mut )", kind.text) is not None and kind.parts[0].form != "other"

@@ -5,29 +5,40 @@ from __future__ import annotations
 import contextlib
 import os
 import re
-import textwrap
 from argparse import Namespace
 from collections.abc import Callable
 from functools import cached_property
 
 from . import foreign
-from .counted import Counted, Counting, is_unsized
-from .known import Scope
-from .tally import HOMES, MANY, SHAPES, Tally, find_tallied, reason
-from .text import LEVELS, WIDTH, Writer
+from .foreign import Foreign
+from .known import Scope, is_lasting
+from .layouts import Layouts, is_wide
+from .tally import HOMES, MANY, Tally, find_tallied, reason
+from .text import Writer
 from .tokens import Fault, Tokens
-from .types import Definition, Foreign, Member, Module, Type, module_of, type_of
+from .types import Definition, Member, Module, Type, module_of, type_of
 
 BEGIN, END = "// allocative: begin", "// allocative: end"
-CODE = set("Allocative And Declared Described Field Fixed Inside Or Part Record Refusal Unique Visitor Whole".split())
+CODE = set("Allocative Declared Described Field Inside Layout Part Refusal Unique Visitor Whole".split())
 RESERVED = CODE | {"Option", "Result", "Box", "String"}
 BY_HAND = 'write it by hand: "A type that holds itself" in docs/IMPLEMENTING.md'
 TACTIC = "[tactic(auto, using(allocative::proofs::Parts::parts))]\n"
-IMPLEMENTED = re.compile(r"\bimpl\b[^{;]*?\b(Allocative|Described|Tallied)\s+for\s+(?:\w+::)*(\w+)")
 OUTWARD = re.compile(r"(?<![\w:])(self|super)::(\w+)")
 LETTER = re.compile(r"[^\n]")
 LINE = re.compile(r"[^\n]*")
-PRELUDE = {"Some", "codes", "length", "true", "◌&&◌"}
+# The words of clauses, by their modules, and the signs.
+WORDS = {
+    "std.specs.Prelude": "Some codes false length true ◌&&◌",
+    "allocative.specs.Layouts": "declared empty pad_to_align ◌or◌ ◌with◌",
+    "allocative.specs.Levels": "both both_levels box_of btree_map_of child field first hash_map_of opened option_in pair_in plain "
+    "recursive second vec_in",
+    "allocative_tally.specs.Whole": "is_whole starting",
+    "allocative_tally.specs.Shapes": "Beside NoEntry entries",
+}
+GHOST = re.compile(r"^    ghost (?!use )\w+ = (\{.*?\});$", re.MULTILINE | re.DOTALL)
+# What names no word of a clause: a text, what stands for a type, and what is behind a dot.
+NO_WORD = re.compile(r'"[^"]*"|⟦[^⟧]*⟧|\.\w+')
+WORD = re.compile(r"[\w-]+|&&")
 DECLARED = re.compile(r"\b(?:struct|enum)\s+(\w+)")
 
 
@@ -50,18 +61,24 @@ class Crate:
         return found
 
     @cached_property
+    def modules(self) -> list[Module]:
+        """What stands in each file and in the modules in it. A file that cannot be read is left out."""
+        found: list[Module] = []
+        for text in self.files.values():
+            with contextlib.suppress(Fault):
+                found += module_of(Tokens(text)).all()
+        return found
+
+    @cached_property
     def implemented(self) -> set[tuple[str, str]]:
         """The traits that are implemented, each with the type."""
-        return {found for text in self.files.values() for found in IMPLEMENTED.findall(text)}
+        pairs = (pair for module in self.modules for pair in module.implemented.items())
+        return {(trait, name) for name, traits in pairs for trait in traits}
 
     @cached_property
     def types(self) -> dict[str, Definition]:
-        """The types that the files declare. A file that cannot be read is left out."""
-        found: dict[str, Definition] = {}
-        for text in self.files.values():
-            with contextlib.suppress(Fault):
-                found |= module_of(Tokens(text)).types
-        return found
+        """The types that the files declare."""
+        return {name: each for module in self.modules for name, each in module.types.items()}
 
     def reached(self, name: str) -> set[str]:
         """The types of the crate that a type of it names, at any depth."""
@@ -110,16 +127,17 @@ class Source:
         self.notes: dict[str, str] = {}
         self.taken = {name.lower() for name in (*self.module.types, *self.module.names, *self.module.uses)}
         wanted = self.wanted_types()
-        self.scope = Scope(self.module, [each.name for each in wanted], self.crate.reason)
-        self.counting = Counting(self.scope, {})
+        names = [each.name for each in wanted]
+        self.scope = Scope(self.module, names, self.crate.reason, lambda name: self.crate.types.get(name))
+        self.layouts = Layouts(self.scope)
         self.passed_over: list[int | None] = []
         self.uncounted: list[str] = []
         # The names of the parts of foreign types.
         self.parts: dict[Foreign, str] = {}
         self.wanted = {each.name: self.judged(each) for each in wanted}
         self.module.types.update(self.wanted)
-        self.layouts = {name: self.free(name, "Layout") for name in self.wanted}
-        self.variant_layouts = {name: self.layouts_in(each) for name, each in self.wanted.items() if each.is_enum}
+        entries = [(name, variant.name) for name, each in self.wanted.items() for variant in each.variants if variant.is_entry]
+        self.records = {names: self.free("".join(names), "Fields") for names in entries}
         self.scope.find_strict()
         self.untallied = find_tallied(self) if chosen.counted else {}
 
@@ -153,11 +171,9 @@ class Source:
         """A type whose fields that cannot be shown are told, or passed over if that is asked for."""
         name, at = definition.name, definition.at
         bounds = definition.where + "".join(each.bounds for each in definition.parameters)
-        is_const = definition.names("const") and not definition.names("lifetime")
         faults = {
             "the text that is written uses this name: rename the type, or write its implementations by hand": name in self.reserved,
             "Rattle has no bound `?Sized`: remove it": "?" in bounds,
-            "the checker proves no size of a type with a const parameter: write the number in its place": is_const,
         }
         for what in (what for what, is_fault in faults.items() if is_fault):
             self.fault(at, f"{name}: {what}")
@@ -173,29 +189,41 @@ class Source:
     def judged_member(self, definition: Definition, of_what: str, member: Member) -> Member:
         if not self.is_inline and "::" in member.type.text:
             member = member._replace(type=type_of(OUTWARD.sub(self.outward, member.type.text)))
-        where, types = f"{of_what}.{member.name}", definition.names("type")
-        reserved = "the checker reserves this name: rename the field" if member.name == "deriving" else ""
-        refusal = reserved or self.scope.refusal(member.type, definition)
-        if refusal:
-            self.fault(member.at, f"{where}: {refusal}")
-            return member
+        faults = [*dict.fromkeys(self.scope.refusals(member.type, definition))]
+        if member.name == "deriving":
+            faults.append("the checker reserves this name: rename the field")
         if member.is_whole:
-            member = member._replace(foreign=foreign.of(self.scope, member.type))
+            member = member._replace(foreign=foreign.of(self.scope, member.type), size=self.borrowed(member.type))
+        types = definition.names("type")
         reason = self.scope.reason(member.type, types) if member.is_whole else ""
-        counted = self.counting.member(member._replace(size=None), types)
+        is_known = self.layouts.of_field(member._replace(is_skipped=True, size=None), types) is not None
+        where, advice = f"{of_what}.{member.name}", self.advice(member, is_known)
         is_passed = member.is_skipped or bool(reason and self.chosen.skip_unknown)
-        advice = self.advice(member, counted)
-        if is_passed and (counted is not None or self.chosen.skip_unknown):
-            self.passed_over += [each.size for each in counted or ()]
-            if counted is None:
-                self.uncounted.append(f"{where} is passed over and counts no bytes: {advice}")
-            note = f"// `{member.name}` is passed over: {reason}.\n" if reason else ""
-            self.notes[definition.name] = self.notes.get(definition.name, "") + note
-            return member._replace(is_skipped=True)
-        if reason or is_passed:
-            what = f"{reason or 'its size is not known'}: {advice}"
-            self.fault(member.at, f"{where}: {self.ring(definition.name, member.type) or what}")
+        if is_passed and not faults and (is_known or self.chosen.skip_unknown):
+            return self.passed(definition.name, where, member, reason, "" if is_known else advice)
+        if reason or (is_passed and not is_known):
+            what = self.ring(definition.name, member.type) or f"{reason or 'its size is not known'}: {advice}"
+            # What is refused of a type is not told twice.
+            faults += [what] if what.split("`")[1] not in [each.split("`")[1] for each in faults if "`" in each] else []
+        for what in faults:
+            self.fault(member.at, f"{where}: {what}")
         return member
+
+    def borrowed(self, kind: Type) -> int | None:
+        """The size by which a reference is shown that may end, or nothing."""
+        known, kind = self.layouts.bytes(kind), self.scope.real(kind)
+        return known.size if known and kind.form == "reference" and not is_lasting(kind) else None
+
+    def passed(self, name: str, where: str, member: Member, reason: str, advice: str) -> Member:
+        """A field that is passed over, with advice if its size is not known."""
+        if advice:
+            self.uncounted.append(f"{where} is passed over and counts no bytes: {advice}")
+        elif member.type.name != "PhantomData":
+            known = self.layouts.bytes(member.type)
+            self.passed_over.append(known.size if known else None)
+        note = f"// `{member.name}` is passed over: {reason}.\n" if reason else ""
+        self.notes[name] = self.notes.get(name, "") + note
+        return member._replace(is_skipped=True)
 
     def ring(self, name: str, kind: Type) -> str:
         """Why a type cannot be shown that holds one of another file which holds the first in turn, or nothing."""
@@ -205,22 +233,30 @@ class Source:
                 return f"`{part.name}` of another file holds `{name}` in turn: put types that hold each other into one file"
         return ""
 
-    def advice(self, member: Member, counted: list[Counted] | None) -> str:
-        """What to do about a field that cannot be shown."""
-        size = size_advice(member, counted)
+    def advice(self, member: Member, is_known: bool) -> str:
+        """What to do about a field that cannot be shown, whose layout may be known."""
+        size, skip = self.size_advice(member.type), ", or `// allocative: skip`, for none" if is_known else ""
+        size = f"write above it `// allocative: {size}{skip}"
         for kind in self.scope.real(member.type).all():
             path, known = self.scope.path(kind) if kind.path else (), foreign.of(self.scope, kind)
             if self.scope.is_unknown(kind):
                 return f"add the `use` of `{kind.name}`, or {size}"
             if known:
                 return f"put the `{known.name}` into a struct of your own, or {size}"
-            if path[:1] == ("std",) and path[-1] in ("Rc", "Arc") and kind.parts and not is_unsized(kind.parts[0]):
+            if path[:1] == ("std",) and path[-1] in ("Rc", "Arc") and kind.parts and not is_wide(kind):
                 return f"write `Id{path[-1]}<{kind.parts[0].text}>` of `allocative`, or {size}"
-            held = kind.parts[0].text if kind.name == "Box" and kind.parts else ""
-            if held == "str" or held.startswith("["):
+            held = kind.parts[0].text if kind.name == "Box" and kind.parts and is_wide(kind) else ""
+            if held and not held.startswith("dyn "):
                 boxed = "BoxedStr" if held == "str" else f"BoxedSlice<{held[1:-1]}>"
                 return f"write `{boxed}` of `std::boxed`, or {size}"
         return size
+
+    def size_advice(self, kind: Type) -> str:
+        """The size to write above a field."""
+        known = self.layouts.bytes(kind)
+        if known is None:
+            return f"size N`, where N is what `size_of::<{kind.text}>()` gives in Rust, for one entry of N bytes"
+        return f"size {known.size}`, for one entry of {known.size} bytes"
 
     def passed_line(self) -> str:
         """How many fields are passed over, and their bytes."""
@@ -261,11 +297,6 @@ class Source:
         self.taken.add(name.lower())
         return name
 
-    def layouts_in(self, definition: Definition) -> dict[str, str]:
-        """The names of the layouts of the variants that have an entry."""
-        names = [each.name for each in definition.variants if each.is_entry]
-        return {name: self.free(definition.name + name, "Fields") for name in names}
-
     def writers(self) -> list[Writer]:
         """What is written for each type, in the order of the file."""
         found, reach = [], {name: self.reached(name) for name in self.wanted}
@@ -276,7 +307,7 @@ class Source:
                 self.check(definition, cycle)
                 found.append(Writer(self, definition, cycle))
                 if name in self.scope.tallied:
-                    found[-1].add(Tally(found[-1]))
+                    found[-1].text += f"\n{Tally(found[-1]).text}"
             except Fault as fault:
                 self.fault(fault.at, f"{name}: {fault.what}")
         return found
@@ -294,41 +325,40 @@ class Source:
         """Whether fields of a type are counted first: if it has a tally, and holds any number of items."""
         return self.chosen.counted and kind.name in MANY and not reason(self.scope, kind, ())
 
-    def new_text(self, found: list[Writer]) -> str:
-        """The text of the module `shown`, or of the file with its pieces."""
+    def texts(self, found: list[Writer]) -> list[str]:
+        """The text of the module `shown`, or of each piece of the file."""
         texts = [self.notes.get(each.name, "") + each.text for each in found]
+        imports = self.imports("\n".join(texts))
         if self.is_inline:
-            return self.with_pieces(found, texts)
+            return [f"{imports}{imports and chr(10)}{texts[0]}", *texts[1:]] if texts else []
         what = self.path[-1] if self.path else self.crate.name
         head = f"//! What the types of `{what}` show. `bin/implement` of `allocative` wrote it."
-        return f"{head}\n#!{TACTIC}\n{self.imports(found)}\n" + "\n".join(texts)
+        return ["\n".join((f"{head}\n#!{TACTIC}\n{imports}", *texts))]
 
-    def imports(self, found: list[Writer]) -> str:
-        """The imports of the text. In place, only of what the file does not import."""
+    def imports(self, text: str) -> str:
+        """The imports of a text. In place, only of what the file does not import."""
         mine = self.module if self.is_inline else Module()
-        used = {"shows"}.union(*(each.used for each in found)) - mine.ghost_uses
-        used -= {name for name, path in mine.uses.items() if path[0] in ("allocative", "allocative_tally")}
-        words = {"std.specs.Prelude": PRELUDE, "allocative.specs.Shows": {"shows"}, "allocative.specs.Levels": LEVELS}
-        words |= foreign.MODULES | {"allocative_tally.specs.Whole": {"is_whole", "starting"}}
-        words |= {"allocative_tally.specs.Shapes": SHAPES}
+        clauses, code = NO_WORD.sub("", "\n".join(GHOST.findall(text))), NO_WORD.sub("", GHOST.sub("", text))
+        used = {f"◌{word}◌" if word in ("with", "or", "&&") else word for word in WORD.findall(clauses)} - mine.ghost_uses
+        words = {path: set(names.split()) for path, names in WORDS.items()} | foreign.MODULES
         lists = [(f"Rattle.{path}", used & names) for path, names in words.items()]
-        opened = sorted({word.removeprefix("out-").removesuffix("-F") for word in used if "-" in word})
+        opened = sorted({word.removeprefix("out-").removesuffix("-F") for word in used if re.fullmatch(r"out-\w+|\w+-F", word)})
         lists += [(f"{self.declared_at}.{name}", used & {f"out-{name}", f"{name}-F"}) for name in opened]
         lines = [f"ghost use {path}.{{{', '.join(sorted(names))}}};\n" for path, names in lists if names]
-        text, code = "".join(lines).replace(".{shows}", " as shows"), use_line("allocative", used & CODE)
-        code += "".join(use_line(f"allocative_tally::{home}", used & names) for home, names in HOMES.items())
-        code += use_line("std::marker", used & {"PhantomData"} - mine.uses.keys())
-        if self.is_inline:
-            return text + ("\n" if text and code else "") + code
-        return f"{text}\nuse super::*;\n{code}"
+        lines.insert(1, "" if "shows" in mine.ghost_uses else "ghost use Rattle.allocative.specs.Shows as shows;\n")
+        known = {name for name, path in mine.uses.items() if path[0] in ("allocative", "allocative_tally")}
+        called = {word for word in WORD.findall(code) if word[0].isupper() or re.search(rf"{word}(\(|::<)", code)} - known
+        # Traits whose methods are called.
+        called |= {"Part", *["Entries"] * ("Tallied" in called)} - known
+        lines.append("\n" if self.is_inline else "\nuse super::*;\n")
+        homes = {"allocative": CODE} | {f"allocative_tally::{home}": names for home, names in HOMES.items()}
+        lines += [f"use {path}::{{{', '.join(sorted(called & names))}}};\n" for path, names in homes.items() if called & names]
+        return "".join(lines)
 
     def with_pieces(self, found: list[Writer], texts: list[str]) -> str:
         """The file with a piece behind each type, and without those that were written before."""
-        edits, imports = [(*piece, "") for piece in self.pieces], self.imports(found)
-        for each, written in zip(found, texts):
-            end = self.line_end(each.definition)
-            edits.append((end, end, f"\n{BEGIN}\n{imports}{imports and chr(10)}{written}{END}"))
-            imports = ""
+        edits, ends = [(*piece, "") for piece in self.pieces], [self.line_end(each.definition) for each in found]
+        edits += [(end, end, f"\n{BEGIN}\n{text}{END}") for end, text in zip(ends, texts)]
         return spliced(self.text, sorted(edits))
 
     def line_end(self, definition: Definition) -> int:
@@ -361,16 +391,6 @@ def closure(first: str, reached: Callable[[str], set[str]]) -> set[str]:
     return found
 
 
-def size_advice(member: Member, counted: list[Counted] | None) -> str:
-    """What to write above a field that cannot be shown, from what counts for it."""
-    size, kind = counted[0].size if counted else None, member.type.text
-    skip = ", or `// allocative: skip`, for none" if counted is not None else ""
-    if size is None:
-        what = f"N`, where N is what `size_of::<{kind}>()` gives in Rust, for one entry of N bytes"
-        return f"write above it `// allocative: size {what}{skip}"
-    return f"write above it `// allocative: size {size}`, for one entry of {size} bytes{skip}"
-
-
 def pieces_of(text: str) -> list[tuple[int, int]]:
     """The pieces between marks, each from the end of the line before it to the end of its last mark."""
     said = Tokens(text).directives if BEGIN in text or END in text else []
@@ -389,14 +409,3 @@ def spliced(text: str, edits: list[tuple[int, int, str]]) -> str:
     for start, end, new in reversed(edits):
         text = text[:start] + new + text[end:]
     return text
-
-
-def use_line(path: str, words: set[str]) -> str:
-    """The line that imports names of the library, cut as `rt fmt` does."""
-    names = sorted(words)
-    if len(names) < 2:
-        return "".join(f"use {path}::{name};\n" for name in names)
-    listed = ", ".join(names)
-    if len(listed) + len(f"use {path}::{{}};\n") <= WIDTH:
-        return f"use {path}::{{{listed}}};\n"
-    return f"use {path}::{{\n{textwrap.indent(textwrap.fill(listed, WIDTH - 5), '    ')},\n}};\n"

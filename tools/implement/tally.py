@@ -7,20 +7,18 @@ from functools import reduce
 from itertools import count
 from typing import TYPE_CHECKING, Any, Callable, NamedTuple
 
-from .known import CELLS, NUMBERS, SERVICE, Scope, split_at_hasher
-from .text import GROUP, INDENT, WIDTH, bound, called, entered, holds, in_angles, joined, laid, pattern_of, size_of
+from .known import Scope, split_at_hasher
+from .library import NUMBERS, having
+from .names import bound, holds, in_angles, joined, pattern_of, size_in_clause
 from .types import Definition, Member, Type, Variant
 
 if TYPE_CHECKING:
     from .source import Source
     from .text import Writer
 
-# Types of the library that have no tally.
-UNTALLIED = set("PhantomData ManuallyDrop Value Number OnceBox LruCache Error IdRc IdArc FlameGraph".split())
-UNTALLIED |= {"BoxedSlice", "BoxedStr", "LinkedList", "BinaryHeap", *SERVICE, *CELLS}
-UNTALLIED |= {name for name in NUMBERS if name.startswith("Atomic")}
+INDENT = " " * 8
 # The containers of any number of items.
-MANY = set("Vec VecDeque BTreeMap BTreeSet HashMap HashSet IndexMap IndexSet".split())
+MANY = having("many")
 # The modules of the library that have the words of the code.
 HOMES = {"field": {"CountedField", "FieldMany", "OwnTally", "SizedMany", "count_own"}}
 HOMES["tally"] = {"CountError", "Entries", "Tallied", "added", "declared"}
@@ -31,8 +29,6 @@ SHAPES = {"Beside", "NoEntry", "entries"}
 WEIGHTS = dict.fromkeys(NUMBERS, 1) | dict.fromkeys(("BTreeMap", "HashMap"), 6)
 WEIGHTS |= dict.fromkeys(("BTreeSet", "HashSet", "IndexMap", "IndexSet", "Slab", "SmallVec"), 10)
 LARGEST_TALLY = 96
-# How many letters `rt fmt` allows on a line to calls of methods, one after another, and to the argument of the last.
-CHAIN, LAST = 60, 58
 NAMED_LENGTH = re.compile(r"; *[A-Za-z_]")
 HUMP = re.compile(r"(?<=[a-z0-9])(?=[A-Z])")
 DECLARED = "c.in_ok-declared.ensures"
@@ -61,12 +57,12 @@ class Part(NamedTuple):
     @property
     def size(self) -> str:
         """The declared size of an entry, in clauses."""
-        return size_of(self.type) if self.bytes is None else f"(Some {self.bytes})"
+        return size_in_clause(self.type) if self.bytes is None else f"(Some {self.bytes})"
 
-    def many(self, count: str, inside: str) -> tuple[str, list[str]]:
-        """The entries of so many values, in code: what makes them, and its arguments."""
-        kind = self.type if self.bytes is None else f"Fixed<{self.bytes}, 1, false>"
-        return f"SizedMany::<{kind}, _, _>", [quoted(self.key), count, inside, "PhantomData"]
+    def many(self, count: str, inside: str) -> str:
+        """The entries of so many values, in code."""
+        size = f"<{self.type}>::size()" if self.bytes is None else f"Some({self.bytes})"
+        return f'SizedMany("{self.key}", {size}, {count}, {inside})'
 
 
 def reason(scope: Scope, kind: Type, parameters: tuple[str, ...]) -> str:
@@ -77,7 +73,7 @@ def reason(scope: Scope, kind: Type, parameters: tuple[str, ...]) -> str:
     if own:
         has_tally = own.name in scope.tallied or "Tallied" in scope.module.implemented.get(own.name, ())
     elif kind.form == "path" and kind.name not in parameters:
-        is_known = kind.name not in UNTALLIED and scope.is_of_library(kind) and not split_at_hasher(kind)[1]
+        is_known = scope.is_of_library(kind) and scope.has(kind, "tally") and not split_at_hasher(kind)[1]
         has_tally = is_known or (len(scope.path(kind)) > 1 and not scope.outside(scope.path(kind), ("Tallied",)))
     whys = (reason(scope, part, parameters) for part in kind.parts)
     return next(filter(None, whys), "") if has_tally else f"`{kind.text}` has none"
@@ -168,16 +164,15 @@ class Tally:
             return self.field(shown[0], variant.name, f"{start}value", True) if shown else None
         names = [each.name if start or each.name.isidentifier() else f"part{each.name}" for each in shown]
         inside = [self.field(each, each.name, start + name) for each, name in zip(shown, names)]
-        record = self.writer.variant_records[variant.name] if start else ""
+        record = self.writer.record(variant) if start else ""
         return Part(self.free(f"{start}count") if start else "", variant.name, record, inside=tuple(inside))
 
     # ---- what counts
     def struct(self) -> str:
         lines = ""
         for part in self.kept:
-            kind = Type("other", part.kind or "usize")
-            kind = Type("path", f"OwnTally<{part.kind}>", (), (kind,)) if part.is_own else kind
-            lines += f"    {part.name}: {laid(kind, 4, WIDTH - 7 - len(part.name))},\n"
+            kind = part.kind or "usize"
+            lines += f"    {part.name}: {f'OwnTally<{kind}>' if part.is_own else kind},\n"
         head = f"/// Values of `{self.writer.name}`, counted.\n#[derive(Default, Drop)]\n"
         body = f"{{\n{lines}}}" if lines else "{}"
         return f"{head}pub struct {self.name}{in_angles(self.parameters)} {body}\n\n"
@@ -195,15 +190,18 @@ class Tally:
         return f"{head} (⟦<{part.type} as Tallied>⟧.shape {value} {count}))" if part.kind else f"{head}\n{INDENT}{inside})"
 
     def tallied(self) -> str:
-        writer, kinds = self.writer, tuple(Type("other", each) for each in self.kinds)
-        kind = laid(Type("path", self.name + in_angles(self.kinds), (), kinds), 4, WIDTH - 17)
+        writer, kind = self.writer, self.name + in_angles(self.kinds)
         body = f"{INDENT}declared::<{self.root.type}>()?;\n"
         if self.definition.is_enum:
             body += f"{INDENT}match self {{\n{''.join(self.arm(*each) for each in self.arms)}{INDENT}}}\n"
         else:
             names = locals_of(self.definition.variants[0])
             body += self.together(self.root.inside, names, [f"&self.{part.key}" for part in self.root.inside], INDENT)
-        writer.answer(f"{writer.name}Tallied/tally", self.counted(), writer.lemma)
+        writer.proofs.answer(f"{writer.name}Tallied/tally", self.counted(), writer.proofs.lemma)
+        entries = sum(part.bytes is None and not part.kind for part in self.root.inside) if self.definition.is_enum else 0
+        if entries:
+            sizes = ", ".join(f"c.size{ordinal(at)}.ensures" for at in range(1, entries + 2))
+            writer.proofs.answer(f"{writer.name}Tallied/show", [("returns", f"rw ({sizes}) at c.enter.ensures")])
         return (
             f"{writer.head('Tallied', 'Tallied')}    type Tally = {kind};\n\n"
             f"    ghost shape = {{ λ t n. {self.shape(self.root, 'n')[1:-1]} }};\n\n"
@@ -216,35 +214,31 @@ class Tally:
 
     def entering(self) -> str:
         """The lines that enter what was counted."""
-        names = dict(zip(self.flat, bound([part.name for part in self.flat], 52, "visitor tally count size")))
+        names = dict(zip(self.flat, bound([part.name for part in self.flat], "visitor tally count size")))
         text = ""
         for part in self.root.inside:
             count = f"tally.{part.name}" if part in self.kept and not part.kind else "count"
-            text += "".join(INDENT + self.entry(each, names, count) for each in (*part.inside, part))
+            text += "".join(f"{INDENT}let {names[each]} = {self.entry(each, names, count)};\n" for each in (*part.inside, part))
         inside = paired([names[each] for each in self.root.inside], "({}, {})".format, "()")
-        return f"{text}{INDENT}{entered(*self.root.many('count', inside), INDENT)}\n"
+        return f"{text}{INDENT}{self.root.many('count', inside)}.enter(visitor)\n"
 
     def entry(self, part: Part, names: dict[Part, str], count: str) -> str:
-        """The line that makes the entries of a part of so many values."""
-        head = f"let {names[part]} = "
+        """The entries of a part of so many values."""
         if part.is_own:
-            arguments = [quoted(part.key), f"&tally.{part.name}.values", f"tally.{part.name}.count"]
-        elif part.kind:
-            arguments = [quoted(part.key), f"&tally.{part.name}", count]
-        else:
-            inside = paired([names[each] for each in part.inside], "({}, {})".format, "()")
-            return called(head, *part.many(count, inside), ";", INDENT)
-        return called(head, f"FieldMany::<{part.type}>", arguments, ";", INDENT)
+            return f'FieldMany::<{part.type}>("{part.key}", &tally.{part.name}.values, tally.{part.name}.count)'
+        if part.kind:
+            return f'FieldMany::<{part.type}>("{part.key}", &tally.{part.name}, {count})'
+        return part.many(count, paired([names[each] for each in part.inside], "({}, {})".format, "()"))
 
     def together(self, parts: tuple[Part, ...], names: list[str], values: list[str], indent: str) -> str:
         """The lines that count fields and join what each comes to. A field that is shown by its size alone needs none."""
         lines = "".join(
-            indent + called(f"let {name} = ", "Tallied::tally", [value, f"&mut tally.{part.name}"], ";", indent)
+            f"{indent}let {name} = Tallied::tally({value}, &mut tally.{part.name});\n"
             for part, name, value in zip(parts, names, values)
             if part.kind
         )
         results = [name if part.kind else "" for part, name in zip(parts, names)]
-        return f"{lines}{indent}{chained(joined(results, joined_by_and), indent) or 'Ok(())'}\n"
+        return f"{lines}{indent}{chained(joined(results, joined_by_and)) or 'Ok(())'}\n"
 
     def arm(self, variant: Variant, part: Part | None) -> str:
         """The lines that count the fields of a variant."""
@@ -258,7 +252,7 @@ class Tally:
             lines += f"{indent}tally.{part.name} = added(tally.{part.name}, 1)?;\n"
         shown = locals_of(variant)
         if part.is_own:
-            return called(head, "count_own", [f"&mut tally.{part.name}", *shown], ",", " " * 12)
+            return f"{head}count_own(&mut tally.{part.name}, {shown[0]}),\n"
         lines += self.together(part.inside, shown, shown, indent)
         return f"{head}{{\n{lines}{' ' * 12}}}\n"
 
@@ -272,7 +266,7 @@ class Tally:
         found = []
         # The steps of the arms before. A step that an arm before has too is named by its arm.
         before: set[str] = set()
-        for (variant, part), fact in zip(self.arms, self.writer.facts):
+        for (variant, part), fact in zip(self.arms, self.writer.proofs.facts):
             arm, names = f"-in-{variant.name}" if self.arms[1:] else "", locals_of(variant)
             found += self.counted_arm(part, names, arm, fact, lambda step: step + arm if step in before else step)
             counted = [f"tally-{name}" for each, name in zip(part.inside, names) if each.kind] if part else []
@@ -286,45 +280,26 @@ class Tally:
             inside = placed(self.root.inside, part, proof, "({}_counted {})") if part else proof
             return f"next_as (rw {fact} as_itself)\n    ({self.whole('next_case', inside)})"
 
-        def refused(proof: str) -> str:
-            return f"(cannot_case {placed(self.root.inside, part, proof, '(exceeds_{} {})', ('left', 'right'))})"
-
-        def told(name: str, proof: str) -> str:
-            if arm:
-                return f"rw {fact}\n    {refused(proof.format(name))}"
-            # The value of an only variant is known by an equation of the whole, which rewrites what is known of it too.
-            return f"from_fact {name}\n    (rw {fact} (λ e. {refused(proof.format('e'))[1:-1]}))"
+        def told(result: str, proof: str) -> str:
+            return f"(told_then {result}\n    (λ told. {counted(proof)})).told"
 
         if not part:
             return [(f"returns{arm}", counted("nothing_counted"))]
         if part.is_own:
             own = f"c.{step('count_own')}"
-            ok, err = counted("(own_counted own)"), told("own", "({}.next _)")
-            return [(f"returns{arm}", f"MatchResult-weaker {own}.result {own}.ensures\n    (λ _ own. {ok})\n    (λ _ own. {err})")]
+            return [(f"returns{arm}", told(f"(told_by {own}.result {own}.ensures)", "(own_counted told)"))]
         added = f"tally{arm}"
         goal = f"returns-in_ok-{added}" if arm else "returns"
         if part.bytes is not None:
-            ok = counted("(fixed_counted _ _ (omega arith))")
-            err = refused("(exceeds_sum false _ (omega arith))")
-            return [stopped(added, f"rw {fact}\n    {err}"), (goal, ok)]
-        declared = f"declared{arm or '-2'}"
-        full, missing = refused("(exceeds_full {})"), refused("(exceeds_missing {})")
-        found = [stopped(added, f"rw {fact}\n    {full}"), stopped(declared, f"rw {fact}\n    {missing}")]
+            return [(goal, counted("(fixed_counted _ _ (omega arith))"))]
         proof, is_sure = fields(part.inside, names, step, arm)
-        case = f"(case_counted c.in_ok-{declared}.ensures (omega arith)\n    {{}}\n    {self.room})"
-        if is_sure:
-            return [*found, (goal, counted(case.format(proof)))]
-        ok, err = counted(case.format("told")), told("told", "(exceeds_field ({}.next _))")
-        proof = f"told_as {proof}\n    (λ told. {ok})\n    (λ told. {err})"
-        return [*found, (goal, proof)]
+        declared = f"c.in_ok-declared{arm or '-2'}.ensures"
+        case = f"(case_counted {declared} (omega arith)\n    {{}}\n    {self.room})".format
+        return [(goal, counted(case(proof)) if is_sure else told(proof, case("told")))]
 
     def whole(self, lemma: str, inside: str) -> str:
         """The proof for the entry of a value, from that for what is inside it."""
         return f"{lemma} {DECLARED}\n    {inside}\n    {self.room}"
-
-
-def quoted(key: str) -> str:
-    return f'"{key}"'
 
 
 def ordinal(at: int) -> str:
@@ -338,8 +313,8 @@ def joining(first: str, at: int, arm: str) -> str:
 
 
 def names_of(variant: Variant) -> list[str]:
-    """The names of the fields of a variant, or of a struct, in the code of its tally: short ones if there are many."""
-    return bound(variant.names, 38 if len(variant.names) <= GROUP else 0, TAKEN)
+    """The names of the fields of a variant, or of a struct, in the code of its tally."""
+    return bound(variant.names, TAKEN)
 
 
 def locals_of(variant: Variant) -> list[str]:
@@ -353,28 +328,9 @@ def joined_by_and(results: list[Any]) -> Any:
     return reduce(lambda later, one: (one, later), some[-2::-1], some[-1]) if some else ""
 
 
-def in_one_line(tree: Any) -> str:
-    return tree if isinstance(tree, str) else f"{in_one_line(tree[0])}.and({in_one_line(tree[1])})"
-
-
-def chained(tree: Any, indent: str) -> str:
-    """Results that are joined by `and`, laid out as `rt fmt` does. Their names have at most 4 letters if they are many."""
-
-    def link(later: Any, indent: str) -> str:
-        line = in_one_line(later)
-        return f".and({line})" if len(line) <= LAST else f".and(\n{indent}    {chained(later, indent + ' ' * 4)},\n{indent})"
-
-    line, links = in_one_line(tree), []
-    if len(line) <= CHAIN:
-        return line
-    start = in_one_line(tree[0])
-    if len(start) <= CHAIN and len(in_one_line(tree[1])) > LAST:
-        return start + link(tree[1], indent)
-    while not isinstance(tree, str):
-        tree, later = tree
-        links.insert(0, link(later, f"{indent}    "))
-    text = f"\n{indent}    ".join(links)
-    return f"{tree}\n{indent}    {text}" if not links[1:] else f"{tree}{text}"
+def chained(tree: Any) -> str:
+    """Results that are joined by `and`."""
+    return tree if isinstance(tree, str) else f"{chained(tree[0])}.and({chained(tree[1])})"
 
 
 def fields(parts: tuple[Part, ...], names: list[str], step: Step, arm: str = "") -> tuple[str, bool]:
@@ -398,22 +354,13 @@ def fields(parts: tuple[Part, ...], names: list[str], step: Step, arm: str = "")
     return within(paired(steps, lambda one, last: [one, last], ("next_nothing", True)))
 
 
-def placed(
-    parts: tuple[Part, ...], part: Part, proof: str, lemma: str, words: tuple[str, str] = ("first", "second")
-) -> str:
-    """The proof for a part, from its place among others, by lemmas whose names have these words."""
+def placed(parts: tuple[Part, ...], part: Part, proof: str, lemma: str) -> str:
+    """The proof for a part, from its place among others, by lemmas whose names begin with that place."""
 
     def within(tree: Any) -> str:
         if tree is part:
             return proof
-        pairs = zip(words, tree if isinstance(tree, list) else ())
+        pairs = zip(("first", "second"), tree if isinstance(tree, list) else ())
         return "".join(lemma.format(word, inner) for word, each in pairs if (inner := within(each)))
 
     return within(paired([*parts], lambda one, later: [one, later], None))
-
-
-def stopped(step: str, proof: str) -> tuple[str, str]:
-    """The goal at the exit of a `?`, and its proof from that for the error, in which `{}` is what the step ensures."""
-    residual = f"c.from_residual-in_err-{step}"
-    proof = proof.format(f"c.in_err-{step}.ensures")
-    return f"returns-in_err-{step}", f"stops {residual}.result _ _ {residual}.ensures.0\n    ({proof})"

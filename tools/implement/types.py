@@ -5,9 +5,12 @@ from __future__ import annotations
 import re
 from dataclasses import dataclass, field
 from functools import cache
-from typing import Iterator, NamedTuple
+from typing import TYPE_CHECKING, Iterator, NamedTuple
 
-from .tokens import Fault, Tokens
+from .tokens import Directive, Fault, Tokens
+
+if TYPE_CHECKING:
+    from .foreign import Foreign
 
 EDGE = re.compile(r"->|[(<\[{)>\]},;]")
 USE_EDGE = re.compile(r"[{},]")
@@ -15,7 +18,7 @@ SAYS = re.compile(r"skip|size\s+(\d{1,20})")
 IMPLEMENTED = re.compile(r"\b(\w+)(?:<.*>)?\s+for\s+(?:\w+\s*::\s*)*(\w+)", re.DOTALL)
 LOOSE_AFTER = re.compile(r" ?(::|[<(\[&*!]) ?")
 LOOSE_BEFORE = re.compile(r" ([>)\],;])")
-REFERENCE = re.compile(r"&('\w+ )?(mut )?(.*)", re.DOTALL)
+REFERENCE = re.compile(r"&('\w+)? ?(mut\b)? ?(.*)", re.DOTALL)
 PATH = re.compile(r"((?:::)?[^\W\d]\w*(?:::[^\W\d]\w*)*)(?:(?:::)?<(.*)>)?")
 NO_PATH = ("dyn", "impl", "fn", "unsafe", "extern", "for", "_")
 
@@ -63,7 +66,7 @@ def type_of(text: str) -> Type:
     if first == "&":
         lifetime, mutable, kind = REFERENCE.fullmatch(text).groups("")
         part = type_of(kind)
-        return Type("reference", f"&{lifetime}{mutable}{part.text}", (), (part,))
+        return Type("reference", "&" + " ".join(filter(None, (lifetime, mutable, part.text))), (), (part,))
     if first == "(" and last == ")":
         parts = tuple(map(type_of, split(text[1:-1])))
         if len(parts) == 1 and not text.endswith(",)"):
@@ -80,50 +83,6 @@ def type_of(text: str) -> Type:
     parts = tuple(map(type_of, split(found[2] or "")))
     arguments = f"<{', '.join(part.text for part in parts)}>" if parts else ""
     return Type("path", found[1] + arguments, tuple(found[1].strip(":").split("::")), parts)
-
-
-class Foreign(NamedTuple):
-    """How a type is shown: its name, and its declared bytes and alignment.
-
-    `counts` is a described type of that size, alignment and drop. A type with a buffer also has its path, the length of a
-    value in clauses, the module of a word in that, and the call that gives it in code.
-    """
-
-    name: str
-    counts: str
-    size: int
-    align: int
-    path: str = ""
-    length: str = ""
-    module: str = ""
-    call: str = ""
-
-    def word(self, value: str) -> str:
-        """What a value shows: an entry of the type's name."""
-        inside = "shows.Nothing"
-        if self.length:
-            inside = f'(shows.Inside (codes "u8") ({self.length.format(value)}) shows.Nothing)'
-            inside = f'(shows.Unique (codes "ptr") 8 {inside})'
-        return f'shows.Inside (codes "{self.name}") {self.size} {inside}'
-
-    def part(self, name: str, tactic: str) -> str:
-        """The part of a name that shows a value with a buffer."""
-        return f"""/// A `{self.name}` as it is shown: its size, and the bytes of its buffer.
-#[derive(Drop)]
-struct {name}<'a>(&'a {self.path});
-
-{tactic}impl<'a> Part for {name}<'a> {{
-    ghost may_show = {{ λ x. {self.word("x.0.now")} }};
-
-    ghost is_strict = {{ true }};
-
-    fn enter(self, visitor: &mut Visitor<'_>) -> Result<(), Refusal> {{
-        let bytes = Inside("u8", self.0.{self.call}, ());
-        Inside("{self.name}", {self.size}, Unique("ptr", 8, bytes)).enter(visitor)
-    }}
-}}
-
-"""
 
 
 class Member(NamedTuple):
@@ -214,6 +173,12 @@ class Module:
     inner: dict[str, Module] = field(default_factory=dict)
     names: set[str] = field(default_factory=set)
     faults: list[Fault] = field(default_factory=list)
+
+    def all(self) -> Iterator[Module]:
+        """The module and each module in it."""
+        yield self
+        for inner in self.inner.values():
+            yield from inner.all()
 
 
 class Reader:
@@ -364,15 +329,9 @@ class Reader:
             name = self.name("a field")
             if not self.take(":"):
                 raise Fault(at, f"the field {name} has no type: write `{name}: TYPE`")
-        kind = self.type(end)
+        member = Member(name, self.type(end), at)
         said = self.tokens.said_between(before, at)
-        if said is None:
-            return Member(name, kind, at)
-        found = SAYS.fullmatch(said.says) if said.is_line else None
-        if not found or int(found[1] or 0) >= 2**64:
-            what = "write `skip`, or `size N` with a number of bytes, on a line of its own"
-            raise Fault(at, f"{name}: `// allocative: {said.says}` above it: {what}")
-        return Member(name, kind, at, found[1] is None, int(found[1]) if found[1] else None)
+        return directed(member, said) if said else member
 
     def refuse_directive(self, place: int) -> None:
         """Refuses a comment that speaks of a field and stands above none, right before a token."""
@@ -385,14 +344,18 @@ class Reader:
         """The variants in the braces that stand here."""
         close, found = self.open(), []
         for end in self.entries(close):
-            self.refuse_directive(self.at)
+            before = self.tokens.end(self.at - 1)
             self.attributes()
+            said = self.tokens.said_between(before, self.tokens.starts[self.at])
             if self.at >= close:
                 break
             found.append(self.fields(self.name("a variant")))
+            if said:
+                found[-1] = directed_variant(found[-1], said)
             if self.word() != "=" and self.at < end:
                 what = f"behind the variant {found[-1].name}: write a comma before it"
                 raise self.fault(f"`{self.word()}` {what}")
+        self.refuse_directive(close)
         self.at = close + 1
         return tuple(found)
 
@@ -458,6 +421,23 @@ class Reader:
             else:
                 module.uses[name] = path
         self.at += 1
+
+
+def directed(member: Member, said: Directive) -> Member:
+    """A field with what a comment above it says."""
+    found = SAYS.fullmatch(said.says) if said.is_line else None
+    if not found or int(found[1] or 0) >= 2**64:
+        what = "write `skip`, or `size N` with a number of bytes, on a line of its own"
+        raise Fault(member.at, f"{member.name}: `// allocative: {said.says}` above it: {what}")
+    return member._replace(is_skipped=found[1] is None, size=int(found[1]) if found[1] else None)
+
+
+def directed_variant(variant: Variant, said: Directive) -> Variant:
+    """A variant whose only field, which has no name, is what a comment above the variant speaks of."""
+    if variant.bracket != "(" or len(variant.members) != 1:
+        what = "stands above a variant: write it above one of the fields"
+        raise Fault(said.start, f"`// allocative: {said.says}` {what}")
+    return variant._replace(members=(directed(variant.members[0], said),))
 
 
 def brought(text: str, prefix: tuple[str, ...] = ()) -> Iterator[tuple[str, tuple[str, ...]]]:

@@ -99,6 +99,9 @@ const CALLS: &[&str] = &[
     "`add` of a graph with the same paths",
     "`rows`",
     "`total_at`, and so `get` and `size_at`",
+    "`outline`",
+    "`table`",
+    "`by_last_key`",
     "the end of a graph",
 ];
 

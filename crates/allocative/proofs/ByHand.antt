@@ -13,15 +13,21 @@ pub shown_by_hand : {p : Showing} {a : Visitor} {s t : State} {r : Result (Unit 
     AddsForest p s r t → Visited false p AnyEffect a (with_state a t) r
 shown_by_hand {p} {t = t} {r = r} e h =
     let P : State → Type 0 = λ s. AddsForest p s r t in
-    record { same_reference = refl; same_outer = refl; shown = subst P e h; only_if_full = not_strict; takes_effect = tt }
+    let shown = subst P e h in
+    record { same_reference = refl; same_outer = refl; shown = shown; only_if_full = not_strict; takes_effect = tt }
 
 -- The same, if a part is entered afterwards.
 pub shown_before : {p q : Showing} {e : Bool} {a b : Visitor} {s t : State} {u : Unit {0}}
     {r : Result (Unit {0}) Refusal} → s ≡ a.collector.now → AddsForest p s (Ok u) t → Entered e q (with_state a t) b r →
     Visited false (Both p q) AnyEffect a b r
 shown_before {p} {a = a} {t = t} {u = u} e h k =
-    let P : State → Type 0 = λ s. AddsForest p s (Ok u) t in
-    record { same_reference = k.same_reference; same_outer = k.same_outer; shown = adds_both (subst P e h) k.shown; only_if_full = not_strict; takes_effect = tt }
+    let P : State → Type 0 = λ s. AddsForest p s (Ok u) t in record {
+      same_reference = k.same_reference;
+      same_outer = k.same_outer;
+      shown = adds_both (subst P e h) k.shown;
+      only_if_full = not_strict;
+      takes_effect = tt;
+    }
 
 -- An entry with nothing inside it.
 pub entry_alone : {u : Bool} {k : Key} {n : ℕ} {o q : Restore} {s t d : State} {x : Unit {0}} →

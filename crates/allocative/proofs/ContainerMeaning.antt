@@ -167,7 +167,10 @@ pub means_both_cut : {T : Type 0} {x : Bool} {name : Key} {size : Option ℕ} {n
     Means x (Both (slice_shows name size needs_drop p xs) (slice_shows name size needs_drop p ys))
     (cut_shows name size needs_drop p all)
 means_both_cut {name = name} {size = size} {needs_drop = needs_drop} {p = p} xs ys e =
-    rw (← e) (record { means = λ f h. is_cut xs ys refl h; declared = λ i d. cut_declared name size needs_drop p xs ys d })
+    rw (← e) (record {
+      means = λ f h. is_cut xs ys refl h;
+      declared = λ i d. cut_declared name size needs_drop p xs ys d;
+    })
 
 -- ---- texts
 -- The entries of a text's pointer, capacity, bytes and unused bytes mean what the text shows of its buffer.

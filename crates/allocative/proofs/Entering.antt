@@ -43,7 +43,7 @@ module _ (N : RattleType) (told : Laws N) (In : Key → N.Denot → State → Re
         (seq (call h (copy (place 4 []) ∷ copy (place 2 []) ∷ copy (place 3 []) ∷ []) (place 0 [])) return));
   }
 
-  -- The contract, and that of the collector's call.
+  -- The signature of the visitor's call.
   abbrev Restore : Ended
   Restore = record {
     signature = record f.signature {
@@ -53,6 +53,7 @@ module _ (N : RattleType) (told : Laws N) (In : Key → N.Denot → State → Re
     kept = (no, (yes, (yes, tt)));
   }
 
+  -- The signature of the collector's call.
   abbrev Inner : Ended
   Inner = record {
     signature = record i.signature {
@@ -62,6 +63,7 @@ module _ (N : RattleType) (told : Laws N) (In : Key → N.Denot → State → Re
     kept = (no, (yes, (yes, tt)));
   }
 
+  -- The clauses of the visitor's call.
   abbrev outer : {M : Type 1} {𝓤 : Ura M} → Logic 𝓤 → Clauses 𝓤 Restore
   outer {𝓤 = 𝓤} 𝓛 κs a = record {
     ghost = Unit {0};
@@ -72,6 +74,7 @@ module _ (N : RattleType) (told : Laws N) (In : Key → N.Denot → State → Re
         (fact 𝓤 (IfErr r (No a.1.0 a.1.1.0 a.0.now.collector.now))));
   }
 
+  -- The clauses of the collector's call.
   abbrev inner : {M : Type 1} {𝓤 : Ura M} → Logic 𝓤 → Clauses 𝓤 Inner
   inner {𝓤 = 𝓤} 𝓛 κs a = record {
     ghost = Unit {0};
@@ -83,9 +86,11 @@ module _ (N : RattleType) (told : Laws N) (In : Key → N.Denot → State → Re
         (fact 𝓤 (IfErr r (No a.1.0 a.1.1.0 a.0.now)))));
   }
 
+  -- Which parameters the visitor's call gives back.
   abbrev stayed : Stays Restore.signature.params Restore.kept
   stayed = (stay_dropped _ no, (stay_dropped _ yes, (stay_dropped _ yes, tt)))
 
+  -- If the collector's call meets its contract, so does the visitor's, which lends the collector to it.
   pub enters : {M : Type 1} (𝓤 : Ura M) (𝓛 : Logic 𝓤) (𝓜 : Model 𝓤 𝓛.H) (𝓡 : Running 𝓤 𝓛.H 𝓜) →
       Goes 𝓛 2 (plain (λ κs. N)) yes (stay_dropped (plain (λ κs. N)) yes) → {name h : Callee} →
       Closed 𝓤 𝓛.H (tables 𝓤 𝓛.H 𝓜 𝓡 𝓡.env).C (tables 𝓤 𝓛.H 𝓜 𝓡 𝓡.env).Λ name (function h) →
@@ -95,7 +100,8 @@ module _ (N : RattleType) (told : Laws N) (In : Key → N.Denot → State → Re
   enters 𝓤 𝓛 𝓜 𝓡 goes {name = name} {h = h} closed lent met =
       let c = outer 𝓛 in
       let 𝓣 = tables 𝓤 𝓛.H 𝓜 𝓡 𝓡.env in
-      proved_at 𝓛 Restore stayed c 𝓜 𝓡 (Goes-spent_ref 𝓛 2 (0 ∷ []) tt (plain Lender), (Goes-blank 𝓛 2 (plain (λ _. key_row)) yes (λ κs x w. tt), (goes, tt)))
+      let key_goes = Goes-blank 𝓛 2 (plain (λ _. key_row)) yes (λ κs x w. tt) in
+      proved_at 𝓛 Restore stayed c 𝓜 𝓡 (Goes-spent_ref 𝓛 2 (0 ∷ []) tt (plain Lender), (key_goes, (goes, tt)))
       name (function h) closed (λ y₀ are.
       let κs = y₀.0.0 in let qs = y₀.0.1 in let bounds = y₀.0.2 in let a = y₀.0.3 in
       let κ = κs.0 in let q = qs.0 in let s = a.0 in let k = a.1.0 in let n = a.1.1.0 in
@@ -131,7 +137,8 @@ module _ (N : RattleType) (told : Laws N) (In : Key → N.Denot → State → Re
       use1 𝓛 (later (some (λ (r : MutBor State). (Tokens ⊛ ‵ (Part.own_val r (v ∷ []))) ⊛
       some (λ (ws : Lasts g.ended κs (s, tt)). ‵ (lasts g.ended κs (s, tt) ws) ⊛ ‵ (LendsCollector s r) ⊛ raw
       (fact 𝓤 (r.now ≡ s.now.collector.now)))))) (id⊢ 𝓤 _) $
-      await ! tt $ pick ! (λ r. split ! $ split ! $ move ! (2 ∷ []) $ pick ! (λ ws. split ! $ drop ! $ split ! $ move ! (1 ∷ []) $ heard ! _ (λ same.
+      await ! tt $ pick ! (λ r. split ! $ split ! $ move ! (2 ∷ []) $ pick ! (λ ws. split ! $ drop ! $ split ! $
+      move ! (1 ∷ []) $ heard ! _ (λ same.
       -- [what self ends as; the tokens; the part lent; the key and the size]
       move ! (2 ∷ []) $ fsplit ! $ feq_l ! (λ is. feq_i ! (List _) (mut_vals r) (mut_vals r) refl $ fjoin ! $
       lands_as ! (ap only is) refl (tt, tt) $
@@ -144,7 +151,8 @@ module _ (N : RattleType) (told : Laws N) (In : Key → N.Denot → State → Re
       -- [what the call asks; the other tokens; what self ends as]
       calls_at ! fm H met z
       (and_then ! (get ! refl) (and_then ! (get ! refl) (and_then ! (get ! refl) (no_more !)))) (λ u.
-      use1 𝓛 (later (some (λ (res : Result Visitor Refusal). ((‵ (flft κ q) ⊛ ‵ ftrue) ⊛ ‵ ((Answer κs).own_val res (u ∷ []))) ⊛
+      use1 𝓛 (later (some (λ (res : Result Visitor Refusal).
+      ((‵ (flft κ q) ⊛ ‵ ftrue) ⊛ ‵ ((Answer κs).own_val res (u ∷ []))) ⊛
       some (λ (vs : Lasts Inner (κ, tt) z.0.3). ‵ (lasts Inner (κ, tt) z.0.3 vs) ⊛
       ‵ (CollectorEnds (Ends r.now) r res) ⊛ raw (fact 𝓤 (IfOk res (λ w. w.collector.ghost_name ≡ r.ghost_name))) ⊛ raw
       (fact 𝓤 (IfOk res (λ w. In k n r.now (Ok w.outer) w.collector.now))) ⊛
@@ -162,4 +170,7 @@ module _ (N : RattleType) (told : Laws N) (In : Key → N.Denot → State → Re
       move ! (2 ∷ []) $ split ! $ move ! (0 ∷ 4 ∷ []) $ join ! $ move ! (1 ∷ []) $ nothing ! $ fjoin ! $ nothing ! $
       fjoin ! $ nothing ! $ fjoin ! $
       move ! (0 ∷ 2 ∷ []) $ join ! $ move ! (1 ∷ 0 ∷ []) $ join ! $ frame ! $
-      says_two ! (subst (λ (x : State). IfOk res (λ w. In k n x (Ok w.outer) w.collector.now)) same entered, subst (λ (x : State). IfErr res (No k n x)) same refused) $ done !)))))))))))))))
+      says_two ! (
+        subst (λ (x : State). IfOk res (λ w. In k n x (Ok w.outer) w.collector.now)) same entered,
+        subst (λ (x : State). IfErr res (No k n x)) same refused,
+      ) $ done !)))))))))))))))

@@ -62,13 +62,15 @@ pub use Rattle.allocative.specs.contracts.visitor.Visitor.{the_row as visitor_ro
 pub use Rattle.allocative_described.specs.declared.described.Described.{Ghosts}
 use mathlib.Core.Option as maybe
 
--- The lender, whose own lifetime is the second one, and the result, whose visitor has the first.
+-- The lender, whose own lifetime is the second one; the visitor that is returned has the first.
 abbrev pub Lender : Lfts 2 → RattleType
 Lender κs = visitor_row (named_lft 2 1 tt κs)
 
+-- The visitor that is returned.
 abbrev pub Nested : Lfts 2 → RattleType
 Nested κs = visitor_row (named_lft 2 0 tt κs)
 
+-- The result that has it.
 abbrev pub Answer : Lfts 2 → RattleType
 Answer κs = result_row (Nested κs) refusal_row
 
@@ -108,12 +110,15 @@ at_values {𝓤 = 𝓤} 𝓛 T hs c run y us e h =
 module _ {M : Type 1} {𝓤 : Ura M} (𝓛 : Logic 𝓤) (V C : RattleType) (F : C.Denot → V.Denot) (γ γ' : GName)
     (P : C.Denot → C.Denot → Type 0) (P₀ : C.Denot → Type 0) (Q : C.Denot → V.Denot → Type 0) (Q₀ : V.Denot → Type 0)
     (kept : (w z : C.Denot) → P w z → Q w (F z)) (kept₀ : (z : C.Denot) → P₀ z → Q₀ (F z)) where
+  -- The ends of the whole that P and P₀ allow: with a loan, and without.
   abbrev Both : Type 0
   Both = (s : (C.Denot → V.Denot) × V.Denot) × ((w : C.Denot) → Q w (s.0 w)) × Q₀ s.1
 
+  -- How the whole ends, by the two ends, if the call returns the loan m.
   abbrev Whole : maybe.Option GName → Both → Fml
   Whole m s = follows_by V.Denot C.Denot V.coded.code C.coded.code γ m s.0.0 s.0.1
 
+  -- The whole follows its part, and the part follows the loan or ends without; so the whole does.
   pub nest : (m : maybe.Option GName) → ent 𝓤 (sep 𝓤 (sem 𝓛 (follows V C γ γ' F)) (sem 𝓛 (follows_so C C γ' m P P₀)))
       (sem 𝓛 (follows_so V C γ m Q Q₀))
   unfolding such_by follows_by
@@ -131,18 +136,22 @@ module _ {M : Type 1} {𝓤 : Ura M} (𝓛 : Logic 𝓤) (V C : RattleType) (F :
 -- How a visitor ends whose collector is lent to a call that returns a visitor. `Ends` says how the collector ends if
 -- none is returned.
 module _ {E : Type 0} (Ends : State → E → State → Type 0) (s : Visitor) where
+  -- With a loan, the visitor ends with what the visitor that is returned leaves.
   with_loan : (r : Result Visitor E) (w z : State) → OnOk r (z ≡ w) → OnOk r (with_state s z ≡ with_state s w)
   with_loan (Ok v) w z h = ap (with_state s) h
   with_loan (Err e) w z h = h
 
+  -- How the visitor ends without a loan.
   abbrev Refused : Result Visitor E → Visitor → Type 0
   Refused r v = IfErr r (λ e. Ends s.collector.now e v.collector.now × (v ≡ with_state s v.collector.now))
 
+  -- Without a loan, the visitor ends with the state that `Ends` allows.
   without_loan : (c : State) → c ≡ s.collector.now → (r : Result Visitor E) (z : State) →
       OnErr r (IfErr r (λ e. Ends c e z)) → Refused r (with_state s z)
   without_loan c i (Ok v) z h = h
   without_loan c i (Err e) z h = let P : State → Type 0 = λ x. Ends x e z in (subst P i h, refl)
 
+-- If the visitor lends its collector, and the collector ends as the call says, so does the visitor.
 pub lent_on : {M : Type 1} {𝓤 : Ura M} (𝓛 : Logic 𝓤) {E : Type 0} (Ends : State → E → State → Type 0)
     (s : MutBor Visitor) (c : MutBor State) → c.now ≡ s.now.collector.now → (r : Result Visitor E) →
     ent 𝓤 (sep 𝓤 (sem 𝓛 (LendsCollector s c)) (sem 𝓛 (CollectorEnds (Ends c.now) c r)))

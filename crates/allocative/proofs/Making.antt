@@ -1,12 +1,12 @@
 -- How entries are opened and made, one after another and inside each other, by calls that visit no part.
 use Rattle.std.proofs.Common.{ℕ, ◌+◌, ◌<◌, ◌^◌, Bool, true, false, List, [], ◌∷◌, ◌≡◌, Option, Some, Result, Ok, Err}
-use Rattle.std.proofs.Common.{refl, sym, ◌∙◌, subst, ap}
+use Rattle.std.proofs.Common.{refl, sym, ◌∙◌, subst, ap, IfErr, IsTrue}
 use Rattle.allocative.proofs.Common.{Restore, Yields, Refusal, Key, Identity, Live, OfGraph, OfSum, State, Failed}
 use Rattle.allocative.proofs.Common.{Going, close_entry, HasFailed, OpensEntry, stays_failed, is_refused, is_entered}
 use Rattle.allocative.proofs.Common.{OpensShared, stays_shared, is_refused_shared, is_too_large_shared, counts}
 use Rattle.allocative.proofs.Common.{enters_first, enters_again, ClosesEntry, Nothing, Field, already, FailsOnlyIfFull}
 use Rattle.allocative.proofs.Common.{Entered, Visitor, with_state, Plan, Done, Entry, Makes, MakesPlan, made_none, made}
-use Rattle.allocative.proofs.Common.{entry_refused, inside_refused, makes, gives, one, Showing}
+use Rattle.allocative.proofs.Common.{entry_refused, inside_refused, makes, gives, one, Showing, AddsForest}
 use Rattle.allocative_collectors.specs.Places.{MeetsAs}
 use Rattle.allocative_graph.specs.Collector.{Kind, enter, leave, outer_of}
 use Rattle.allocative_graph.specs.Sums.{bytes_entered}
@@ -40,18 +40,27 @@ pub nothing_inside : {k : Key} {size : Option ℕ} {s t : State} {o : Restore} (
     OpensEntry false k size s (Ok o) t → Makes Done t (Ok u) t
 nothing_inside u (is_entered r f e) = made_none
 
+-- What the collector of a visitor was shown is entered, if the visitor stays where it was.
+pub entered_at : {x : Bool} {p : Showing} {a : Visitor} {t : State} {r : Result Unit Refusal} →
+    AddsForest p a.collector.now r t → IfErr r (HasFailed t) → (IsTrue x → FailsOnlyIfFull p a.collector.now r t) →
+    Entered x p a (with_state a t) r
+entered_at h c f = record { same_reference = refl; same_outer = refl; shown = h; cause = c; only_if_full = f }
+
 -- Making one entry of a declared size, whatever it returns, enters a field with nothing inside it.
 pub entered_alone_sized : {x : Bool} {k : Key} {size : Option ℕ} {a : Visitor} {t : State} {r : Result Unit Refusal} →
     Makes (one k size) a.collector.now r t → Entered x (Field k size Nothing) a (with_state a t) r
-entered_alone_sized had_failed = record { same_reference = refl; same_outer = refl; shown = already; cause = refl; only_if_full = λ y. refuses.had_failed }
-entered_alone_sized {a = a} (made g made_none l made_none) =
-    record { same_reference = refl; same_outer = refl; shown = adds_field g refl (adds_nothing _ tt) l refl; cause = tt; only_if_full = λ y. only_if_full_field g (only_if_full_nothing _ tt) l }
+entered_alone_sized had_failed = entered_at already refl (λ y. refuses.had_failed)
+entered_alone_sized (made g made_none l made_none) =
+    entered_at (adds_field g refl (adds_nothing _ tt) l refl) tt
+    (λ y. only_if_full_field g (only_if_full_nothing _ tt) l)
 entered_alone_sized (made g made_none l had_failed) = absurd (cc l.closes)
-entered_alone_sized (entry_refused g) = record { same_reference = refl; same_outer = refl; shown = not_entered g; cause = not_entered_cause g; only_if_full = λ y. only_if_full_not_field g }
+entered_alone_sized (entry_refused g) =
+    entered_at (not_entered g) (not_entered_cause g) (λ y. only_if_full_not_field g)
 entered_alone_sized (inside_refused g had_failed) = elim g [ ]
 
 -- If an inline entry is opened, a plan is made inside it, and it is closed, the entry with the plan is made.
-pub makes_within : {k : Key} {size : Option ℕ} {inside : Plan} {o : Restore} {s t c d : State} {r : Result Unit Refusal} →
+pub makes_within : {k : Key} {size : Option ℕ} {inside : Plan} {o : Restore} {s t c d : State}
+    {r : Result Unit Refusal} →
     OpensEntry false k size s (Ok o) t → Makes inside t r c → ClosesEntry o c d → Makes (Entry k size inside Done) s r d
 makes_within {o = o} {r = Ok v} g m e =
     rw e.closes (made g m (record { closes = refl }) (going_closed o (goes_on m)))
@@ -142,5 +151,11 @@ pub shared_met : {k : Key} {n : ℕ} {i : Identity} (c d : Live) (is_first : Boo
 shared_met c d true i r m j = rw (i, j) (enters_first r m.0 m.1)
 shared_met c d false i r m j = rw (i, j) (enters_again r m.0 m.1)
 
+-- How an entry is opened, and how one is made.
+pub ruleset opened = (stays_failed, is_refused, opens_entered, entry_refused, makes_one, had_failed, made_none)
+
+-- How a shared entry is opened.
+pub ruleset opened_shared = (stays_shared, counts, is_too_large_shared, is_refused_shared, shared_met)
+
 -- The rules for the collector's own calls.
-pub ruleset opening = (stays_failed, is_refused, opens_entered, entry_refused, makes_one, had_failed, made_none, stays_shared, counts, is_too_large_shared, is_refused_shared, shared_met, refuses_entry)
+pub ruleset opening = (opened, opened_shared, refuses_entry)

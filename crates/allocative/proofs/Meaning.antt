@@ -10,6 +10,7 @@ use Rattle.allocative.proofs.Strict.{declared_content, declared_shared, only_if_
 use Rattle.allocative.proofs.Strict.{only_if_full_undeclared, not_strict, only_if_full_first, only_if_full_both}
 use Rattle.allocative.proofs.Strict.{none_of_it}
 use Rattle.allocative.proofs.Visits.{adds_weaker, adds_nothing, adds_both, adds_err, adds_refused}
+use Rattle.allocative.proofs.Making.{entered_at}
 
 -- ---- which visits are strict
 -- A visit that is never strict needs no strict part.
@@ -123,12 +124,21 @@ pub entered_loosely : {e : Bool} {p : Showing} {a b : Visitor} {r : Result (Unit
     Entered false p a b r
 entered_loosely h = entered_if h strict_never means_same
 
+-- Entering a part that shows exactly p is a visit that shows p.
+pub visited : {x : Bool} {p : Showing} {a b : Visitor} {r : Result (Unit {0}) Refusal} → Entered x p a b r →
+    Visited x p AnyEffect a b r
+visited h = record {
+  same_reference = h.same_reference;
+  same_outer = h.same_outer;
+  shown = h.shown;
+  only_if_full = h.only_if_full;
+  takes_effect = tt;
+}
+
 -- A part that was entered is the visit of a value, strict if the part is.
 pub visited_as : {d : Bool} {p q : Showing} {a b : Visitor} {r : Result (Unit {0}) Refusal} → Entered d p a b r →
     Means d p q → Visited d q AnyEffect a b r
-visited_as h m =
-    let w = entered_as h m in
-    record { same_reference = w.same_reference; same_outer = w.same_outer; shown = w.shown; only_if_full = w.only_if_full; takes_effect = tt }
+visited_as h m = visited (entered_as h m)
 
 -- A strict part is the visit of a value that need not be. Search needs the two flags as they are.
 pub visited_of_strict : {p q : Showing} {a b : Visitor} {r : Result (Unit {0}) Refusal} → Entered true p a b r →
@@ -140,15 +150,9 @@ pub visited_if : {d e : Bool} {p q : Showing} {a b : Visitor} {r : Result (Unit 
     OnlyIf d e → Means d p q → Visited d q AnyEffect a b r
 visited_if h o m = visited_as (entered_if h o means_same) m
 
--- Entering a part that shows exactly p is a visit that shows p.
-pub visited : {x : Bool} {p : Showing} {a b : Visitor} {r : Result (Unit {0}) Refusal} → Entered x p a b r →
-    Visited x p AnyEffect a b r
-visited h = record { same_reference = h.same_reference; same_outer = h.same_outer; shown = h.shown; only_if_full = h.only_if_full; takes_effect = tt }
-
 -- A call that enters nothing and returns Ok has shown nothing.
 pub entered_none : {x : Bool} {p : Showing} (a : Visitor) → Means x Nothing p → Entered x p a a (Ok tt)
-entered_none a m =
-    entered_as {p = Nothing} (record { same_reference = refl; same_outer = refl; shown = adds_nothing _ tt; cause = tt; only_if_full = λ i. only_if_full_nothing _ tt }) m
+entered_none a m = entered_as {p = Nothing} (entered_at (adds_nothing _ tt) tt (λ i. only_if_full_nothing _ tt)) m
 
 -- An error that is passed on, of the first part or of the second.
 pub entered_passed : {d x : Bool} {p q : Showing} {a b : Visitor} {e : Refusal} {r : Result Unit Refusal} → r ≡ Err e →
@@ -174,7 +178,13 @@ entered_both o w f s = record {
 
 -- An error that is returned by hand, which need not be one that must be.
 pub entered_refused : {p : Showing} {q e : Refusal} {a b : Visitor} → Refused q a b e → Entered false p a b (Err e)
-entered_refused {q = q} {e = e} h = record { same_reference = h.same_reference; same_outer = h.same_outer; shown = adds_refused _ e q _ h.after; cause = h.is_cause; only_if_full = not_strict }
+entered_refused {q = q} {e = e} h = record {
+  same_reference = h.same_reference;
+  same_outer = h.same_outer;
+  shown = adds_refused _ e q _ h.after;
+  cause = h.is_cause;
+  only_if_full = not_strict;
+}
 
 -- A part that is declared nowhere is refused as TooLarge.
 pub undeclared_refused : {x : Bool} {p : Showing} {e : Refusal} {a b : Visitor} → (IsDeclared p → ⊥) →

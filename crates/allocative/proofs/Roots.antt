@@ -1,6 +1,6 @@
 -- What a visit by a root visitor amounts to.
-use Rattle.std.proofs.Common.{◌≡◌, ℕ, suc, ◌+◌, ◌<◌, ◌^◌, inr, List, length, take, get_or, Bool, IsTrue, Result, Ok}
-use Rattle.std.proofs.Common.{Err, IsErr, refl, ap, sym, subst, ◌∙◌, arith, inl, IfOk, IfErr, [], ◌∷◌, ◌++◌, drop}
+use Rattle.std.proofs.Common.{◌≡◌, ℕ, suc, ◌+◌, ◌<◌, ◌^◌, List, length, take, get_or, Bool, IsTrue, Result, Ok}
+use Rattle.std.proofs.Common.{Err, IsErr, refl, ap, sym, subst, ◌∙◌, arith, IfOk, [], ◌∷◌, ◌++◌, drop}
 use Rattle.allocative.proofs.Common.{Restore, Refusal, Forest, followed_by, add_all, held, ShowsNoContent, Kind}
 use Rattle.allocative.proofs.Common.{OfGraph, OfSum, State, Failed, Going, leave, plus, Takes, visitors, is_graph}
 use Rattle.allocative.proofs.Common.{begin, outer_of, close_entry, nothing_held, Showing, Both, each_shows, AddsForest}
@@ -8,9 +8,8 @@ use Rattle.allocative.proofs.Common.{refused, hidden, forgotten, OpensRoot, Sett
 use Rattle.allocative.proofs.Common.{IsSum, MayRefuse, FailsOnlyIfFull, has_added, has_refused, RootFailsOnlyIfFull}
 use Rattle.allocative.proofs.Common.{ClosesEntry, all_bytes, HasRoomFor, CanTake}
 use Rattle.allocative.specs.SizeOf.{AnswersVisitOf}
-use Rattle.allocative.specs.RefusedVisits.{RefusesVisit, RefusesVisits}
 use Rattle.allocative.proofs.Visits.{err_or, same_err}
-use Rattle.allocative.specs.Visited.{Effect, VisitsRootWithEffect, not_begun, root_visited}
+use Rattle.allocative.specs.Visited.{Effect, WasVisited, VisitsByRoot, not_begun, by_root}
 use Rattle.allocative_graph.specs.Forest.{met_after, Fits, own, all}
 use Rattle.allocative_graph.specs.Sums.{sums_of}
 use Rattle.allocative_graph.specs.Meaning.{content_of}
@@ -24,7 +23,9 @@ use Rattle.allocative_graph.proofs.Plus.{is_graph-begin}
 use Rattle.allocative.proofs.Strict.{bytes_entered-plus, can_first, can_second, may_refuse, each_append, each_one}
 use Rattle.allocative.proofs.Strict.{declared_append, around_item}
 use Rattle.allocative_graph.proofs.Showings.{all_is_meaning, reaches_exactly, one_sums, whole_following, graphs_add}
+use Rattle.allocative.specs.Kinds.{as_graph}
 use Rattle.std.specs.List.{list_all}
+use Rattle.std.proofs.lemmas.Bool.{false≢true}
 use Rattle.std.proofs.lemmas.List.{take_more}
 use Rattle.std.proofs.lemmas.List.Sums.{AllPass-from_list_all}
 
@@ -90,6 +91,20 @@ root_only_if_full (Going b) (Err z) {c = c} h i v l e k = λ strict closed.
     let g = l.closes ∙ ap (λ (o : Restore). close_entry o c) (e ∙ h.2) in
     rw g (only_if_full_going b z closed h.1 (rw (i ∙ h.3) at (v strict)) (rw g at k))
 
+-- A visit by a root visitor is a visit of a root.
+pub root_visited : {x : Bool} {p : Showing} {effect : Effect} {s t : State} {r : Result Unit Refusal} →
+    VisitsByRoot x p effect s t r → VisitsRoot p s r t
+root_visited {s = Failed z} (not_begun h) = (ap Err h.0, h.1)
+root_visited {s = Going b} (not_begun h) = rw h.2 (h.0, h.1, (λ n. refl), refl)
+root_visited (by_root b v l k) = visits_root _ _ b refl v.shown l v.same_outer k
+
+-- A strict visit by a root visitor refuses only if it must.
+pub root_strict : {x : Bool} {p : Showing} {effect : Effect} {s t : State} {r : Result Unit Refusal} →
+    VisitsByRoot x p effect s t r → RootFailsOnlyIfFull x p s r t
+root_strict {s = Failed z} (not_begun h) = tt
+root_strict {s = Going b} (not_begun h) = λ strict closed. absurd (h.1 closed)
+root_strict (by_root b v l k) = root_only_if_full _ _ b refl v.only_if_full l v.same_outer k
+
 -- The sum of a run of held bytes.
 pub held_by_visit : (p : Showing) (s t : State) (u : Unit) (n : ℕ) → s ≡ Going (OfSum nothing_held) →
     VisitsRoot p s (Ok u) t → IsSum t n → (f : Forest) × p f × ShowsNoContent f × (n ≡ held f)
@@ -101,32 +116,51 @@ held_by_visit p (Going b) (Going c) u n e (z, f, a, t, g) k =
     (f, a, rw i at t, omega (arith, k'))
 
 -- After a visit at a closed collector, the result is what is answered of the collector that the visit left.
-pub visit_answered : {T : Type 0} {z : Kind} {p : Showing} {effect : Effect} {answers : State → Result T Refusal → Type 0}
-    {s t : State} {q : Result Unit Refusal} {r : Result T Refusal} →
-    VisitsRootWithEffect p effect s t q → s ≡ Going z → IsClosed z → (Settles t q → answers t r) →
+pub visit_answered : {T : Type 0} {z : Kind} {x : Bool} {p : Showing} {effect : Effect}
+    {answers : State → Result T Refusal → Type 0} {s t : State} {q : Result Unit Refusal} {r : Result T Refusal} →
+    VisitsByRoot x p effect s t q → s ≡ Going z → IsClosed z → (Settles t q → answers t r) →
     AnswersVisitOf z p effect answers r
-visit_answered (not_begun x b) is closed up = absurd ((rw is at b).1 closed)
-visit_answered {z = z} (root_visited {o = o} {a = a} {c = c} b v l e k) is closed up =
-    let b' : OpensRoot (Going z) (Ok o) a = rw is at b in
-    let left = l.closes ∙ ap (λ (w : Restore). close_entry w c) (e ∙ b'.2) in
-    record { after = c; visited = rw b'.3 at v; answer = rw left at (up k) }
+visit_answered (not_begun b) is closed up = absurd ((rw is at b).1 closed)
+visit_answered {z = z} {p = p} {effect = effect} (by_root {v = v} {w = w} {told = told} b h l k) is closed up =
+    let b' : OpensRoot (Going z) (Ok v.outer) v.collector.now = rw is at b in
+    let c = w.collector.now in
+    let left = l.closes ∙ ap (λ (o : Restore). close_entry o c) (h.same_outer ∙ b'.2) in
+    let visited : WasVisited p effect (Going (begin z)) c =
+    record { told = told; shown = rw b'.3 at h.shown; takes_effect = rw b'.3 at h.takes_effect } in
+    record { after = c; visited = visited; answer = rw left at (up k) }
 
 -- If the visit returns an error, so does the call, with that error.
-pub visit_refused : {T : Type 0} {z : Kind} {p : Showing} {effect : Effect} {answers : State → Result T Refusal → Type 0}
-    {s t : State} {e : Refusal} {r : Result T Refusal} →
-    VisitsRootWithEffect p effect s t (Err e) → s ≡ Going z → IsClosed z → (Settles t (Err e) → answers t (Err e)) →
+pub visit_refused : {T : Type 0} {z : Kind} {x : Bool} {p : Showing} {effect : Effect}
+    {answers : State → Result T Refusal → Type 0} {s t : State} {e : Refusal} {r : Result T Refusal} →
+    VisitsByRoot x p effect s t (Err e) → s ≡ Going z → IsClosed z → (Settles t (Err e) → answers t (Err e)) →
     IsErr r → e ≡ err_or e r → AnswersVisitOf z p effect answers r
 visit_refused v is closed up h i = rw (same_err _ h i) (visit_answered v is closed up)
 
--- A root is refused with what a collector in this state refuses, or with what its visit left.
-pub root_refused : {p : Showing} {effect : Effect} (s t : State) (r : Result Unit Refusal) → VisitsRoot p s r t →
-    VisitsRootWithEffect p effect s t r → IfErr r (RefusesVisit p effect s)
-root_refused s t (Ok u) v h = tt
-root_refused (Failed x) t (Err e) v h = inl v.0
-root_refused (Going b) (Failed x) (Err e) v (not_begun y k) = absurd (k.1 v.0)
-root_refused (Going b) (Going c) (Err e) v (not_begun y k) = inl (v.0, k.1)
-root_refused (Going b) t (Err e) v (root_visited o w l i k) =
-    inr (b, refl, visit_answered (root_visited o w l i k) refl o.0 (λ y. y))
+-- ---- the collector of a builder
+-- What a contract of a builder sees, it sees as it is.
+pub as_graph-as_graph : (c : State) → as_graph (as_graph c) ≡ as_graph c
+as_graph-as_graph (Failed q) = refl
+as_graph-as_graph (Going (OfGraph c)) = refl
+as_graph-as_graph (Going (OfSum a)) = refl
+
+-- A visit of a root keeps the collector of a builder one of a flame graph.
+pub graph_kept : (p : Showing) (c t : State) (r : Result Unit Refusal) → VisitsRoot p (as_graph c) r t → as_graph t ≡ t
+graph_kept p (Failed q) t r v = ap as_graph v.1 ∙ sym v.1
+graph_kept p (Going (OfSum a)) t r v = ap as_graph v.1 ∙ sym v.1
+graph_kept p (Going (OfGraph c)) (Failed q) r v = refl
+graph_kept p (Going (OfGraph c)) (Going (OfGraph d)) r v = refl
+graph_kept p (Going (OfGraph c)) (Going (OfSum d)) (Ok u) v = absurd (false≢true (ap is_graph v.4))
+graph_kept p (Going (OfGraph c)) (Going (OfSum d)) (Err e) v = absurd (false≢true v.3)
+
+-- A visit by a root visitor of a builder's collector is a visit of a root of the builder.
+pub built_visits : {x : Bool} {p : Showing} {effect : Effect} (c : State) {t : State} {r : Result Unit Refusal} →
+    VisitsByRoot x p effect (as_graph c) t r → VisitsRoot p (as_graph c) r (as_graph t)
+built_visits {p = p} c {t} {r} v = rw (graph_kept p c t r (root_visited v)) (root_visited v)
+
+-- A strict visit by a root visitor of a builder's collector refuses only if it must.
+pub built_strict : {x : Bool} {p : Showing} {effect : Effect} (c : State) {t : State} {r : Result Unit Refusal} →
+    VisitsByRoot x p effect (as_graph c) t r → RootFailsOnlyIfFull x p (as_graph c) r (as_graph t)
+built_strict {p = p} c {t} {r} v = rw (graph_kept p c t r (root_visited v)) (root_strict v)
 
 -- Two runs are one of all that r allows, if r allows what both show.
 visits_joined : {p q r : Showing} (s m t : State) (u v w : Unit) → ((f : Forest) → Both p q f → r f) →
@@ -180,20 +214,6 @@ pub only_if_full_indexed : {T : Type 0} (w y : Bool) (p : T → Showing) (xs : L
 only_if_full_indexed w y p xs i x s m t u {e} only err g k l is =
     rw (← around_item xs i x l is, err) (only_if_full_among w y p (take i xs) x (drop (suc i) xs) s m t u e only g k)
 
--- The root with this index is refused with what its visit left, after the roots before it were visited.
-pub refused_indexed : {T : Type 0} (p : T → Showing) (effect : T → Effect) (xs : List T) (i : ℕ) (x : T) (s m : State)
-    {e : Refusal} {r : Result Unit Refusal} → r ≡ Err e → VisitsRoot (each_shows p (take i xs)) s (Ok tt) m →
-    RefusesVisit (p x) (effect x) m e → i < length xs → x ≡ get_or xs i x → IfErr r (RefusesVisits p effect xs s)
-refused_indexed p effect xs i x s m err k h l is = rw err (inr (record {
-  before = take i xs;
-  root = x;
-  after = drop (suc i) xs;
-  are = sym (around_item xs i x l is);
-  left = m;
-  visited = k;
-  refused = h;
-}))
-
 -- If all roots are strict, so is the root with this index.
 pub one_of_all : {T : Type 0} (q : T → Bool) (xs : List T) (i : ℕ) (x : T) → i < length xs → x ≡ get_or xs i x →
     IsTrue (list_all q xs) → IsTrue (q x)
@@ -240,5 +260,8 @@ sum_of_profiles p q o o' m a b e =
           (whole_following a.shown b.shown a.whole b.whole apart, is ∙ graphs_add a.shown b.shown can);
     }
 
+-- The rules for visits by a root visitor, also of the collector of a builder.
+pub ruleset by_root_visitor = (root_visited, root_strict, as_graph-as_graph, built_visits, built_strict)
+
 -- The rules for visits of roots.
-pub ruleset running = (visits_one_more, profile_ended, sum_of_profiles, root_refused)
+pub ruleset running = (visits_one_more, profile_ended, sum_of_profiles, by_root_visitor)

@@ -1,11 +1,11 @@
 -- How a loop over an iterator shows one more item, and what a whole run of it shows.
 use Rattle.std.proofs.Common.{Bool, false, true, ℕ, zero, suc, codes, ◌+◌, ◌*◌, ◌<◌, ◌^◌, length, drop, filter_map}
 use Rattle.std.proofs.Common.{arith, ◌⊎◌, inl, inr, List, [], ◌∷◌, ◌++◌, map, ◌≡◌, Option, None}
-use Rattle.std.proofs.Common.{Some, Result, Ok, Err, refl, sym, ◌∙◌, ap, subst}
+use Rattle.std.proofs.Common.{Some, Result, Ok, Err, IfErr, refl, sym, ◌∙◌, ap, subst}
 use Rattle.allocative.proofs.Common.{Restore, Yields, Refusal, Key, Forest, Kind, State, Showing, Nothing, Both}
 use Rattle.allocative.proofs.Common.{Inside, Field, each_shows, slice_shows, OpensEntry, checked, size_product}
 use Rattle.allocative.proofs.Common.{are_shown_each, bytes_shown, CountsRun, in_any_order, Visitor, IsDeclared, CanTake}
-use Rattle.allocative.proofs.Common.{FailsOnlyIfFull, with_state, Entered, Means, ClosesEntry}
+use Rattle.allocative.proofs.Common.{FailsOnlyIfFull, with_state, Entered, Means, ClosesEntry, AddsForest, HasFailed}
 use Rattle.std.proofs.lemmas.List.{map-append, length-map}
 use Rattle.std.proofs.lemmas.List.Elements.{All-nil, All-cons, All-head, All-tail}
 use Rattle.std.proofs.lemmas.Bool.Decides.{nat_tests}
@@ -23,7 +23,7 @@ use Rattle.allocative.proofs.Strict.{declared_nothing, declared_first, declared_
 use Rattle.allocative.proofs.Strict.{each_append, each_one, entry_fits, not_strict, only_if_full_as, only_if_full_within}
 use Rattle.allocative.proofs.Strict.{only_if_full_not_within, around_item, none_of_it}
 use Rattle.allocative.proofs.Visits.{adds_entry, adds_weaker, entry_err, close_cause, not_entered, not_entered_cause}
-use Rattle.allocative.proofs.Making.{gives_within, gives_refused}
+use Rattle.allocative.proofs.Making.{entered_at, gives_within, gives_refused}
 use Rattle.allocative.proofs.ContainerMeaning.{plain_slice, slice_is_each, entry_declared, checked_fits}
 
 -- Items in two runs are the items one after another.
@@ -61,8 +61,8 @@ along_run {steps = steps} {s = s} xs d h =
     record { along = λ i ys y. rw (← same_items {steps = steps} {s = s} xs d (record { runs = y })) (h.only_if_full i) }
 
 -- The items so far and the next one begin the list that every run gives.
-pub begins : {S A B : Type 0} (steps : S → Option A → S → Type 0) (v : A → B) (s : S) {u : S} (t : S) {x : A} (xs : List A)
-    (ys : List B) → Yields steps s xs t → steps t (Some x) u → AlwaysYields steps v s ys →
+pub begins : {S A B : Type 0} (steps : S → Option A → S → Type 0) (v : A → B) (s : S) {u : S} (t : S) {x : A}
+    (xs : List A) (ys : List B) → Yields steps s xs t → steps t (Some x) u → AlwaysYields steps v s ys →
     (rest : List B) × (map v xs ++ v x ∷ rest ≡ ys)
 begins steps v s {u = u} t {x = x} [] [] e g y = absurd (y x u (subst (λ z. steps z (Some x) u) (sym e) g))
 begins steps v s {u = u} t {x = x} [] (z ∷ zs) e g y =
@@ -89,13 +89,26 @@ along_refused steps {s = s} {u = u} t {v} {p} {x} xs is g n f z = record {
       ((entered_as both (means_append p (map v xs) (v x ∷ drop (suc (length xs)) ys))).only_if_full i);
 }
 
+-- An entry that is left shows what was shown inside it, and an Err is the cause.
+left_within : {p : Showing} {k : Key} {n : ℕ} {o : Restore} {s t c d : State} (r : Result (Unit {0}) Refusal) →
+    OpensEntry false k (Some n) s (Ok o) t → AddsForest p t r c → IfErr r (HasFailed c) → ClosesEntry o c d →
+    AddsForest (Inside k n p) s r d × IfErr r (HasFailed d)
+left_within (Ok u) g h c l = (adds_entry g refl h l refl, tt)
+left_within (Err e) g h c l = (entry_err g refl h l, close_cause l c)
+
 -- An entry is entered with what is entered inside it, once it is left.
 entered_within : {p : Showing} {k : Key} {n : ℕ} {o : Restore} {a b : Visitor} {t d : State}
     {r : Result (Unit {0}) Refusal} →
     OpensEntry false k (Some n) a.collector.now (Ok o) t → Entered false p (with_state a t) b r →
     ClosesEntry o b.collector.now d → Entered false (Inside k n p) a (with_state b d) r
-entered_within {r = Ok u} g h l = record { same_reference = h.same_reference; same_outer = h.same_outer; shown = adds_entry g refl h.shown l refl; cause = tt; only_if_full = not_strict }
-entered_within {r = Err e} g h l = record { same_reference = h.same_reference; same_outer = h.same_outer; shown = entry_err g refl h.shown l; cause = close_cause l h.cause; only_if_full = not_strict }
+entered_within {p = p} {k = k} {n = n} {r = r} g h l =
+    let left = left_within {p = p} {k = k} {n = n} r g h.shown h.cause l in record {
+      same_reference = h.same_reference;
+      same_outer = h.same_outer;
+      shown = left.0;
+      cause = left.1;
+      only_if_full = not_strict;
+    }
 
 -- The entry `data` was refused.
 pub data_refused : {S A B : Type 0} {e : Bool} {steps : S → Option A → S → Type 0} {s : S} {v : A → B} {p : B → Showing}
@@ -103,7 +116,7 @@ pub data_refused : {S A B : Type 0} {e : Bool} {steps : S → Option A → S →
     r ≡ Err x → OpensEntry false (codes "data") (Some 8) a.collector.now (Err x) t →
     EntersData e steps s v p a (with_state a t) r
 data_refused is g = rw is (record {
-  entered = record { same_reference = refl; same_outer = refl; shown = not_entered g; cause = not_entered_cause g; only_if_full = not_strict };
+  entered = entered_at (not_entered g) (not_entered_cause g) not_strict;
   only_if_full = record { along = λ i ys y. only_if_full_not_within g };
   first = first_refused g;
   plan = gives_refused g;
@@ -133,7 +146,8 @@ pub entered_list : {S A B : Type 0} {d e : Bool} {steps : S → Option A → S �
 entered_list {steps = steps} {s = s} {v = v} {q = q} {all = all} y h k = record {
   same_reference = h.same_reference;
   same_outer = h.same_outer;
-  shown = adds_weaker (λ f (o : IsOfRun steps s v q f). subst (λ ys. q ys f) (same_items o.given o.drained y) o.shown) h.shown;
+  shown = adds_weaker
+      (λ f (o : IsOfRun steps s v q f). subst (λ ys. q ys f) (same_items o.given o.drained y) o.shown) h.shown;
   cause = h.cause;
   only_if_full = λ i. k.along i all y.runs;
 }

@@ -58,7 +58,8 @@ bytes_of_all p (First k n i inside after) =
 bytes_of_all p (Again k n i after) = omega (arith, bytes_of_all p after)
 
 -- A forest that is added to the collector of a flame graph adds all its bytes to those entered.
-pub bytes_entered-plus : (c : Live) (f : Forest) → bytes_entered (plus_live c f).sums ≡ bytes_entered c.sums + all_bytes f
+pub bytes_entered-plus : (c : Live) (f : Forest) →
+    bytes_entered (plus_live c f).sums ≡ bytes_entered c.sums + all_bytes f
 bytes_entered-plus c f = bytes_entered-add_all c.sums (entries_at c.here f)
     ∙ ap (λ n. bytes_entered c.sums + n) (bag-append (own_behind c.here f) (content_entries f) ∙ bytes_of_all c.here f)
 
@@ -305,7 +306,8 @@ pub each_append : {T : Type 0} (p : T → Showing) (xs ys : List T) (f : Forest)
     Both (each_shows p xs) (each_shows p ys) f → each_shows p (xs ++ ys) f
 each_append p [] ys f (g, h, none, rest, e) = subst (each_shows p ys) (sym (e ∙ rw none refl)) rest
 each_append p (x ∷ xs) ys f (g, h, (g1, g2, first, more, e1), rest, e) =
-    (g1, followed_by g2 h, first, each_append p xs ys (followed_by g2 h) (g2, h, more, rest, refl), e ∙ rw e1 (followed_by_assoc g1 g2 h))
+    let rest' = each_append p xs ys (followed_by g2 h) (g2, h, more, rest, refl) in
+    (g1, followed_by g2 h, first, rest', e ∙ rw e1 (followed_by_assoc g1 g2 h))
 
 -- If the items of two lists joined are declared, so are those of one list followed by those of the other.
 pub declared_append : {T : Type 0} (p : T → Showing) (xs ys : List T) → IsDeclared (each_shows p (xs ++ ys)) →
@@ -328,7 +330,8 @@ around_item xs i x l e = (λ k. take i xs ++ e k ∷ drop (suc i) xs) ∙ sym (s
 -- If a visit fails only if full at a new content that is opened and closed, so does the visit of the shared entry.
 pub only_if_full_content : {p : Showing} {k : Key} {n : ℕ} {i : Identity} {o : Restore} {s t c d : State}
     {r : Result Unit Refusal} →
-    OpensShared k n i s (Ok true) t → FailsOnlyIfFull p t r c → ClosesEntry o c d → FailsOnlyIfFull (Shared k n i p) s r d
+    OpensShared k n i s (Ok true) t → FailsOnlyIfFull p t r c → ClosesEntry o c d →
+    FailsOnlyIfFull (Shared k n i p) s r d
 only_if_full_content {k = k} {n} {i} {o} (enters_first {c = b} room new e) (has_added {c = c} f x t j) m =
     rw m.closes (has_added {b = OfGraph b} {c = leave o c} (First k n i f Empty) (inl (f, x, refl))
     (takes_shared k n i b f new (rw e at t)) (cc (inside_first k n i b f o)))

@@ -1,5 +1,5 @@
 -- How visits compose: one after another, and inside an entry.
-use Rattle.std.proofs.Common.{Bool, true, false, inl, inr, Option, ◌≡◌, ℕ, suc, [], Result, Ok, Err, refl, sym, ◌∙◌}
+use Rattle.std.proofs.Common.{Bool, true, false, inl, inr, Option, ◌≡◌, ℕ, suc, Result, Ok, Err, refl, sym, ◌∙◌}
 use Rattle.std.proofs.Common.{IsErr, ap, subst, arith, Some, None}
 use Rattle.allocative.proofs.Common.{Restore, Refusal, Key, Identity, Forest, Empty, First, Again, followed_by}
 use Rattle.allocative.proofs.Common.{entry_of, Live, Kind, OfGraph, State, Failed, Going, enter, enter_first, plus}
@@ -122,7 +122,8 @@ inside_failed : {p q : Showing} {b d : Kind} (o : Restore) {c : State} {y x : Re
 inside_failed o refused = refused
 
 -- An entry in which a visit returns Err.
-pub entry_err : {u : Bool} {p q : Showing} {k : Key} {y : Option ℕ} {o w : Restore} {s t a c d : State} {z x : Refusal} →
+pub entry_err : {u : Bool} {p q : Showing} {k : Key} {y : Option ℕ} {o w : Restore} {s t a c d : State}
+    {z x : Refusal} →
     OpensEntry u k y s (Ok o) t → a ≡ t → AddsForest p a (Err z) c → ClosesEntry w c d → AddsForest q s (Err x) d
 entry_err {p = p} {w = w} {c = c} {z = y} (is_entered {c = d} r f e) i s l =
     rw l.closes (inside_failed w (subst (λ (z : State). AddsForest p z (Err y) c) i s))

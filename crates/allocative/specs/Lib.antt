@@ -12,10 +12,10 @@ pub mod PackShows
 pub mod Roots
 pub mod Kinds
 pub mod Lending
-pub mod RefusedVisits
 pub mod SizeOf
 -- The definitions of the crates below are exported again.
 pub use Rattle.allocative_described.specs.Sizes
+pub use Rattle.allocative_described.specs.Layouts
 pub use Rattle.allocative_graph.specs.Path
 pub use Rattle.allocative_graph.specs.Format
 pub use Rattle.allocative_graph.specs.Identity

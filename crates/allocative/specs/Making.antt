@@ -70,8 +70,8 @@ MakesPlan p old new r = Makes p old.collector.now r new.collector.now
 pub data MakesFirst (k : Key) (size : Option ℕ) (old new : Visitor) : Result Unit Refusal → Type 0 where
   first_refused : {e : Refusal} → OpensEntry false k size old.collector.now (Err e) new.collector.now
       → MakesFirst k size old new (Err e)
-  first_entered : {o : Restore} {w : State} {r : Result Unit Refusal} → OpensEntry false k size old.collector.now (Ok o) w
-      → MakesFirst k size old new r
+  first_entered : {o : Restore} {w : State} {r : Result Unit Refusal}
+      → OpensEntry false k size old.collector.now (Ok o) w → MakesFirst k size old new r
 
 -- A visitor whose collector had failed returns its first cause, and the collector stays as it is. Nothing is said of
 -- one that has not failed.

@@ -7,6 +7,7 @@ use Rattle.std.specs.declared.alloc.Global.{Global}
 use Rattle.allocative_graph.specs.declared.refusal.Refusal.{Refusal}
 use Rattle.allocative_graph.specs.Collector.{State}
 use Rattle.allocative_graph.specs.Visits.{OpensRoot}
+use Rattle.allocative.specs.Kinds.{as_graph}
 use Rattle.allocative.specs.declared.allocative_trait.Allocative.{Ghosts}
 use Rattle.allocative.specs.declared.run.registry.Registry.{Registry}
 use Rattle.allocative.specs.declared.visitor.Visitor.{Visitor}
@@ -24,11 +25,11 @@ are_strict members r = list_all (λ b. (members b).is_strict) (roots_of r)
 
 -- The builder ends as the last state of the collector.
 abbrev pub LendsBuilt : MutBor State → MutBor State → Fml
-LendsBuilt s r = Lends builder.the_row collector.the_row s r (λ c. c)
+LendsBuilt s r = Lends builder.the_row collector.the_row s r as_graph
 
 -- The builder ends as the collector that the root visitor leaves or, if no visitor is returned, as beginning says.
 abbrev pub LendsRoot : MutBor State → Result Visitor Refusal → Fml
 LendsRoot s r =
     follows_so builder.the_row collector.the_row s.ghost_name (name_if_ok (λ v. v.collector.ghost_name) r)
-    (λ w b. OnOk r (b ≡ w))
+    (λ w b. OnOk r (b ≡ as_graph w))
     (λ b. IfErr r (λ e. OpensRoot s.now (Err e) b))

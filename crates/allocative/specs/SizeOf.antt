@@ -1,13 +1,14 @@
--- What the calls for held and owned bytes return, and why they are refused.
+-- What the calls of sizes return, and why they are refused.
 use Rattle.std.specs.Prelude.{◌≡◌, ℕ, ◌+◌, ◌<◌, ◌≤◌, ◌^◌, ◌⊎◌, Bool, IsTrue, Option, Some, Result, Ok, Err}
 use Rattle.allocative_graph.specs.declared.refusal.Refusal.{Refusal}
-use Rattle.allocative_graph.specs.declared.refusal.Refusal.TheVariants.{TooLarge}
+use Rattle.allocative_graph.specs.declared.refusal.Refusal.TheVariants.{Memory, TooLarge}
 use Rattle.allocative_graph.specs.Forest.{Forest}
 use Rattle.allocative_graph.specs.Owned.{held, ShowsNoContent, owned}
-use Rattle.allocative_graph.specs.Collector.{Kind, State, Going, OfSum, begin, close_entry, outer_of, nothing_held}
-use Rattle.allocative_graph.specs.Collector.{nothing_owned}
+use Rattle.allocative_graph.specs.Graph.{Graph, total}
+use Rattle.allocative_graph.specs.Collector.{Kind, State, Going, OfGraph, OfSum, begin, close_entry, outer_of}
+use Rattle.allocative_graph.specs.Collector.{no_entries, nothing_held, nothing_owned}
 use Rattle.allocative_graph.specs.Shows.{Showing}
-use Rattle.allocative_graph.specs.Visits.{Settles}
+use Rattle.allocative_graph.specs.Visits.{Settles, IsGraphOf}
 use Rattle.allocative.specs.Strict.{CanTake}
 use Rattle.allocative.specs.Closures.{AnswersSum}
 use Rattle.allocative.specs.Visited.{Effect, WasVisited}
@@ -70,3 +71,12 @@ MayRefuseOwned is_strict p e = IsTrue is_strict → (e ≡ TooLarge) × ¬ CanTa
 -- The result is what is answered of a collector of owned bytes after the visit: their sum, the first cause, or Open.
 abbrev pub AnswersOwned : Showing → Effect → Result ℕ Refusal → Type 0
 AnswersOwned p effect = AnswersVisitOf (OfSum nothing_owned) p effect AnswersSum
+
+-- The bytes of all that a value shows: the total of the graph of some whole showing that p allows.
+abbrev pub IsSizeOfShown : Showing → ℕ → Type 0
+IsSizeOfShown p bytes = (g : Graph) × IsGraphOf p g × (bytes ≡ total g)
+
+-- Why the bytes of all that a value shows are refused: memory runs out, or e is the first cause in a collector of a
+-- flame graph after the visit, or Open.
+abbrev pub RefusesShown : Showing → Effect → Refusal → Type 0
+RefusesShown p effect e = (e ≡ Memory) ⊎ AnswersVisitOf (OfGraph no_entries) p effect Settles (Err e)

@@ -1,5 +1,7 @@
 -- What the types of the language and of `std` may show.
 use Rattle.std.specs.Prelude.{ℕ, List, Option, None, Some, Result, Ok, Err, IsPermutation, codes}
+use Rattle.std.specs.declared.ops.Bound.{Bound}
+use Rattle.std.specs.declared.ops.Bound.TheVariants.{Included, Excluded, Unbounded}
 use Rattle.allocative_described.specs.Sizes.{shared_inner_size}
 use Rattle.allocative_graph.specs.Path.{Key}
 use Rattle.allocative_graph.specs.Forest.{Forest}
@@ -19,6 +21,12 @@ option_inside size p (Some v) = Field (codes "Some") size (p v)
 abbrev pub result_inside : {T E : Type 0} → Option ℕ → Option ℕ → (T → Showing) → (E → Showing) → Result T E → Showing
 result_inside ok_size err_size p q (Ok v) = Field (codes "Ok") ok_size (p v)
 result_inside ok_size err_size p q (Err e) = Field (codes "Err") err_size (q e)
+
+-- The inside of the entry of a `Bound`: its value under `Included` or `Excluded`, or nothing.
+abbrev pub bound_inside : {T : Type 0} → Option ℕ → (T → Showing) → Bound T → Showing
+bound_inside size p (Included v) = Field (codes "Included") size (p v)
+bound_inside size p (Excluded v) = Field (codes "Excluded") size (p v)
+bound_inside size p Unbounded = Nothing
 
 -- The forests of some items, in any order.
 abbrev pub in_any_order : {T : Type 0} → (T → Showing) → List T → Showing

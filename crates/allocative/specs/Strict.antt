@@ -1,4 +1,4 @@
--- When a visit refuses only if it must.
+-- When a visit, a profile and the sum of two profiles refuse only if they must.
 use Rattle.std.specs.Prelude.{◌≡◌, ℕ, suc, ◌+◌, ◌<◌, ◌^◌, Bool, true, IsTrue, ⊤, Result, Ok, Err}
 use Rattle.allocative_graph.specs.declared.refusal.Refusal.{Refusal}
 use Rattle.allocative_graph.specs.declared.refusal.Refusal.TheVariants.{Memory, TooLarge, Open}
@@ -7,6 +7,7 @@ use Rattle.allocative_graph.specs.Sums.{bytes_entered}
 use Rattle.allocative_graph.specs.Collector.{Kind, OfGraph, OfSum, State, Failed, Going, plus, plus_sum, Takes, is_graph}
 use Rattle.allocative_graph.specs.Collector.{begin, IsClosed, no_entries}
 use Rattle.allocative_graph.specs.Shows.{Showing}
+use Rattle.allocative_graph.specs.Visits.{Profile, IsProfileOf}
 
 -- The bytes of all entries of f, with those of its contents.
 abbrev pub all_bytes : Forest → ℕ
@@ -76,6 +77,14 @@ RootFailsOnlyIfFull is_strict p (Going b) (Err e) t =
     IsTrue is_strict → IsClosed b → (t ≡ Failed e) × MayRefuse p (begin b) e
 
 -- Why the profile of a strict p is refused: with Memory, or with TooLarge, if an empty collector of a flame graph
--- with a root visitor open cannot take all that p allows.
+-- cannot take all that p allows.
 abbrev pub MayRefuseProfile : Bool → Showing → Refusal → Type 0
-MayRefuseProfile is_strict p e = IsTrue is_strict → MayRefuse p (begin (OfGraph no_entries)) e
+MayRefuseProfile is_strict p e = IsTrue is_strict → MayRefuse p (OfGraph no_entries) e
+
+-- Why the sum of two profiles is refused. The left one, of what p allows, is refused as its profile may be. Or it was
+-- made, and the right one, of what q allows, is refused so. Or both were made, and memory runs out when they are added.
+pub data RefusesInTwo (is_strict : Bool) (p q : Showing) (e : Refusal) : Type 0 where
+  left_refused : MayRefuseProfile is_strict p e → RefusesInTwo is_strict p q e
+  right_refused : {left : Profile} → IsProfileOf p left → MayRefuseProfile is_strict q e → RefusesInTwo is_strict p q e
+  adding_refused : {left right : Profile} → IsProfileOf p left → IsProfileOf q right → e ≡ Memory
+      → RefusesInTwo is_strict p q e

@@ -3,7 +3,7 @@ use Rattle.std.specs.Prelude.{◌≡◌, Bool, IsTrue, Result, Ok, Err, IfErr, �
 use Rattle.allocative_graph.specs.declared.refusal.Refusal.{Refusal}
 use Rattle.allocative_graph.specs.Forest.{Forest}
 use Rattle.allocative_graph.specs.Shows.{Showing}
-use Rattle.allocative_graph.specs.Collector.{State, Restore, failed_with}
+use Rattle.allocative_graph.specs.Collector.{State, failed_with}
 use Rattle.allocative_graph.specs.Visits.{AddsForest, HasFailed, OpensRoot, Settles, ClosesEntry}
 use Rattle.allocative.specs.declared.visitor.Visitor.{Visitor}
 use Rattle.allocative.specs.Strict.{IsDeclared, FailsOnlyIfFull}
@@ -18,8 +18,8 @@ AnyEffect s r t = ⊤
 
 -- The visitor stays where it was, and its collector was shown what p allows, by a visit of this effect. A strict
 -- visit refuses only if it must.
-pub record Visited (is_strict : Bool) (p : Showing) (effect : Effect) (old new : Visitor) (r : Result (Unit {0}) Refusal)
-    : Type 0 where
+pub record Visited (is_strict : Bool) (p : Showing) (effect : Effect) (old new : Visitor)
+    (r : Result (Unit {0}) Refusal) : Type 0 where
   pub same_reference : new.collector.ghost_name ≡ old.collector.ghost_name
   pub same_outer : new.outer ≡ old.outer
   pub shown : AddsForest p old.collector.now r new.collector.now
@@ -70,11 +70,10 @@ pub record Means (is_strict : Bool) (p q : Showing) : Type 0 where
 pub record OnlyIf (is_strict is_strict' : Bool) : Type 0 where
   pub follows : IsTrue is_strict → IsTrue is_strict'
 
--- A visit of this effect by a root visitor, which shows p: no root visitor could be opened; or it was opened, the
--- visit was made there, the visitor was left, and the answer is what the collector settles.
-pub data VisitsRootWithEffect (p : Showing) (effect : Effect) (s t : State) (r : Result (Unit {0}) Refusal) : Type
-    0 where
-  not_begun : (e : Refusal) → Settles s (Err e) → VisitsRootWithEffect p effect s t r
-  root_visited : {o w : Restore} {a c : State} → OpensRoot s (Ok o) a → WasVisited p effect a c → ClosesEntry w c t →
-      w ≡ o
-      → Settles t r → VisitsRootWithEffect p effect s t r
+-- A visit of this effect by a root visitor, which shows p: no root visitor could be opened, and nothing changes; or it
+-- was opened, the visit was made there, the visitor was left, and the result is what the collector settles.
+pub data VisitsByRoot (is_strict : Bool) (p : Showing) (effect : Effect) (s t : State) : Result Unit Refusal → Type 0
+  where
+    not_begun : {e : Refusal} → OpensRoot s (Err e) t → VisitsByRoot is_strict p effect s t (Err e)
+    by_root : {v w : Visitor} {told r : Result Unit Refusal} → OpensRootAt s v → Visited is_strict p effect v w told
+        → Exits w t → Settles t r → VisitsByRoot is_strict p effect s t r

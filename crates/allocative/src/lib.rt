@@ -20,15 +20,15 @@ pub use crate::run::builder::FlameGraphBuilder;
 pub use crate::run::profile::{profile_value, profile_values};
 pub use crate::run::registry::{Registry, profile_roots};
 pub use crate::run::size_of::{
-    size_of_entries, size_of_owned, size_of_unique, size_of_unique_allocated_data,
+    size_of_entries, size_of_owned, size_of_shown, size_of_unique, size_of_unique_allocated_data,
 };
 pub use crate::run::sum_of_two::profile_in_two;
 pub use crate::run::{builder, profile, registry, size_of, sum_of_two};
+pub use crate::visitor::slices::are_shown_each;
 pub use crate::visitor::{Visitor, by_hand, collector, entries};
 pub use allocative_collectors::output::{FlameGraphOutput, WarnedPath};
 pub use allocative_described::{
-    And, Described, Fields, Fixed, Or, Record, raw_table_alloc_size_for_len, raw_table_law,
-    shared_inner_size, up_law,
+    Described, Layout, raw_table_alloc_size_for_len, raw_table_law, shared_inner_size, up_law,
 };
 pub use allocative_graph::flamegraph::{Child, FlameGraph, Row, push_path};
 pub use allocative_graph::key::Key;

@@ -138,7 +138,7 @@ impl<K: IntoKey, P: Part> Part for Declared<K, P> {
 pub struct Whole<'a, T, P>(pub &'a T, pub P);
 
 impl<'a, T: Described, P: Part> Part for Whole<'a, T, P> {
-    ghost may_show = { λ e. shows.Field T.name T.size (P.may_show e.1) };
+    ghost may_show = { λ e. shows.Field T.layout.name T.layout.size (P.may_show e.1) };
 
     ghost is_strict = { P.is_strict };
 
@@ -185,7 +185,7 @@ impl<K: IntoKey, P: Part> Part for Unique<K, P> {
 pub struct Field<K, V>(pub K, pub V);
 
 impl<'a, K: IntoKey, T: Allocative + Described> Part for Field<K, &'a T> {
-    ghost may_show = { λ f. shows.Field (K.key f.0) T.size (T.may_show f.1.now) };
+    ghost may_show = { λ f. shows.Field (K.key f.0) T.layout.size (T.may_show f.1.now) };
 
     ghost is_strict = { T.is_strict };
 

@@ -4,7 +4,7 @@
 ghost use Rattle.std.specs.Prelude.{◌≡◌, IfOk, IfErr, Some, true, false};
 ghost use Rattle.allocative_graph.specs.Shows.{Inside, Nothing};
 ghost use Rattle.allocative.specs.Making.{MakesPlan, one};
-ghost use Rattle.allocative.specs.Visited.{Entered, WasVisited, Refused, Exits};
+ghost use Rattle.allocative.specs.Visited.{Entered, Refused, Exits};
 ghost use Rattle.allocative.specs.Lending.{LendsNested, LendsShared, Nests, EntersShared, IsRefused, visitor_or};
 ghost use Rattle.std.specs.Borrow.{sem};
 
@@ -96,9 +96,9 @@ impl Visitor<'_> {
     /// `TooLarge`; all else is as in `enter`.
     #[inline(always)]
     pub fn enter_self_sized<T: Described>(&mut self) -> Result<Visitor<'_>, Refusal>
-        ensures* lent { sem 𝓛 (LendsNested false T.name T.size self.entry result) }
-        ensures entered { IfOk result (Nests false T.name T.size self.old) }
-        ensures refused { IfErr result (IsRefused false T.size self.old) }
+        ensures* lent { sem 𝓛 (LendsNested false T.layout.name T.layout.size self.entry result) }
+        ensures entered { IfOk result (Nests false T.layout.name T.layout.size self.old) }
+        ensures refused { IfErr result (IsRefused false T.layout.size self.old) }
     {
         self.enter_sized(Key::for_type_name::<T>(), T::size())
     }
@@ -106,9 +106,9 @@ impl Visitor<'_> {
     /// Enters inline with the declared name and size of the value's type, as `enter_self_sized` does.
     #[inline(always)]
     pub fn enter_self<T: Described>(&mut self, _this: &T) -> Result<Visitor<'_>, Refusal>
-        ensures* lent { sem 𝓛 (LendsNested false T.name T.size self.entry result) }
-        ensures entered { IfOk result (Nests false T.name T.size self.old) }
-        ensures refused { IfErr result (IsRefused false T.size self.old) }
+        ensures* lent { sem 𝓛 (LendsNested false T.layout.name T.layout.size self.entry result) }
+        ensures entered { IfOk result (Nests false T.layout.name T.layout.size self.old) }
+        ensures refused { IfErr result (IsRefused false T.layout.size self.old) }
     {
         self.enter_self_sized::<T>()
     }
@@ -162,13 +162,10 @@ impl Visitor<'_> {
         self.visit_sized(key, Some(size))
     }
 
-    /// What an object shows. This is the only call through the `dyn`, whose clauses callers cite. It is strict if the
-    /// type of the object is.
+    /// What an object shows. It is strict if the type of the object is.
     pub(crate) fn visit_object(&mut self, object: &dyn Allocative) -> Result<(), Refusal>
-        ensures entered { Entered (Allocative-dyn object.now).is_strict
+        ensures { Entered (Allocative-dyn object.now).is_strict
             (may_show object.now) self.old self.new result }
-        ensures visited { WasVisited (may_show object.now) (effect object.now)
-            self.old.collector.now self.new.collector.now }
     {
         if let Err(refusal) = object.visit(self) {
             return Err(self.refuse(refusal));
@@ -178,9 +175,7 @@ impl Visitor<'_> {
 
     /// What a value of a known type shows. It is strict if the type is.
     pub(crate) fn visit_value<T: Allocative>(&mut self, value: &T) -> Result<(), Refusal>
-        ensures entered { Entered T.is_strict (T.may_show value.now) self.old self.new result }
-        ensures visited { WasVisited (T.may_show value.now) (T.effect value.now)
-            self.old.collector.now self.new.collector.now }
+        ensures { Entered T.is_strict (T.may_show value.now) self.old self.new result }
     {
         if let Err(refusal) = value.visit(self) {
             return Err(self.refuse(refusal));

@@ -1,189 +1,138 @@
-//! Layouts: that of a struct or an enum, which follows from the types of its fields, and those given by numbers.
+//! Layouts, and the rules that put the sizes of parts together.
 
-ghost use Rattle.std.specs.Prelude.{◌≡◌, ℕ, ◌≤◌, Option, Some, Bool, false, ◌||◌, max, codes};
-ghost use Rattle.allocative_described.specs.Sizes.{size_sum, size_max, size_up};
+ghost use Rattle.std.specs.Prelude.{◌≡◌, ◌≤◌};
+ghost use Rattle.allocative_described.specs.Layouts.{declared, empty, ◌with◌, ◌or◌, pad_to_align};
+ghost use Rattle.allocative_described.specs.Sizes.{size_sum, size_product, size_max, size_up};
 
-use crate::described::{Described, size_max, size_sum, size_up};
-use std::marker::PhantomData;
+use std::marker::Model;
 
-/// A list of field types: `()`, or a described type and a list, as `(u64, (String, ()))`.
-pub trait Fields {
-    // The greatest alignment in bytes.
-    ghost align: { ℕ };
-
-    // Whether a field has something to drop.
-    ghost needs_drop: { Bool };
-
-    // The sum of the sizes in bytes, or `None` if it does not fit a word.
-    ghost sum: { Option ℕ };
-
-    /// The greatest alignment of a field in bytes, and 1 if there is no field.
-    fn align() -> usize
-        ensures value { result ≡ align }
-        ensures positive { 1 ≤ result };
-
-    /// Whether a field has something to drop.
-    fn needs_drop() -> bool
-        ensures { result ≡ needs_drop };
-
-    /// The sum of the fields' sizes in bytes. `None` if the size of a field is `None`, or if the sum
-    /// exceeds `usize::MAX`.
-    fn sum() -> Option<usize>
-        ensures { result ≡ sum };
-}
-
-impl Fields for () {
-    ghost align = { 1 };
-
-    ghost needs_drop = { false };
-
-    ghost sum = { Some 0 };
-
-    fn align() -> usize {
-        1
-    }
-
-    fn needs_drop() -> bool {
-        false
-    }
-
-    fn sum() -> Option<usize> {
-        Some(0)
-    }
-}
-
-impl<A: Described, F: Fields> Fields for (A, F) {
-    ghost align = { max A.align F.align };
-
-    ghost needs_drop = { A.needs_drop || F.needs_drop };
-
-    ghost sum = { size_sum A.size F.sum };
-
-    fn align() -> usize {
-        A::align().max(F::align())
-    }
-
-    fn needs_drop() -> bool {
-        A::needs_drop() || F::needs_drop()
-    }
-
-    fn sum() -> Option<usize> {
-        size_sum(A::size(), F::sum())
-    }
-}
-
-/// The fields of one list, and those of another, as `And<(u64, (String, ())), (u8, ())>`. The proofs of a type with
-/// parameters and many fields take fewer steps if its fields are in lists of a few.
-pub struct And<F, G>(PhantomData<F>, PhantomData<G>);
-
-impl<F: Fields, G: Fields> Fields for And<F, G> {
-    ghost align = { max F.align G.align };
-
-    ghost needs_drop = { F.needs_drop || G.needs_drop };
-
-    ghost sum = { size_sum F.sum G.sum };
-
-    fn align() -> usize {
-        F::align().max(G::align())
-    }
-
-    fn needs_drop() -> bool {
-        F::needs_drop() || G::needs_drop()
-    }
-
-    fn sum() -> Option<usize> {
-        size_sum(F::sum(), G::sum())
-    }
-}
-
-/// The fields of one variant or of another: room for the greater of the two. Three variants are
-/// `Or<F, Or<G, H>>`.
-pub struct Or<F, G>(PhantomData<F>, PhantomData<G>);
-
-impl<F: Fields, G: Fields> Fields for Or<F, G> {
-    ghost align = { max F.align G.align };
-
-    ghost needs_drop = { F.needs_drop || G.needs_drop };
-
-    ghost sum = { size_max F.sum G.sum };
-
-    fn align() -> usize {
-        F::align().max(G::align())
-    }
-
-    fn needs_drop() -> bool {
-        F::needs_drop() || G::needs_drop()
-    }
-
-    fn sum() -> Option<usize> {
-        size_max(F::sum(), G::sum())
-    }
-}
-
-/// What a struct of these fields declares: the sum of their sizes, rounded up to the greatest alignment. No value
-/// has this type; a type's own implementation of `Described` asks it.
+/// What a type declares: its name, size and alignment, and whether it has something to drop.
+///
+/// The layout of a struct is put together of those of its fields, by `with`, and then padded. That of an enum has a
+/// tag of one byte as its first field, and behind it room for each variant, by `or`.
 ///
 /// ```
-/// type OrderLayout = Record<(u64, (String, ()))>;
-/// type ShapeLayout = Record<(u8, Or<(u32, ()), (u16, (u16, ()))>)>;
+/// let order = Layout::empty("Order").with(u64::layout()).with(String::layout()).pad_to_align();
+/// let shape = Layout::empty("Shape")
+///     .with(u8::layout())
+///     .with(u32::layout().or(Layout::empty("Square").with(u16::layout()).with(u16::layout())))
+///     .pad_to_align();
 /// ```
-///
-/// An enum has a tag of one byte as its first field, and behind it the fields of its variants by `Or`.
-pub struct Record<F>(PhantomData<F>);
+#[derive(Drop)]
+pub struct Layout {
+    pub(crate) name: &'static str,
+    pub(crate) size: Option<usize>,
+    pub(crate) align: usize,
+    pub(crate) needs_drop: bool,
+}
 
-impl<F: Fields> Described for Record<F> {
-    ghost name = { codes "Record" };
+impl Model for Layout {
+    ghost use Rattle.std.specs.Prelude.{◌≤◌};
+    ghost use Rattle.allocative_described.specs.Layouts.{Declaration, declaration};
 
-    ghost align = { F.align };
+    ghost Value = { Declaration };
 
-    ghost needs_drop = { F.needs_drop };
+    ghost view = { λ l. declaration l.name.now l.size l.align l.needs_drop };
 
-    ghost size = { size_up F.sum F.align };
+    ghost invariant = { λ l. 1 ≤ l.align };
+}
 
-    fn name() -> &'static str {
-        "Record"
+impl Layout {
+    /// A layout of this size and this alignment, which is at least 1, in bytes.
+    #[inline(always)]
+    pub fn new(name: &'static str, size: usize, align: usize, needs_drop: bool) -> Layout
+        requires { 1 ≤ align }
+        ensures { result ≡ declared name.now size align needs_drop }
+    {
+        Layout {
+            name,
+            size: Some(size),
+            align,
+            needs_drop,
+        }
     }
 
-    fn align() -> usize {
-        F::align()
+    /// A struct without fields: of no bytes, aligned to 1 byte, with nothing to drop.
+    #[inline(always)]
+    pub fn empty(name: &'static str) -> Layout
+        ensures { result ≡ empty name.now }
+    {
+        Layout::new(name, 0, 1, false)
     }
 
-    fn needs_drop() -> bool {
-        F::needs_drop()
+    /// A struct with one field more, behind the others without padding: the sum of the sizes and the greater alignment.
+    #[inline(always)]
+    pub fn with(self, field: Layout) -> Layout
+        ensures { result ≡ self with field }
+    {
+        Layout {
+            name: self.name,
+            size: size_sum(self.size, field.size),
+            align: self.align.max(field.align),
+            needs_drop: self.needs_drop || field.needs_drop,
+        }
     }
 
-    fn size() -> Option<usize> {
-        size_up(F::sum(), F::align())
+    /// Room for either, under this one's name: the greater size and the greater alignment.
+    #[inline(always)]
+    pub fn or(self, other: Layout) -> Layout
+        ensures { result ≡ self or other }
+    {
+        Layout {
+            name: self.name,
+            size: size_max(self.size, other.size),
+            align: self.align.max(other.align),
+            needs_drop: self.needs_drop || other.needs_drop,
+        }
+    }
+
+    /// The size rounded up to the alignment.
+    #[inline(always)]
+    pub fn pad_to_align(self) -> Layout
+        ensures { result ≡ pad_to_align self }
+    {
+        Layout {
+            size: size_up(self.size, self.align),
+            ..self
+        }
+    }
+
+    /// The size in bytes. `None` if it exceeds `usize::MAX`, or a size on the way to it did.
+    #[inline(always)]
+    pub fn size(&self) -> Option<usize>
+        ensures { result ≡ self.now.size }
+    {
+        self.size
     }
 }
 
-/// A size and an alignment in bytes, and whether there is something to drop. No value has this type; what shows entries
-/// of a size that is written names it. An alignment of 0 is that of 1 byte.
-pub struct Fixed<const SIZE: usize, const ALIGN: usize, const DROP: bool>();
+/// The sum of two sizes. `None` if one of them is `None`, or if the sum exceeds `usize::MAX`.
+pub(crate) fn size_sum(left: Option<usize>, right: Option<usize>) -> Option<usize>
+    ensures { result ≡ size_sum left right }
+{
+    left?.checked_add(right?)
+}
 
-impl<const SIZE: usize, const ALIGN: usize, const DROP: bool> Described
-    for Fixed<SIZE, ALIGN, DROP> {
-    ghost name = { codes "Fixed" };
+/// The product of two sizes. `None` if one of them is `None`, or if the product exceeds
+/// `usize::MAX`.
+pub(crate) fn size_product(left: Option<usize>, right: Option<usize>) -> Option<usize>
+    ensures { result ≡ size_product left right }
+{
+    left?.checked_mul(right?)
+}
 
-    ghost align = { max 1 ALIGN };
+/// The greater of two sizes. `None` if one of them is `None`.
+fn size_max(left: Option<usize>, right: Option<usize>) -> Option<usize>
+    ensures { result ≡ size_max left right }
+{
+    Some(left?.max(right?))
+}
 
-    ghost needs_drop = { DROP };
-
-    ghost size = { Some SIZE };
-
-    fn name() -> &'static str {
-        "Fixed"
-    }
-
-    fn align() -> usize {
-        ALIGN.max(1)
-    }
-
-    fn needs_drop() -> bool {
-        DROP
-    }
-
-    fn size() -> Option<usize> {
-        Some(SIZE)
-    }
+/// The least multiple of `align` that is not below `size`. `None` if the size is `None`, or
+/// if the multiple exceeds `usize::MAX`.
+pub(crate) fn size_up(size: Option<usize>, align: usize) -> Option<usize>
+    requires { 1 ≤ align }
+    ensures { result ≡ size_up size align }
+{
+    size?.checked_next_multiple_of(align)
 }

@@ -1,9 +1,10 @@
 //! Types of the crates that this one depends on.
 
-ghost use Rattle.std.specs.Prelude.{Some, codes, max, ◌||◌, true, false};
-ghost use Rattle.allocative_described.specs.Sizes.{size_sum, size_max, size_up, size_product};
+ghost use Rattle.std.specs.Prelude.{codes, true, false};
+ghost use Rattle.allocative_described.specs.Layouts.{declared, ◌with◌, ◌or◌, pad_to_align};
 
-use crate::described::{Described, size_max, size_product, size_sum, size_up};
+use crate::described::Described;
+use crate::layout::Layout;
 use either::Either;
 use indexmap::{IndexMap, IndexSet};
 use lru::LruCache;
@@ -15,269 +16,97 @@ use std::hash::{BuildHasher, Hash};
 
 // A byte for the tag, then room for either part.
 impl<L: Described, R: Described> Described for Either<L, R> {
-    ghost name = { codes "Either" };
+    ghost layout = { pad_to_align (declared (codes "Either") 1 1 false with (L.layout or R.layout)) };
 
-    ghost align = { max L.align R.align };
-
-    ghost needs_drop = { L.needs_drop || R.needs_drop };
-
-    ghost size = { size_up (size_sum (Some 1) (size_max L.size R.size)) (max L.align R.align) };
-
-    fn name() -> &'static str {
-        "Either"
-    }
-
-    fn align() -> usize {
-        L::align().max(R::align())
-    }
-
-    fn needs_drop() -> bool {
-        L::needs_drop() || R::needs_drop()
-    }
-
-    fn size() -> Option<usize> {
-        let greater = size_max(L::size(), R::size());
-        size_up(size_sum(Some(1), greater), Self::align())
+    fn layout() -> Layout {
+        Layout::new("Either", 1, 1, false)
+            .with(L::layout().or(R::layout()))
+            .pad_to_align()
     }
 }
 
 impl Described for anyhow::Error {
-    ghost name = { codes "anyhow::Error" };
+    ghost layout = { declared (codes "anyhow::Error") 8 8 true };
 
-    ghost align = { 8 };
-
-    ghost needs_drop = { true };
-
-    ghost size = { Some 8 };
-
-    fn name() -> &'static str {
-        "anyhow::Error"
-    }
-
-    fn align() -> usize {
-        8
-    }
-
-    fn needs_drop() -> bool {
-        true
-    }
-
-    fn size() -> Option<usize> {
-        Some(8)
+    fn layout() -> Layout {
+        Layout::new("anyhow::Error", 8, 8, true)
     }
 }
 
 // Entries of 24 bytes and a table of 32, then what makes its hashers.
 impl<K: Eq + Hash, V, S: BuildHasher + Described> Described for IndexMap<K, V, S> {
-    ghost name = { codes "IndexMap" };
+    ghost layout = { pad_to_align (declared (codes "IndexMap") 56 8 true with S.layout) };
 
-    ghost align = { max 8 S.align };
-
-    ghost needs_drop = { true };
-
-    ghost size = { size_up (size_sum (Some 56) S.size) (max 8 S.align) };
-
-    fn name() -> &'static str {
-        "IndexMap"
-    }
-
-    fn align() -> usize {
-        S::align().max(8)
-    }
-
-    fn needs_drop() -> bool {
-        true
-    }
-
-    fn size() -> Option<usize> {
-        size_up(size_sum(Some(56), S::size()), Self::align())
+    fn layout() -> Layout {
+        Layout::new("IndexMap", 56, 8, true)
+            .with(S::layout())
+            .pad_to_align()
     }
 }
 
-// Entries of 24 bytes and a table of 32, then what makes its hashers.
+// A map without values.
 impl<K: Eq + Hash, S: BuildHasher + Described> Described for IndexSet<K, S> {
-    ghost name = { codes "IndexSet" };
+    ghost layout = { pad_to_align (declared (codes "IndexSet") 56 8 true with S.layout) };
 
-    ghost align = { max 8 S.align };
-
-    ghost needs_drop = { true };
-
-    ghost size = { size_up (size_sum (Some 56) S.size) (max 8 S.align) };
-
-    fn name() -> &'static str {
-        "IndexSet"
-    }
-
-    fn align() -> usize {
-        S::align().max(8)
-    }
-
-    fn needs_drop() -> bool {
-        true
-    }
-
-    fn size() -> Option<usize> {
-        size_up(size_sum(Some(56), S::size()), Self::align())
-    }
-}
-
-impl Described for Value {
-    ghost name = { codes "Value" };
-
-    ghost align = { 8 };
-
-    ghost needs_drop = { true };
-
-    ghost size = { Some 32 };
-
-    fn name() -> &'static str {
-        "Value"
-    }
-
-    fn align() -> usize {
-        8
-    }
-
-    fn needs_drop() -> bool {
-        true
-    }
-
-    fn size() -> Option<usize> {
-        Some(32)
-    }
-}
-
-impl Described for Number {
-    ghost name = { codes "Number" };
-
-    ghost align = { 8 };
-
-    ghost needs_drop = { false };
-
-    ghost size = { Some 16 };
-
-    fn name() -> &'static str {
-        "Number"
-    }
-
-    fn align() -> usize {
-        8
-    }
-
-    fn needs_drop() -> bool {
-        false
-    }
-
-    fn size() -> Option<usize> {
-        Some(16)
+    fn layout() -> Layout {
+        Layout::new("IndexSet", 56, 8, true)
+            .with(S::layout())
+            .pad_to_align()
     }
 }
 
 // A map of 32 bytes, a bound and two pointers of 8 bytes each, then what makes the map's hashers.
 impl<K: Eq + Hash, V, S: BuildHasher + Described> Described for LruCache<K, V, S> {
-    ghost name = { codes "LruCache" };
+    ghost layout = { pad_to_align (declared (codes "LruCache") 56 8 true with S.layout) };
 
-    ghost align = { max 8 S.align };
-
-    ghost needs_drop = { true };
-
-    ghost size = { size_up (size_sum (Some 56) S.size) (max 8 S.align) };
-
-    fn name() -> &'static str {
-        "LruCache"
+    fn layout() -> Layout {
+        Layout::new("LruCache", 56, 8, true)
+            .with(S::layout())
+            .pad_to_align()
     }
+}
 
-    fn align() -> usize {
-        S::align().max(8)
+impl Described for Value {
+    ghost layout = { declared (codes "Value") 32 8 true };
+
+    fn layout() -> Layout {
+        Layout::new("Value", 32, 8, true)
     }
+}
 
-    fn needs_drop() -> bool {
-        true
-    }
+impl Described for Number {
+    ghost layout = { declared (codes "Number") 16 8 false };
 
-    fn size() -> Option<usize> {
-        size_up(size_sum(Some(56), S::size()), Self::align())
+    fn layout() -> Layout {
+        Layout::new("Number", 16, 8, false)
     }
 }
 
 impl<T> Described for OnceBox<T> {
-    ghost name = { codes "OnceBox" };
+    ghost layout = { declared (codes "OnceBox") 8 8 true };
 
-    ghost align = { 8 };
-
-    ghost needs_drop = { true };
-
-    ghost size = { Some 8 };
-
-    fn name() -> &'static str {
-        "OnceBox"
-    }
-
-    fn align() -> usize {
-        8
-    }
-
-    fn needs_drop() -> bool {
-        true
-    }
-
-    fn size() -> Option<usize> {
-        Some(8)
+    fn layout() -> Layout {
+        Layout::new("OnceBox", 8, 8, true)
     }
 }
 
 impl<T> Described for Slab<T> {
-    ghost name = { codes "Slab" };
+    ghost layout = { declared (codes "Slab") 40 8 true };
 
-    ghost align = { 8 };
-
-    ghost needs_drop = { true };
-
-    ghost size = { Some 40 };
-
-    fn name() -> &'static str {
-        "Slab"
-    }
-
-    fn align() -> usize {
-        8
-    }
-
-    fn needs_drop() -> bool {
-        true
-    }
-
-    fn size() -> Option<usize> {
-        Some(40)
+    fn layout() -> Layout {
+        Layout::new("Slab", 40, 8, true)
     }
 }
 
 // A capacity of 8 bytes, then room for a pointer and a length of 8 bytes each, or for N items.
 impl<T: Described, const N: usize> Described for SmallVec<T, N> {
-    ghost name = { codes "SmallVec" };
+    ghost layout = { pad_to_align (declared (codes "SmallVec") 8 8 true with
+        (declared (codes "pointer") 16 8 true or ⟦<[T; N] as Described>⟧.layout)) };
 
-    ghost align = { max 8 T.align };
-
-    ghost needs_drop = { true };
-
-    ghost size = { size_up
-        (size_sum (Some 8) (size_max (Some 16) (size_product (Some N) T.size)))
-        (max 8 T.align) };
-
-    fn name() -> &'static str {
-        "SmallVec"
-    }
-
-    fn align() -> usize {
-        T::align().max(8)
-    }
-
-    fn needs_drop() -> bool {
-        true
-    }
-
-    fn size() -> Option<usize> {
-        let data = size_max(Some(16), size_product(Some(N), T::size()));
-        size_up(size_sum(Some(8), data), Self::align())
+    fn layout() -> Layout {
+        let pointer = Layout::new("pointer", 16, 8, true);
+        Layout::new("SmallVec", 8, 8, true)
+            .with(pointer.or(<[T; N]>::layout()))
+            .pad_to_align()
     }
 }

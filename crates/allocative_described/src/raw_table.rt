@@ -3,7 +3,8 @@
 ghost use Rattle.std.specs.Prelude.{◌≡◌, ℕ, ◌≤◌};
 ghost use Rattle.allocative_described.specs.Sizes.{checked, IsRawTableSize, RawTableLaw, IsBucketCount, IsLeastPowerOfTwo};
 
-use crate::described::{Described, size_product, size_sum};
+use crate::described::Described;
+use crate::layout::{size_product, size_sum};
 
 /// The bytes of the table of a hash map with `len` items of type `T`: the size of an item plus one
 /// byte, times the number of buckets. There are no buckets for the length 0, 4 for a length from 1
@@ -12,7 +13,7 @@ use crate::described::{Described, size_product, size_sum};
 /// `None` if the size of an item is `None`, or if the sum, the power or the product exceeds
 /// `usize::MAX`.
 pub fn raw_table_alloc_size_for_len<T: Described>(len: usize) -> Option<usize>
-    ensures { IsRawTableSize T.size len result }
+    ensures { IsRawTableSize T.layout.size len result }
 {
     size_product(size_sum(T::size(), Some(1)), bucket_count(len))
 }

@@ -138,7 +138,7 @@ warning_text w = codes "Incorrect size declaration for node `" ++ joined w.path 
 
 -- The line of the warning of a path, with its own bytes and those one key below it.
 abbrev pub warning_line : Path → ℕ → ℕ → List ℕ
-warning_line p bytes under = warning_text (record { path = p; self_size = bytes; children_size = under })
+warning_line p bytes inside = warning_text (record { path = p; self_size = bytes; children_size = inside })
     ++ newline ∷ []
 
 -- The warning of a path of the sums: there is one if the path is not the root, was never unique and has fewer bytes

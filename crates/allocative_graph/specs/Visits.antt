@@ -126,13 +126,12 @@ pub record Profile : Type 0 where
   pub warned : List Warned
 
 -- How the collector of a flame graph ends: with its first cause; with Open if a visitor is open; or with what p says
--- of its sums, or Memory if memory runs out. A collector of a sum ends with Open.
+-- of its sums, or Memory if memory runs out.
 abbrev pub Ends : {T : Type 0} → (Sums → T → Type 0) → State → Result T Refusal → Type 0
 Ends p (Failed r) result = result ≡ Err r
 Ends p (Going (OfGraph c)) (Ok made) = IsClosed (OfGraph c) × p c.sums made
 Ends p (Going (OfGraph c)) (Err e) = ((e ≡ Open) × ¬ IsClosed (OfGraph c)) ⊎ ((e ≡ Memory) × IsClosed (OfGraph c))
-Ends p (Going (OfSum s)) (Ok made) = ⊥
-Ends p (Going (OfSum s)) (Err e) = e ≡ Open
+Ends p (Going (OfSum s)) result = ⊥
 
 -- The graph, the warnings and the paths that have one are those of the sums.
 abbrev pub IsProfile : Sums → Profile → Type 0

@@ -68,7 +68,7 @@ impl Key {
 
     /// The key of the declared name of `T`.
     pub fn for_type_name<T: Described>() -> Key
-        ensures { result ≡ T.name }
+        ensures { result ≡ T.layout.name }
     {
         Key::new(T::name())
     }

@@ -1,18 +1,25 @@
 -- The graphs of fields: their totals, why they are refused, the documents of a text, and what a run makes of them.
 use Rattle.std.proofs.Common.{◌≡◌, ℕ, ◌+◌, ◌^◌, ◌<◌, ◌≤◌, ◌==◌, Bool, true, false, List, [], ◌∷◌, ◌++◌, length, get_or}
-use Rattle.std.proofs.Common.{take, drop, map, Bor, Option, None, Some, Result, Ok, Err, IfErr, IfSome, IsErrAnd, inl}
+use Rattle.std.proofs.Common.{take, map, Bor, Option, None, Some, Result, Ok, Err, IfErr, IfSome, IsErrAnd, inl}
 use Rattle.std.proofs.Common.{inr, MatchResult, unwrap_or, refl, sym, ap, subst, subst₂, ◌∙◌, arith, append-nil}
-use Rattle.std.proofs.Common.{take-append-drop, String, Global, string_bytes, IfOk}
-use Rattle.allocative_json.proofs.Common.{drop_more, length-map, fold-map, Graph, default, add_self, total, sum_of_all}
+use Rattle.std.proofs.Common.{option_map, take_all, ◌-◌, String, Global, string_bytes, IfOk, All, ◌≢◌, codes, append_assoc, length-append, ne_eqb}
+use Rattle.allocative_json.proofs.Common.{fold-map, Graph, default, add_self, total, sum_of_all}
 use Rattle.allocative_json.proofs.Common.{Child, total-add_at, total-default, total-all, view, Value, Fault, fault_of}
-use Rattle.allocative_json.proofs.Common.{StopsReading, bytes_alone, all_fields, is_blank, filled, lines_in, texts_of}
-use Rattle.allocative_json.proofs.Common.{AreDocuments, AppendsDocument, RefusesDocument, RefusesGraph, RefusesFields}
+use Rattle.allocative_json.proofs.Common.{StopsReading, bytes_alone, all_fields, is_blank, filled, lines_in, texts_of, map_push, fold-append}
+use Rattle.allocative_json.proofs.Common.{AreDocuments, AddsDocument, AddsLine, RefusesLine, TakesLine, WritesSum, Makes, value_below, fields_of, RefusesDocument, RefusesGraph, RefusesFields}
 use Rattle.allocative_json.proofs.Common.{MayEndFields, IfErr-weaker, IfOk-weaker}
 use Rattle.allocative_json.specs.Fields.{AreFields, AreFieldsFor}
-use Rattle.std.proofs.lemmas.List.Elements.{filter-append}
-use Rattle.std.proofs.lemmas.List.Splits.{length-slice_split}
-use Rattle.std.proofs.lemmas.List.Sums.{sum_by_more_le, count_by-le-length}
-use Rattle.std.proofs.lemmas.Slice.Zip.{all_zipped_more}
+use Rattle.std.proofs.lemmas.Bool.{eqb-false}
+use Rattle.std.proofs.lemmas.List.Elements.{filter-append, All-weaker, All-nil, All-more}
+use Rattle.std.specs.Io.{StopsAt}
+use Rattle.std.specs.Option.{option_eq}
+use Rattle.std.proofs.lemmas.List.Splits.{slice_split_none, slice_split_at}
+use Rattle.std.proofs.lemmas.List.Sums.{sum_by_more_le}
+use Rattle.std.proofs.BufReadLemmas.{take_through-append, take_through-nil}
+use Rattle.std.proofs.KnownBytes.{Consumes-nil, Consumes-trans}
+use Rattle.std.specs.Io.BufRead.{take_through}
+use Rattle.std.specs.Io.KnownBytes.{Consumes}
+use Rattle.allocative_graph.specs.Graph.{sum_of, under, text}
 use Rattle.allocative_graph.specs.declared.refusal.Refusal.{Refusal}
 use Rattle.allocative_json.specs.declared.fault.Fault.TheVariants.{Memory, Reading}
 use Rattle.allocative_json.specs.declared.fields.FieldsFault.{FieldsFault}
@@ -68,57 +75,62 @@ refused_sum y h bytes (Err q) refused.Open is large never within = absurd (never
 pub ruleset refusing = (refused_more, refused_sum, start_within, total-bytes_alone, total-add_self, total-all)
 
 -- ---- documents
--- A blank line leaves the documents as they are.
-pub documents_skip : (ls : List (List ℕ)) (l : List ℕ) (vs : List Value) → true ≡ is_blank l →
-    AreDocuments (filled ls) vs → AreDocuments (filled (ls ++ l ∷ [])) vs
-documents_skip ls l vs e h = rw (filter-append, ← e, append-nil) h
+-- One document more is one child more.
+all_push : (vs : List Value) (v : Value) →
+    all_fields (vs ++ v ∷ []) ≡ sum_of_all (all_fields vs) (value_below (codes "$") v ∷ [])
+all_push vs v = ap (sum_of_all default) (map_push (value_below (codes "$")) vs v)
+    ∙ fold-append (λ h (c : Child). sum_of h (under c.key c.graph)) default (map (value_below (codes "$")) vs)
+    (value_below (codes "$") v ∷ [])
 
--- A line that is read is one document more.
-pub documents_more : (ls : List (List ℕ)) (l : List ℕ) (vs more : List Value) → false ≡ is_blank l →
-    AreDocuments (filled ls) vs → AppendsDocument l vs more → AreDocuments (filled (ls ++ l ∷ [])) more
-documents_more ls l vs more e h p = rw (filter-append, ← e, p.follows)
-    (all_zipped_more (λ t v. IsDocument t (view v)) (filled ls) vs l p.document h p.is_read)
+-- The bytes of one document more.
+total_push : (vs : List Value) (v : Value) →
+    total (all_fields (vs ++ v ∷ [])) ≡ total (all_fields vs) + total (fields_of v)
+total_push vs v = omega (arith, ap total (all_push vs v), total-all (all_fields vs) (value_below (codes "$") v ∷ []))
 
--- An input has at most one line more than bytes.
-pub lines_fit : (input : List ℕ) → length (lines_in input) ≤ length input + 1
-lines_fit input =
-    let newline : ℕ → Bool = λ b. b == 10 in
-    omega (arith, length-slice_split newline input, count_by-le-length newline input)
+-- A sum that is refused stays so.
+pub adds_refused : (v : Value) (e : Refusal) (r : Result Graph Refusal) → IsErrAnd r (λ q. q ≡ e) →
+    AddsDocument v (Err e) r
+adds_refused v e r is vs h =
+    refused_more _ (all_fields vs) (all_fields (vs ++ v ∷ [])) r e is (omega (arith, total_push vs v)) h
 
--- Behind the lines that were read, one is not read.
-pub stops_line : {T : Type 0} (input : List ℕ) (xs : List (Bor (List ℕ))) (x : Bor (List ℕ)) (vs : List Value) (n : ℕ)
-    (f : FieldsFault) (r : Result T FieldsFault) →
-    map (λ (l : Bor (List ℕ)). l.now) xs ≡ take (length xs) (lines_in input)
-    → (length xs < length (lines_in input)) × (x.now ≡ get_or (lines_in input) (length xs) x.now) →
-    AreDocuments (filled (map (λ (l : Bor (List ℕ)). l.now) xs)) vs → false ≡ is_blank x.now → n ≡ length xs + 1 →
-    RefusesDocument x.now (Some n) f → IsErrAnd r (λ g. g ≡ f) → IfErr r (RefusesFields true input)
-stops_line input xs x vs n f (Ok y) front at are some e h is = tt
-stops_line input xs x vs n (NotJson line column said) (Err g) front at are some e h is =
-    let ls = lines_in input in
-    let before : Bor (List ℕ) → List ℕ = λ l. l.now in
-    subst (RefusesFields true input) (sym is) (record {
-      earlier = map before xs;
-      documents = vs;
-      line = x.now;
-      later = drop (length xs + 1) ls;
-      parts = sym (take-append-drop (length xs) ls) ∙ ap (λ l. l ++ drop (length xs) ls) (sym front)
-          ∙ ap (λ l. map before xs ++ l) (drop_more ls (length xs) x.now at.0
-          ∙ ap (λ l. l ∷ drop (length xs + 1) ls) (sym at.1));
-      are = are;
-      some = sym some;
-      none = h.0;
-      counted = h.1 ∙ e ∙ ap (λ k. k + 1) (sym (length-map {B = List ℕ} xs before));
-    })
-stops_line input xs x vs n (Other Memory) (Err g) front at are some e h is =
-    subst (RefusesFields true input) (sym is) tt
-stops_line input xs x vs n (Other f) (Err g) front at are some e h is = absurd h
+-- The graph of the document is refused.
+pub adds_unmade : (v : Value) (g : Graph) (e : Refusal) (r : Result Graph Refusal) → IsErrAnd r (λ q. q ≡ e) →
+    RefusesGraph (fields_of v) e → AddsDocument v (Ok g) r
+adds_unmade v g e r is refuses vs h =
+    refused_more _ (fields_of v) (all_fields (vs ++ v ∷ [])) r e is (omega (arith, total_push vs v)) refuses
 
--- An input that is read as one text is one document.
-pub one_document : (input : List ℕ) (old new : List Value) → old ≡ [] → AppendsDocument input old new →
-    AreDocuments (input ∷ []) new
-one_document input old new e h = rw (h.follows, e) (h.is_read, tt)
+-- Adding that graph is refused.
+pub adds_unadded : (v : Value) (g made : Graph) (e : Refusal) (r : Result Graph Refusal) → IsErrAnd r (λ q. q ≡ e) →
+    (◌≡◌ {A = Result Unit Refusal} (Err e) (Err refused.TooLarge) → 2 ^ 64 ≤ total g + total made) →
+    (◌≡◌ {A = Result Unit Refusal} (Err e) (Err refused.Open) → ⊥) → made ≡ fields_of v → AddsDocument v (Ok g) r
+adds_unadded v g made e r is large never same vs h =
+    refused_sum _ (all_fields (vs ++ v ∷ [])) (total g + total made) r e is large never
+    (omega (arith, total_push vs v, ap total h, ap total same))
 
--- An input that is not read as one text has no fields.
+-- The graph is added.
+pub adds_made : (v : Value) (g made sum : Graph) → made ≡ fields_of v → sum ≡ sum_of g (under (codes "$") made) →
+    AddsDocument v (Ok g) (Ok sum)
+adds_made v g made sum same e vs h = e ∙ (λ i. sum_of (h i) (under (codes "$") (same i))) ∙ sym (all_push vs v)
+
+-- The lemmas by which a document is added.
+pub ruleset adding = (adds_refused, adds_unmade, adds_unadded, adds_made)
+
+-- The refusal of a sum is told.
+pub writes_refused : (e : Refusal) (r : Result (String Global) FieldsFault) → IsErrAnd r (λ f. f ≡ Other (fault_of e)) →
+    WritesSum (Err e) r
+writes_refused e (Ok s) is g h = absurd is
+writes_refused e (Err f) is g h = (e, h, is)
+
+-- Its text is made, or memory runs out.
+pub writes_text : (made : Graph) (r : Result (String Global) FieldsFault) →
+    MatchResult r (λ s. string_bytes s ≡ text made) (λ f. f ≡ Other Memory) → WritesSum (Ok made) r
+writes_text made (Ok s) is g h = is ∙ ap text h
+writes_text made (Err f) is g h = (refused.Memory, tt, is)
+
+-- The lemmas by which the text of a sum is made.
+pub ruleset writing = (writes_refused, writes_text)
+
+-- If an input is not read as one document, it has no fields.
 pub stops_whole : {T : Type 0} (input : List ℕ) (f : FieldsFault) (r : Result T FieldsFault) →
     RefusesDocument input None f → IsErrAnd r (λ g. g ≡ f) → IfErr r (RefusesFields false input)
 stops_whole input f (Ok y) h is = tt
@@ -132,7 +144,7 @@ given_line None n line e = tt
 given_line (Some k) n line e = e
 
 -- The lemmas by which documents are read.
-pub ruleset reading = (some_text, given_line, one_document, stops_whole)
+pub ruleset reading = (some_text, given_line, stops_whole)
 
 -- ---- a run
 -- If the graph of the documents is refused, there is no text of the fields.
@@ -145,15 +157,36 @@ refused_fields true input vs refused.TooLarge f e d h = rw e (vs, d, h)
 refused_fields false input vs refused.TooLarge f e d h = rw e (vs, d, h)
 refused_fields by_lines input vs refused.Open f e d h = absurd h
 
+-- The text of the sum of the documents of an input is that of its fields, or there is none.
+pub written : (by_lines : Bool) (input : List ℕ) (vs : List Value) (r : Result (String Global) FieldsFault) →
+    AreDocuments (texts_of by_lines input) vs →
+    MatchResult r (λ made. string_bytes made ≡ text (all_fields vs))
+    (λ f. (e : Refusal) × RefusesGraph (all_fields vs) e × (f ≡ Other (fault_of e))) →
+    IfOk r (λ made. AreFields by_lines input (string_bytes made)) × IfErr r (RefusesFields by_lines input)
+written by_lines input vs (Ok s) d m = (record { documents = vs; are_read = d; is_text = m }, tt)
+written by_lines input vs (Err f) d (e, refuses, is) =
+    (tt, subst (RefusesFields by_lines input) (sym is) (refused_fields by_lines input vs e (fault_of e) refl d refuses))
+
+-- A fault of reading may end a run by lines, whatever was read.
+lines_stop : (known : Option (List ℕ)) (f : Fault) → StopsReading None f → MayEndFields (Some true) known (Other f)
+lines_stop None Memory h = inr ([], tt, tt)
+lines_stop (Some bytes) Memory h = inr (bytes, refl, tt)
+lines_stop known Reading h = inl refl
+lines_stop known f h = absurd h
+
 -- A fault of reading may end a run.
 reading_stops : (by_lines : Bool) (known : Option (List ℕ)) (f : Fault) → StopsReading known f →
     MayEndFields (Some by_lines) known (Other f)
-reading_stops true None Memory h = inr ([], tt, tt)
+reading_stops true known Memory h = lines_stop known Memory tt
 reading_stops false None Memory h = inr (0 ∷ [], tt, omega arith)
-reading_stops true (Some bytes) Memory h = inr (bytes, refl, tt)
 reading_stops false (Some bytes) Memory h = inr (bytes, refl, h)
 reading_stops by_lines known Reading h = inl refl
 reading_stops by_lines known f h = absurd h
+
+-- If lines are asked for, memory for the reader's buffer may run out.
+pub unbuffered : (asked : Option Bool) (by_lines : Bool) (known : Option (List ℕ)) → asked ≡ Some by_lines →
+    by_lines ≡ true → MayEndFields asked known (Other Memory)
+unbuffered asked by_lines known is e = rw (is, e) (lines_stop known Memory tt)
 
 -- If the words are accepted, a fault of reading ends a run.
 pub stops_reading : {T : Type 0} (asked : Option Bool) (by_lines : Bool) (known : Option (List ℕ)) (f : Fault)
@@ -178,4 +211,195 @@ fields_for asked by_lines known input r is read e = IfOk-weaker r _ _
     (λ made h. record { by_lines = by_lines; is_asked = is; input = input; is_read = read; fields = h }) e
 
 -- The lemmas by which the text of the fields and its faults are those of a run.
-pub ruleset run_of_fields = (stops_reading, refused_for, fields_for)
+pub ruleset run_of_fields = (stops_reading, unbuffered, refused_for, fields_for)
+
+-- ---- lines
+-- No byte of a line is a line feed.
+no_feed : (l : List ℕ) → All (λ b. b ≢ 10) l → All (λ b. (b == 10) ≡ false) l
+no_feed l h = All-weaker _ _ (λ b n. ne_eqb b 10 n) l h
+
+-- A line without a line feed is one line.
+one_line : (l : List ℕ) → All (λ b. b ≢ 10) l → lines_in l ≡ l ∷ []
+one_line l h = slice_split_none (λ b. b == 10) l (no_feed l h)
+
+-- It ends at a line feed.
+first_line : (l rest : List ℕ) → All (λ b. b ≢ 10) l → lines_in (l ++ 10 ∷ rest) ≡ l ∷ lines_in rest
+first_line l rest h = slice_split_at (λ b. b == 10) l 10 rest (no_feed l h) refl
+
+-- What is left of a reader's known bytes.
+consumes_all : (known now : Option (List ℕ)) (t : List ℕ) → Consumes known now t →
+    IfSome known (λ bytes. bytes ≡ t ++ unwrap_or now [])
+consumes_all None now t h = tt
+consumes_all (Some xs) None t h = absurd h
+consumes_all (Some xs) (Some ys) t h = h
+
+-- The known bytes are those that were taken, and then those that were left.
+all_known : (known now : Option (List ℕ)) (t rest : List ℕ) → Consumes known now t →
+    IfSome now (λ bytes. bytes ≡ rest) → IfSome known (λ bytes. t ++ rest ≡ bytes)
+all_known None now t rest h e = tt
+all_known (Some xs) None t rest h e = absurd h
+all_known (Some xs) (Some ys) t rest h e = sym (h ∙ ap (λ l. t ++ l) e)
+
+-- If what is read up to a line feed has none, it is all that the reader had.
+pub at_end : (known now : Option (List ℕ)) (l : List ℕ) → Consumes known now l →
+    IfSome known (λ xs. l ≡ take_through 10 xs) → All (λ b. b ≢ 10) l → IfSome known (λ xs. xs ≡ l)
+at_end None now l t e h = tt
+at_end (Some xs) None l t e h = absurd t
+at_end (Some xs) (Some ys) l t e h =
+    let all = e ∙ ap (take_through 10) t ∙ take_through-append 10 l ys h in
+    t ∙ ap (λ r. l ++ r) (take_through-nil 10 ys (omega (arith, ap length all, length-append l (take_through 10 ys))))
+    ∙ append-nil l
+
+-- The lines of a reader up to some place: what was taken of it, the documents of these lines, and their sum.
+pub record SumsLines (known now : Option (List ℕ)) (next : ℕ) (sum : Result Graph Refusal) : Type 0 where
+  pub bytes : List ℕ
+  pub lines : List (List ℕ)
+  pub documents : List Value
+  pub counted : next ≡ length lines + 1
+  pub parts : (rest : List ℕ) → lines_in (bytes ++ rest) ≡ lines ++ lines_in rest
+  pub taken : Consumes known now bytes
+  pub are : AreDocuments (filled lines) documents
+  pub made : Makes (all_fields documents) sum
+
+-- Nothing is read yet.
+pub no_lines : (known : Option (List ℕ)) (g : Graph) → g ≡ default → SumsLines known known 1 (Ok g)
+no_lines known g e = record {
+  bytes = [];
+  lines = [];
+  documents = [];
+  counted = refl;
+  parts = λ rest. refl;
+  taken = Consumes-nil known;
+  are = tt;
+  made = e;
+}
+
+-- A blank line adds nothing.
+pub adds_blank : (l : List ℕ) (sum : Result Graph Refusal) → true ≡ is_blank l → AddsLine l sum sum
+adds_blank l sum e vs h = ([], rw (← e) tt, rw append-nil h)
+
+-- A line that is read adds its document.
+pub adds_line : (l : List ℕ) (v : Value) (old new : Result Graph Refusal) → false ≡ is_blank l → IsDocument l (view v) →
+    AddsDocument v old new → AddsLine l old new
+adds_line l v old new e is a vs h = (v ∷ [], rw (← e) (is, tt), a vs h)
+
+-- The lemmas by which a line is added.
+pub ruleset adding_lines = (adds_blank, adds_line)
+
+-- The documents of some texts, and of some more.
+all_zipped_append : (ts : List (List ℕ)) (vs : List Value) (us : List (List ℕ)) (ws : List Value) →
+    AreDocuments ts vs → AreDocuments us ws → AreDocuments (ts ++ us) (vs ++ ws)
+all_zipped_append [] [] us ws h k = k
+all_zipped_append [] (v ∷ vs) us ws h k = absurd h
+all_zipped_append (t ∷ ts) [] us ws h k = absurd h
+all_zipped_append (t ∷ ts) (v ∷ vs) us ws h k = (h.0, all_zipped_append ts vs us ws h.1 k)
+
+-- The documents of one line more.
+more_documents : (ls : List (List ℕ)) (l : List ℕ) (vs more : List Value) → AreDocuments (filled ls) vs →
+    AreDocuments (filled (l ∷ [])) more → AreDocuments (filled (ls ++ l ∷ [])) (vs ++ more)
+more_documents ls l vs more h m = rw filter-append (all_zipped_append (filled ls) vs (filled (l ∷ [])) more h m)
+
+-- One line more is read.
+pub one_more_line : (known now next : Option (List ℕ)) (n : ℕ) (is_ended : Bool) (l : List ℕ)
+    (old new : Result Graph Refusal) → SumsLines known now n old → TakesLine is_ended now next l → is_ended ≡ true →
+    AddsLine l old new → SumsLines known next (n + 1) new
+one_more_line known now next n is_ended l old new h takes ended a =
+    let (more, are, made) = a h.documents h.made in
+    let t = subst (λ (b : Bool). TakesLine b now next l) ended takes in
+    record {
+      bytes = h.bytes ++ (l ++ 10 ∷ []);
+      lines = h.lines ++ l ∷ [];
+      documents = h.documents ++ more;
+      counted = omega (arith, h.counted, length-append h.lines (l ∷ []));
+      parts = λ rest. ap lines_in (append_assoc h.bytes (l ++ 10 ∷ []) rest
+          ∙ ap (λ r. h.bytes ++ r) (append_assoc l (10 ∷ []) rest)) ∙ h.parts (l ++ 10 ∷ rest)
+          ∙ ap (λ r. h.lines ++ r) (first_line l rest t.one) ∙ sym (append_assoc h.lines (l ∷ []) (lines_in rest));
+      taken = Consumes-trans known now next h.bytes (l ++ 10 ∷ []) h.taken t.taken;
+      are = more_documents h.lines l h.documents more h.are are;
+      made = made;
+    }
+
+-- The last line is read, and the text of the sum is made.
+pub last_line : (known now next : Option (List ℕ)) (n : ℕ) (is_ended : Bool) (l : List ℕ)
+    (old new : Result Graph Refusal) (r : Result (String Global) FieldsFault) → SumsLines known now n old →
+    TakesLine is_ended now next l → is_ended ≡ false → AddsLine l old new → WritesSum new r →
+    IfOk r (λ made. AreFieldsFor (Some true) known (string_bytes made)) × IfErr r (MayEndFields (Some true) known)
+last_line known now next n is_ended l old new r h t unended a w =
+    let (more, are, made) = a h.documents h.made in
+    let parts : lines_in (h.bytes ++ l) ≡ h.lines ++ l ∷ [] =
+    h.parts l ∙ ap (λ rest. h.lines ++ rest) (one_line l t.one) in
+    let documents : AreDocuments (texts_of true (h.bytes ++ l)) (h.documents ++ more) =
+    rw parts (more_documents h.lines l h.documents more h.are are) in
+    let fields = written true (h.bytes ++ l) (h.documents ++ more) r documents (w _ made) in
+    let read = all_known known now h.bytes l h.taken (t.last unended) in
+    (fields_for (Some true) true known _ r refl read fields.0, refused_for (Some true) true known _ r refl read fields.1)
+
+-- A line is no document.
+pub wrong_line : {T : Type 0} (known now next : Option (List ℕ)) (n : ℕ) (is_ended : Bool) (l : List ℕ)
+    (sum : Result Graph Refusal) (f : FieldsFault) (r : Result T FieldsFault) → SumsLines known now n sum →
+    TakesLine is_ended now next l → RefusesLine l n f → IsErrAnd r (λ g. g ≡ f) →
+    IfErr r (MayEndFields (Some true) known)
+wrong_line known now next n is_ended l sum f (Ok x) h t none is = tt
+wrong_line known now next n true l sum (NotJson line column said) (Err g) h t none is =
+    let rest = unwrap_or next [] in
+    subst (MayEndFields (Some true) known) (sym is) (inr (
+      h.bytes ++ ((l ++ 10 ∷ []) ++ rest),
+      all_known known now h.bytes _ h.taken (consumes_all now next (l ++ 10 ∷ []) t.taken),
+      record {
+        earlier = h.lines;
+        documents = h.documents;
+        line = l;
+        later = lines_in rest;
+        parts = h.parts ((l ++ 10 ∷ []) ++ rest) ∙ ap (λ ls. h.lines ++ ls) (ap lines_in (append_assoc l (10 ∷ []) rest)
+            ∙ first_line l rest t.one);
+        are = h.are;
+        some = none.0;
+        none = none.1.0;
+        counted = none.1.1 ∙ h.counted;
+      },
+    ))
+wrong_line known now next n false l sum (NotJson line column said) (Err g) h t none is =
+    subst (MayEndFields (Some true) known) (sym is) (inr (
+      h.bytes ++ l,
+      all_known known now h.bytes l h.taken (t.last refl),
+      record {
+        earlier = h.lines;
+        documents = h.documents;
+        line = l;
+        later = [];
+        parts = h.parts l ∙ ap (λ ls. h.lines ++ ls) (one_line l t.one);
+        are = h.are;
+        some = none.0;
+        none = none.1.0;
+        counted = none.1.1 ∙ h.counted;
+      },
+    ))
+wrong_line known now next n is_ended l sum (Other Memory) (Err g) h t none is =
+    subst (MayEndFields (Some true) known) (sym is) (lines_stop known Memory tt)
+wrong_line known now next n is_ended l sum (Other f) (Err g) h t none is = absurd none.1
+
+-- A line is not read.
+pub unread_line : {T : Type 0} (known : Option (List ℕ)) (f : Fault) (r : Result T FieldsFault) → StopsReading None f →
+    IsErrAnd r (λ g. g ≡ Other f) → IfErr r (MayEndFields (Some true) known)
+unread_line known f (Ok x) h is = tt
+unread_line known f (Err g) h is = subst (MayEndFields (Some true) known) (sym is) (lines_stop known f h)
+
+-- The lemmas by which lines are read one by one.
+pub ruleset by_lines = (no_lines, unread_line)
+
+-- ---- the end of a line
+-- A byte that is not the last one of a line, or 0, is no line feed.
+other_byte : (o : Option (Bor ℕ)) (feed : Bor ℕ) (n : ℕ) → unwrap_or (option_map (λ (b : Bor ℕ). b.now) o) 0 ≡ n →
+    feed.now ≡ 10 → false ≡ option_eq (λ (x y : Bor ℕ). x.now == y.now) o (Some feed) → n ≢ 10
+other_byte None feed n e f h k = omega (arith, e, k)
+other_byte (Some b) feed n e f h k = eqb-false b.now feed.now (sym h) (e ∙ k ∙ sym f)
+
+-- If what is read up to a line feed does not end in one, it has none.
+pub unended : (xs : List ℕ) (o : Option (Bor ℕ)) (feed : Bor ℕ) →
+    unwrap_or (option_map (λ (b : Bor ℕ). b.now) o) 0 ≡ get_or xs (length xs - 1) 0 → feed.now ≡ 10 →
+    false ≡ option_eq (λ (x y : Bor ℕ). x.now == y.now) o (Some feed) → StopsAt xs 10 → All (λ b. b ≢ 10) xs
+unended [] o feed e f h s = All-nil (λ b. b ≢ 10)
+unended (x ∷ xs) o feed e f h s =
+    let all = take_all (length (x ∷ xs) - 1 + 1) (x ∷ xs) (omega arith) in
+    subst (All (λ b. b ≢ 10)) all (All-more (λ b. b ≢ 10) (x ∷ xs) (length (x ∷ xs) - 1) 0 (omega arith) s
+    (other_byte o feed _ e f h))

@@ -2,7 +2,7 @@
 use Rattle.std.proofs.Common.{◌≡◌, ℕ, ◌<◌, ℤ, length, arith, Bool, true, List, [], ◌∷◌, Option, Some, Result, Ok, Err}
 use Rattle.std.proofs.Common.{IfOk, IfErr, IsErrAnd, IfSome, MatchResult, refl, ap, ◌∙◌, sym, subst, BTreeSet}
 use Rattle.allocative_json.proofs.Common.{view, Value, Showing, roots_show, Word, AreWords, list_all, IfOk-weaker}
-use Rattle.allocative_json.proofs.Common.{IfErr-weaker, Data, fault_of, each_shows, Fault, AreTexts, IsReportOf}
+use Rattle.allocative_json.proofs.Common.{IfErr-weaker, Data, fault_of, Nothing, Both, each_shows, Fault, AreTexts, IsReportOf}
 use Rattle.allocative_json.proofs.Common.{IsRightReport, RefusesRoots, RefusesReport, IsReportFor, MayEndRun, Asks}
 use Rattle.std.proofs.lemmas.Option.{IfSome_then}
 use Rattle.serde_json.specs.Read.{read}
@@ -69,7 +69,7 @@ pub refused_report : {T : Type 0} (input : List ℕ) (index : Bool) (v : Value) 
     IfErr r (RefusesReport input index)
 refused_report input index v n r h = IfErr-weaker r _ _ (λ f. refused_roots input index v n f h)
 
--- ---- a boxed root
+-- ---- boxed roots
 -- If each forest of one showing is one of another, a profile of the first is a profile of the second.
 profile_weaker : (p q : Showing) (o : Profile) → ((f : Forest) → p f → q f) → IsProfileOf p o → IsProfileOf q o
 profile_weaker p q o up h = record {
@@ -83,26 +83,45 @@ profile_weaker p q o up h = record {
   warned_are = h.warned_are;
 }
 
--- What a list of one shows is what that one shows.
-one_shown : {T : Type 0} (p : T → Showing) (a : T) (f : Forest) → each_shows p (a ∷ []) f → p a f
-one_shown p a f (g, h, here, empty, e) =
-    subst (p a) (sym (e ∙ ap (followed_by g) empty ∙ followed_by-empty g)) here
+-- What a list of two shows is what both show.
+two_shown : {T : Type 0} (p : T → Showing) (a b : T) (f : Forest) → each_shows p (a ∷ b ∷ []) f → Both (p a) (p b) f
+two_shown p a b f (g, h, here, (k, none, there, empty, e), d) =
+    (g, k, here, there, d ∙ ap (followed_by g) (e ∙ ap (followed_by k) empty ∙ followed_by-empty k))
 
--- One root of a strict type: what is profiled is what it shows, and it is refused if it may be.
-pub one_profiled : {T : Type 0} (shows : T → Showing × Bool) (roots : List T) (x : Result Profile Refusal) (a : T)
-    (q : Showing) → roots ≡ a ∷ [] → shows a ≡ (q, true) → IfOk x (IsProfileOf (each_shows (λ y. (shows y).0) roots))
-    → IfErr x (MayRefuseProfile (list_all (λ y. (shows y).1) roots) (each_shows (λ y. (shows y).0) roots)) →
-    record { profile : IfOk x (IsProfileOf q); refused : IfErr x (MayRefuseProfile true q) }
-one_profiled shows roots x a q is first profile refused =
-    let p : _ → Showing = λ y. (shows y).0 in
-    let k : Kind = begin (OfGraph no_entries) in
-    let can : CanTake k (p a) → CanTake k (each_shows p (a ∷ [])) =
-    λ w. ((w.0.0, each_one p a w.0.0 w.0.1, w.0.2), λ f y. w.1 f (one_shown p a f y)) in
-    let strict = ap (λ (y : Showing × Bool). y.1) first in
-    rw (← ap (λ (y : Showing × Bool). y.0) first) (record {
-      profile = IfOk-weaker x _ _ (λ o g. profile_weaker (each_shows p (a ∷ [])) (p a) o (one_shown p a) g) (rw is at profile);
-      refused = IfErr-weaker x _ _ (λ e g _. may_refuse k k can refl e (g refl)) (rw (is, strict) at refused);
-    })
+-- What two show is what the list of both shows.
+both_shown : {T : Type 0} (p : T → Showing) (a b : T) (f : Forest) → Both (p a) (p b) f → each_shows p (a ∷ b ∷ []) f
+both_shown p a b f (g, h, here, there, e) = (g, h, here, each_one p b h there, e)
+
+-- Roots of strict types: what is profiled of two is what both show, and what is profiled of one is what it shows, followed by
+-- nothing. They are refused if all together may be.
+module _ {T : Type 0} (shows : T → Showing × Bool) (roots : List T) (x : Result Profile Refusal) where
+  abbrev IsProfiledAs : Bool → Showing → Type 0
+  IsProfiledAs is_strict p = record { profile : IfOk x (IsProfileOf p); refused : IfErr x (MayRefuseProfile is_strict p) }
+
+  abbrev IsProfiled : Type 0
+  IsProfiled = IsProfiledAs (list_all (λ y. (shows y).1) roots) (each_shows (λ y. (shows y).0) roots)
+
+  pub two_profiled : (a b : T) (q r : Showing) → roots ≡ a ∷ b ∷ [] → shows a ≡ (q, true) → shows b ≡ (r, true) →
+      IsProfiled → IsProfiledAs true (Both q r)
+  two_profiled a b q r is first last h =
+      let p : T → Showing = λ y. (shows y).0 in
+      let k : Kind = begin (OfGraph no_entries) in
+      let can : CanTake k (Both (p a) (p b)) → CanTake k (each_shows p (a ∷ b ∷ [])) =
+      λ w. ((w.0.0, both_shown p a b w.0.0 w.0.1, w.0.2), λ f y. w.1 f (two_shown p a b f y)) in
+      let strict = ap (λ (y : Showing × Bool). y.1) first in
+      let other = ap (λ (y : Showing × Bool). y.1) last in
+      rw (← ap (λ (y : Showing × Bool). y.0) first, ← ap (λ (y : Showing × Bool). y.0) last) (record {
+        profile = IfOk-weaker x _ _ (λ o g. profile_weaker (each_shows p (a ∷ b ∷ [])) (Both (p a) (p b)) o
+            (two_shown p a b) g) (rw is at h.profile);
+        refused = IfErr-weaker x _ _ (λ e g _. may_refuse k k can refl e (g refl)) (rw (is, strict, other) at h.refused);
+      })
+
+  pub one_profiled : (a : T) (q : Showing) → roots ≡ a ∷ [] → shows a ≡ (q, true) → IsProfiled →
+      IsProfiledAs true (Both q Nothing)
+  one_profiled a q is first h =
+      let strict = ap (λ (y : Showing × Bool). y.1) first in
+      rw (← ap (λ (y : Showing × Bool). y.0) first)
+      (record { profile = rw is at h.profile; refused = rw (is, strict) at h.refused })
 
 -- ---- reports of a run
 -- A right report of the input that was read is one for the reader's bytes.

@@ -1,12 +1,12 @@
 -- The fields of JSON documents: a graph with the bytes that the values at each path declare, and what a run writes.
-use Rattle.std.specs.Prelude.{◌≡◌, ℕ, ◌+◌, ◌-◌, ◌*◌, ◌^◌, ◌<◌, ◌≤◌, ◌==◌, ⊤, ◌⊎◌, Bool, true, false, ◌&&◌, not, cond}
-use Rattle.std.specs.Prelude.{List, [], ◌∷◌, ◌++◌, map, filter, flat_map, length, Option, None, Some, IfSome, Result}
+use Rattle.std.specs.Prelude.{◌≡◌, ◌≢◌, ℕ, ◌+◌, ◌-◌, ◌*◌, ◌^◌, ◌<◌, ◌≤◌, ◌==◌, ⊤, ◌⊎◌, Bool, true, false, ◌&&◌, not, cond}
+use Rattle.std.specs.Prelude.{List, [], ◌∷◌, ◌++◌, map, filter, flat_map, length, Option, None, Some, IfSome, Result, All}
 use Rattle.std.specs.Prelude.{MatchResult, codes, decimal, encode_utf8, String, string_bytes, string_capacity}
 use Rattle.std.specs.Prelude.{vec_capacity, bytes_eq, chars}
 use Rattle.std.specs.Char.{is_ascii_whitespace}
 use Rattle.std.specs.Fmt.InlineText.{inline_text}
 use Rattle.std.specs.List.{AllZip, list_all, slice_split}
-use Rattle.std.specs.Io.KnownBytes.{Appends}
+use Rattle.std.specs.Io.KnownBytes.{Appends, Consumes}
 use Rattle.std.specs.declared.alloc.Global.{Global}
 use Rattle.serde_json.specs.Data.{Data}
 use Rattle.serde_json.specs.View.{view}
@@ -20,7 +20,7 @@ use Rattle.allocative_io.specs.Streams.{AppendsBeginning}
 use Rattle.allocative_json.specs.declared.fault.Fault.TheVariants.{Memory, TooLarge, Reading, Writing}
 use Rattle.allocative_json.specs.declared.fields.FieldsFault.{FieldsFault}
 use Rattle.allocative_json.specs.declared.fields.FieldsFault.TheVariants.{NotJson, Other}
-use Rattle.allocative_json.specs.Fault.{status_of, line_of}
+use Rattle.allocative_json.specs.Fault.{status_of, line_of, fault_of}
 use Rattle.allocative_json.specs.Roots.{IsDocument}
 use Rattle.allocative_graph.specs.declared.refusal.Refusal.TheVariants as refused
 use Rattle.allocative_io.specs.Lines as Lines
@@ -130,11 +130,26 @@ pub record IsFirstFault (input : List ℕ) (number : ℕ) : Type 0 where
   pub none : (d : Data) → ¬ IsDocument line d
   pub counted : number ≡ length earlier + 1
 
--- A text is a document, which follows those before.
-pub record AppendsDocument (t : List ℕ) (old new : List Value) : Type 0 where
-  pub document : Value
-  pub is_read : IsDocument t (view document)
-  pub follows : new ≡ old ++ document ∷ []
+-- A sum of some documents becomes that of these and of one more. A sum that is refused stays so.
+abbrev pub AddsDocument : Value → Result Graph Refusal → Result Graph Refusal → Type 0
+AddsDocument v old new = (vs : List Value) → Makes (all_fields vs) old → Makes (all_fields (vs ++ v ∷ [])) new
+
+-- A sum of some documents becomes that of these and of the document of a line, unless the line is blank.
+abbrev pub AddsLine : List ℕ → Result Graph Refusal → Result Graph Refusal → Type 0
+AddsLine l old new = (vs : List Value) → Makes (all_fields vs) old →
+    (more : List Value) × AreDocuments (filled (l ∷ [])) more × Makes (all_fields (vs ++ more)) new
+
+-- A line was read, which has no line feed. If one ended it, the reader lost both; otherwise the line is all that was
+-- left.
+pub record TakesLine (is_ended : Bool) (known known' : Option (List ℕ)) (line : List ℕ) : Type 0 where
+  pub one : All (λ b. b ≢ 10) line
+  pub taken : Consumes known known' (cond is_ended (line ++ 10 ∷ []) line)
+  pub last : is_ended ≡ false → IfSome known (λ bytes. bytes ≡ line)
+
+-- The text of the graph is made of a sum, or the sum's refusal is told, or memory runs out.
+abbrev pub WritesSum : Result Graph Refusal → Result (String Global) FieldsFault → Type 0
+WritesSum sum result = (g : Graph) → Makes g sum → MatchResult result (λ made. string_bytes made ≡ text g)
+    (λ f. (r : Refusal) × RefusesGraph g r × (f ≡ Other (fault_of r)))
 
 -- Why a text is not read: NotJson only if it is no document, with the line that is given, if one is; Memory only if the
 -- text is not empty; and no other.
@@ -142,6 +157,10 @@ abbrev pub RefusesDocument : List ℕ → Option ℕ → FieldsFault → Type 0
 RefusesDocument t given (NotJson line column said) = ((d : Data) → ¬ IsDocument t d) × IfSome given (λ n. line ≡ n)
 RefusesDocument t given (Other Memory) = 0 < length t
 RefusesDocument t given (Other f) = ⊥
+
+-- Why a line with a number is not read: it is not blank, and is refused as a document.
+abbrev pub RefusesLine : List ℕ → ℕ → FieldsFault → Type 0
+RefusesLine l n f = (is_blank l ≡ false) × RefusesDocument l (Some n) f
 
 -- The texts of the input are documents, and `made` is the text of their fields, with some room in their texts, names and
 -- arrays.

@@ -11,7 +11,7 @@ pub mod texts;
 pub mod words;
 
 pub use crate::fault::Fault;
-pub use crate::fields::{FieldsFault, fields_json};
+pub use crate::fields::{FieldsFault, fields_json, fields_json_lines};
 pub use crate::profile::{Report, profile_json};
 pub use crate::roots::read_roots;
 pub use crate::run::{report_fault, run_fields, run_json};

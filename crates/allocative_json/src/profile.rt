@@ -25,55 +25,73 @@ pub struct Report {
     pub warnings: String,
 }
 
-/// A document, and the set of its numbers if there is one.
+// A document, and the set of its numbers if there is one.
 #[derive(Drop)]
-pub(crate) struct Roots {
-    pub document: Value,
-    pub numbers: Option<BTreeSet<i128>>,
+struct Roots<'a> {
+    document: &'a Value,
+    numbers: &'a Option<BTreeSet<i128>>,
 }
 
-impl Allocative for Roots {
-    ghost may_show = { λ r. roots_show r.document r.numbers };
+impl Allocative for Roots<'_> {
+    ghost may_show = { λ r. roots_show r.document.now r.numbers.now };
 
     ghost is_strict = { true };
 
     fn visit(&self, visitor: &mut Visitor<'_>) -> Result<(), Refusal> {
-        match &self.numbers {
-            Some(numbers) => (&self.document, numbers).enter(visitor),
-            None => (&self.document, ()).enter(visitor),
+        match self.numbers {
+            Some(numbers) => (self.document, numbers).enter(visitor),
+            None => (self.document, ()).enter(visitor),
         }
     }
 }
 
-// The graph and the warnings of these roots, which are boxed and visited by a registry.
-fn profile_by_registry(alloc: Global, roots: Roots) -> Result<FlameGraphOutput, Refusal>
-    ensures profile { IfOk result (IsProfileOf (roots_show roots.document roots.numbers)) }
-    ensures refused { IfErr result
-        (MayRefuseProfile true (roots_show roots.document roots.numbers)) }
+// The graph and the warnings of these roots, each boxed and registered, the document first.
+fn profile_by_registry(
+    alloc: Global,
+    document: Value,
+    numbers: Option<BTreeSet<i128>>,
+) -> Result<FlameGraphOutput, Refusal>
+    ensures profile { IfOk result (IsProfileOf (roots_show document numbers)) }
+    ensures refused { IfErr result (MayRefuseProfile true (roots_show document numbers)) }
 {
     let mut registry = Registry::new(alloc);
-    registry.add_root(Box::new(alloc, roots)?)?;
+    registry.add_root(Box::new(alloc, document)?)?;
+    let Some(numbers) = numbers else {
+        return profile_roots(&registry);
+    };
+    registry.add_root(Box::new(alloc, numbers)?)?;
+    let count = registry.roots().len();
+    prove!(count == 2);
     profile_roots(&registry)
 }
 
-/// The report of these roots, visited by their own `visit`.
+/// The report of these roots, each visited by its own `visit`.
 #[tactic(auto, using(crate::proofs::Reports::reporting))]
-pub(crate) fn report_of(alloc: Global, roots: &Roots, exact: bool) -> Result<Report, Fault>
-    ensures ok { IfOk result
-        (IsReportOf (roots_show roots.now.document roots.now.numbers) exact) }
-    ensures err { IfErr result (RefusesRoots (roots_show roots.now.document roots.now.numbers)) }
+pub(crate) fn report_of(
+    alloc: Global,
+    document: &Value,
+    numbers: &Option<BTreeSet<i128>>,
+    exact: bool,
+) -> Result<Report, Fault>
+    ensures ok { IfOk result (IsReportOf (roots_show document.now numbers.now) exact) }
+    ensures err { IfErr result (RefusesRoots (roots_show document.now numbers.now)) }
 {
-    let output = profile_value(alloc, roots)?;
+    let output = profile_value(alloc, &Roots { document, numbers })?;
     report(alloc, &output, exact)
 }
 
-/// The report of these roots, which are boxed and visited by a registry.
+/// The report of these roots, each boxed, and visited by a registry.
 #[tactic(auto, using(crate::proofs::Reports::reporting))]
-pub(crate) fn report_by_registry(alloc: Global, roots: Roots, exact: bool) -> Result<Report, Fault>
-    ensures ok { IfOk result (IsReportOf (roots_show roots.document roots.numbers) exact) }
-    ensures err { IfErr result (RefusesRoots (roots_show roots.document roots.numbers)) }
+pub(crate) fn report_by_registry(
+    alloc: Global,
+    document: Value,
+    numbers: Option<BTreeSet<i128>>,
+    exact: bool,
+) -> Result<Report, Fault>
+    ensures ok { IfOk result (IsReportOf (roots_show document numbers) exact) }
+    ensures err { IfErr result (RefusesRoots (roots_show document numbers)) }
 {
-    let output = profile_by_registry(alloc, roots)?;
+    let output = profile_by_registry(alloc, document, numbers)?;
     report(alloc, &output, exact)
 }
 
@@ -92,5 +110,5 @@ pub fn profile_json(alloc: Global, input: &[u8], index: bool, exact: bool) -> Re
     ensures err { IfErr result (RefusesReport input.now index) }
 {
     let (document, numbers) = read_roots(alloc, input, index)?;
-    report_of(alloc, &Roots { document, numbers }, exact)
+    report_of(alloc, &document, &numbers, exact)
 }

@@ -7,14 +7,14 @@ ghost use Rattle.allocative_json.specs.Profile.{IsRightReport, RefusesReport};
 ghost use Rattle.allocative_json.specs.Run.{StopsReading, IsReportFor, IsWritten, IsBegun, EndsWell, EndsCutOff, EndsIn, MayEndRun, program, words_of, AreWords};
 
 use crate::fault::Fault;
-use crate::fields::{FieldsFault, fields_json};
-use crate::profile::{Report, Roots, report_by_registry, report_of};
+use crate::fields::{FieldsFault, fields_json, fields_json_lines};
+use crate::profile::{Report, report_by_registry, report_of};
 use crate::roots::read_roots;
 use crate::words::{Words, read_words};
 use allocative_io::{ReadError, read_input, write_line, write_text};
 use itoa::Buffer;
 use std::alloc::Global;
-use std::io::{self, Read, Write};
+use std::io::{self, BufReader, Read, Write};
 use std::mem;
 
 /// Reads to the end of the input. It returns `Fault::Reading` if a read fails, and `Fault::Memory` if memory
@@ -49,13 +49,12 @@ fn profile_as_asked(alloc: Global, asked: Words, input: &[u8]) -> Result<Report,
     ensures err { IfErr result (RefusesReport input.now asked.index) }
 {
     let (document, numbers) = read_roots(alloc, input, asked.index)?;
-    let roots = Roots { document, numbers };
     if asked.registry {
-        return report_by_registry(alloc, roots, asked.exact);
+        return report_by_registry(alloc, document, numbers, asked.exact);
     }
-    let made = report_of(alloc, &roots, asked.exact);
+    let made = report_of(alloc, &document, &numbers, asked.exact);
     // The process is about to end, which frees the document faster than a drop of each value.
-    mem::forget(roots);
+    mem::forget((document, numbers));
     made
 }
 
@@ -154,8 +153,14 @@ fn make_fields<R: Read>(
     let Some(by_lines) = lines_asked(words) else {
         return Err(FieldsFault::Other(Fault::Words));
     };
+    if by_lines {
+        let Ok(mut lines) = BufReader::new(alloc, input) else {
+            return Err(FieldsFault::Other(Fault::Memory));
+        };
+        return fields_json_lines(alloc, &mut lines);
+    }
     let bytes = read_bytes(alloc, input)?;
-    fields_json(alloc, bytes.as_slice(), by_lines)
+    fields_json(alloc, bytes.as_slice())
 }
 
 // Writes the line of a text that is not JSON.

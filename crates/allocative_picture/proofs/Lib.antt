@@ -4,3 +4,5 @@ pub mod Placing
 pub mod Geometry
 pub mod Marking
 pub mod Viewing
+pub mod Heaviest
+pub mod Reversing

@@ -1,18 +1,30 @@
 -- Views keep the total, and what is at a last key.
-use Rattle.std.proofs.Common.{◌≡◌, ℕ, zero, suc, ◌+◌, ◌<◌, ◌≤◌, ◌^◌, AllPairs, inl, inr, false, nat_cmp, is_lt, cond, List, [], ◌∷◌, ◌++◌, take}
-use Rattle.std.proofs.Common.{length, get_or, flat_map, map, take_all, sum_by, fold, codes, refl, sym, ap, ◌-◌, ◌∙◌, arith}
-use Rattle.std.proofs.Common.{Equal, IsPermutation}
+use Rattle.std.proofs.Common.{◌≡◌, ℕ, zero, suc, ◌+◌, inl, inr, false, cond, List, [], ◌∷◌, ◌++◌}
+use Rattle.std.proofs.Common.{length, sum_by, codes, refl, sym, ap, ◌-◌, ◌∙◌, arith}
+use Rattle.std.proofs.Common.{Equal}
 use Rattle.allocative_picture.proofs.Common.{entries, Child, Path, Graph, total, total_of, is_same_path, key_cmp}
-use Rattle.allocative_picture.proofs.Common.{graph_of_path, fold-map, fold-append, sum_by_more_le, sum_by-IsPermutation}
-use Rattle.allocative_picture.proofs.Common.{Key, default, size_at, sum_of, under, sum_of_all, ends_in, Figures}
-use Rattle.allocative_picture.proofs.Common.{figures, row_figures, Row, total_of-cons, total-node, total-path}
-use Rattle.allocative_picture.proofs.Common.{size_at-path, table_line, HasNoLess, get_or-map, length-map, take-map}
-use Rattle.std.proofs.lemmas.Map.Keys.{ge_from_not_lt}
+use Rattle.allocative_picture.proofs.Common.{graph_of_path, fold-append}
+use Rattle.allocative_picture.proofs.Common.{Key, default, size_at, sum_of, under, sum_of_all, ends_in}
+use Rattle.allocative_picture.proofs.Common.{total_of-cons, total-node, total-path}
+use Rattle.allocative_picture.proofs.Common.{size_at-path}
 use Rattle.std.specs.Cmp.{tied_then}
 use Rattle.allocative_graph.proofs.Basics.{and-true}
-use Rattle.allocative_graph.proofs.Graphs.{added_up, total-default, total-added_up, size_at-added_up}
+use Rattle.allocative_graph.proofs.Graphs.{total-default, total-added_up, size_at-added_up, sum_of-commutes, sum_of-default}
+use Rattle.allocative_graph.proofs.Graphs.{has-added_up, same_graph, get-under, get-under-root}
+use Rattle.allocative_graph.proofs.Nodes.{tree-path, node_leaf}
+use Rattle.allocative_graph.proofs.Children.{get-root, get-under as get-below, none_above, no_children}
+use Rattle.allocative_graph.specs.Representation.Children.{InOrder, size_under}
+use Rattle.allocative_graph.proofs.Basics.{or-false}
+use Rattle.std.specs.FinMap.{get, contains_key}
+use Rattle.std.specs.List.Sorted.{IsStrictlySortedBy}
+use Rattle.std.specs.Ordering.{eq_by_cmp}
+use Rattle.std.proofs.Common.{Bool, true, Option, Some, None, is_some, unwrap_or, ◌||◌}
+use Rattle.allocative_picture.proofs.Common.{list_any, sum_by-cons}
+use Rattle.allocative_graph.specs.Rows.{under_rows, rows_of, rows_of_child}
+use Rattle.allocative_graph.specs.Representation.NodeRows.{entries-node}
+use Rattle.allocative_picture.proofs.Common.{map-append, node, AreChildren}
 use Rattle.allocative_graph.proofs.Graphs.{total-all, size_at-default, total-sum_of, total-under}
-use Rattle.allocative_picture.specs.Views.{bytes_alone, last_of, by_last_key, bytes_ending_in, joined, GuidesChild}
+use Rattle.allocative_picture.specs.Views.{bytes_alone, last_of, by_last_key, by_last_keys, bytes_ending_in, joined, GuidesChild}
 use Rattle.allocative_picture.specs.Views.{HasChildren, InStep, IsOutline}
 
 -- ---- totals
@@ -51,17 +63,43 @@ total-outline (suc l) n u g h (us, cs, a, b, inr (few, ds, step, e)) =
     omega (arith, ap total e, total-all (bytes_alone (size_at g [])) ds, total-path [] (size_at g []), total-step R (λ c o of. total-outline l n of.0 c.graph o of.2) cs ds step, total-children g cs b)
 
 -- ---- the steps of the code
--- What is counted of the rows of a graph is counted of its entries.
-pub rows-fold : {A : Type 0} (more : A → Path → ℕ → A) (a : A) (g : Graph) (rs : List Row) → map row_figures rs ≡ figures g →
-    fold (λ x r. more x (row_figures r).path r.self_size) a rs ≡ fold (λ x e. more x e.0 e.1) a (entries g)
-rows-fold {A = A} more a g rs are =
-    let by : A → Figures → A = λ x f. more x f.path f.self_size in
-    sym (fold-map by row_figures a rs) ∙ ap (fold by a) are ∙ fold-map by _ a (entries g)
+-- Bytes are added by last key one list after the other.
+pub by_last_keys-append : (h : Graph) (es fs : List (Path × ℕ)) →
+    by_last_keys h (es ++ fs) ≡ by_last_keys (by_last_keys h es) fs
+by_last_keys-append h es fs = fold-append (λ (x : Graph) (e : Path × ℕ). sum_of x (graph_of_path (last_of e.0) e.1)) h es fs
+
+-- A key before a path that has one does not change its last key.
+last-under : (k l : Key) (p : Path) → last_of (k ∷ l ∷ p) ≡ last_of (l ∷ p)
+last-under k l p = let e : length (k ∷ l ∷ p) - 1 ≡ suc (length (l ∷ p) - 1) = omega arith in rw e refl
+
+child-under : (k : Key) (c : Child) (h : Graph) (es : List (Path × ℕ)) →
+    by_last_keys h (under_rows k (under_rows c.key es)) ≡ by_last_keys h (under_rows c.key es)
+child-under k c h [] = refl
+child-under k c h (e ∷ es) =
+    child-under k c (sum_of h (graph_of_path (last_of (k ∷ c.key ∷ e.0)) e.1)) es
+    ∙ (λ i. by_last_keys (sum_of h (graph_of_path (last-under k c.key e.0 i) e.1)) (under_rows c.key es))
+
+-- Nor do the last keys of the paths of some children change.
+pub rows-under : (k : Key) (h : Graph) (cs : List Child) →
+    by_last_keys h (under_rows k (rows_of cs)) ≡ by_last_keys h (rows_of cs)
+rows-under k h [] = refl
+rows-under k h (c ∷ cs) =
+    ap (by_last_keys h) (map-append (λ (e : Path × ℕ). (k ∷ e.0, e.1)) (rows_of_child c) (rows_of cs))
+    ∙ by_last_keys-append h (under_rows k (rows_of_child c)) (under_rows k (rows_of cs))
+    ∙ ap (λ (x : Graph). by_last_keys x (under_rows k (rows_of cs))) (child-under k c h (entries c.graph))
+    ∙ rows-under k (by_last_keys h (rows_of_child c)) cs ∙ sym (by_last_keys-append h (rows_of_child c) (rows_of cs))
+
+-- The bytes of a graph by last key are those of its root and of its children.
+pub by_last_key-node : (g : Graph) (n : ℕ) (cs : List Child) → g ≡ node n cs → AreChildren cs →
+    by_last_keys (bytes_alone n) (rows_of cs) ≡ by_last_key g
+by_last_key-node g n cs whole h =
+    ap (λ (x : Graph). by_last_keys x (rows_of cs)) (sym (sum_of-commutes default (bytes_alone n) ∙ sum_of-default (bytes_alone n) (tree-path [] n)))
+    ∙ ap (by_last_keys default) (sym (entries-node n cs h.sorted)) ∙ ap by_last_key (sym whole)
 
 -- One child more is added.
-pub all-push : (g : Graph) (ds : List Child) (d : Child) →
+pub all_push : (g : Graph) (ds : List Child) (d : Child) →
     sum_of (sum_of_all g ds) (under d.key d.graph) ≡ sum_of_all g (ds ++ d ∷ [])
-all-push g ds d = sym (fold-append (λ (h : Graph) (c : Child). sum_of h (under c.key c.graph)) g ds (d ∷ []))
+all_push g ds d = sym (fold-append (λ (h : Graph) (c : Child). sum_of h (under c.key c.graph)) g ds (d ∷ []))
 
 -- ---- at a last key
 -- The last key of a path is alone the path of a key if the path ends in it.
@@ -78,38 +116,57 @@ size_at-by_last_key g k =
     λ i. sum_by (λ (e : Path × ℕ). (size_at-path (last_of e.0) e.1 (k ∷ []) ∙ ap (λ b. cond b e.1 0) (same-last k e.0)) i) (entries g) in
     omega (arith, size_at-added_up (λ (e : Path × ℕ). graph_of_path (last_of e.0) e.1) default (entries g) (k ∷ []), size_at-default (k ∷ []), each)
 
--- The own bytes of a row at its last key alone.
-abbrev pub last_bytes : Row → Graph
-last_bytes r = graph_of_path (last_of (row_figures r).path) r.self_size
+-- ---- a graph as the sum of its children
+-- Of two values, the second is missing if the first is taken.
+pick : (t : Bool) (x y : Option ℕ) → (t ≡ true → y ≡ None) →
+    (unwrap_or (cond t x None) 0 + unwrap_or y 0 ≡ unwrap_or (cond t x y) 0)
+    × ((is_some (cond t x None) || is_some y) ≡ is_some (cond t x y))
+pick true x y h =
+    (omega (arith, ap (λ (o : Option ℕ). unwrap_or o 0) (h refl)), ap (λ (o : Option ℕ). is_some x || is_some o) (h refl) ∙ or-false (is_some x))
+pick false x y h = (omega arith, refl)
 
--- The bytes of some rows by last key, added up.
-abbrev pub added_rows : List Row → Graph
-added_rows rs = added_up last_bytes default rs
+-- The sum of nothing is 0.
+sum_by-none : (f : Child → ℕ) → ((c : Child) → f c ≡ 0) → (cs : List Child) → sum_by f cs ≡ 0
+sum_by-none f none [] = refl
+sum_by-none f none (c ∷ cs) = omega (arith, sum_by-cons f c cs, none c, sum_by-none f none cs)
 
--- The bytes of the rows so far and of the next one fit a word, in whichever order the rows are.
-pub row_fits : (g : Graph) (rs sorted : List Row) (i : ℕ) (r : Row) → map row_figures rs ≡ figures g →
-    IsPermutation rs sorted → i < length sorted → r ≡ get_or sorted i r → total g < 2 ^ 64 →
-    total (added_rows (take i sorted)) + r.self_size < 2 ^ 64
-row_fits g rs sorted i r are order within at fits =
-    let own : Row → ℕ = λ x. x.self_size in
-    let bytes : sum_by (λ r. total (last_bytes r)) (take i sorted) ≡ sum_by own (take i sorted) =
-    λ j. sum_by (λ (x : Row). total-path (last_of (row_figures x).path) x.self_size j) (take i sorted) in
-    omega (arith, bytes, total-added_up last_bytes default (take i sorted), total-default, sum_by_more_le own sorted i r within, ap own at, sum_by-IsPermutation own rs sorted order, rows-fold (λ n p m. n + m) 0 g rs are)
+-- What some children have at a path is what the child with its first key has below that.
+children_at : (cs : List Child) (k : Key) (p : Path) → InOrder cs →
+    (sum_by (λ c. size_at (under c.key c.graph) (k ∷ p)) cs ≡ unwrap_or (size_under cs k p) 0)
+    × (list_any (λ c. contains_key (under c.key c.graph) (k ∷ p)) cs ≡ is_some (size_under cs k p))
+unfolding IsStrictlySortedBy
+children_at [] k p o = (refl, refl)
+children_at (c ∷ cs) k p o =
+    let rest = children_at cs k p o.1 in
+    let t = eq_by_cmp key_cmp k c.key in
+    let both = pick t (get c.graph p) (size_under cs k p) (λ e. none_above k c.key p cs e o.0) in
+    let here : get (under c.key c.graph) (k ∷ p) ≡ cond t (get c.graph p) None = get-under c.key c.graph k p in (
+      omega (arith, sum_by-cons (λ (d : Child). size_at (under d.key d.graph) (k ∷ p)) c cs, rest.0, both.0, ap (λ (x : Option ℕ). unwrap_or x 0) here),
+      (λ i. is_some (here i) || rest.1 i) ∙ both.1,
+    )
 
--- Of rows that are sorted, the heaviest first, none has less than a later one.
-pub falls : (rs : List Row) → ((i j : ℕ) (r : Row) → i ≤ j → j < length rs
-    → is_lt (nat_cmp (get_or rs i r).self_size (get_or rs j r).self_size) ≡ false) →
-    AllPairs HasNoLess (map row_figures rs)
-falls [] h i j d before within = absurd (omega arith)
-falls (r ∷ rs) h i j d before within =
-    let short : j < length (r ∷ rs) = omega (arith, within, length-map (r ∷ rs) row_figures) in
-    rw (get_or-map row_figures (r ∷ rs) i r d (omega arith), get_or-map row_figures (r ∷ rs) j r d short)
-    (ge_from_not_lt _ _ (h i j r (omega arith) short))
+-- The bytes of a root and its children, added up, are the graph.
+pub sum_of_children : (n : ℕ) (cs : List Child) → AreChildren cs → sum_of_all (bytes_alone n) cs ≡ node n cs
+sum_of_children n cs h = same_graph _ _ sizes paths
+  where
+    made : Child → Graph
+    made c = under c.key c.graph
 
--- After the last row the lines of all are written.
-pub table-is : (all t n i : ℕ) (sorted items : List Row) (made : List ℕ) →
-    made ≡ flat_map (table_line all) (map row_figures (take i items)) → length items ≤ i → items ≡ take n sorted →
-    all ≡ t → made ≡ flat_map (table_line t) (take n (map row_figures sorted))
-table-is all t n i sorted items made is end same e =
-    is ∙ ap (λ (xs : List Row). flat_map (table_line all) (map row_figures xs)) (take_all i items end ∙ same)
-    ∙ (λ j. flat_map (table_line (e j)) (sym (take-map row_figures n sorted) j))
+    none : (c : Child) → size_at (made c) [] ≡ 0
+    none c = ap (λ (o : Option ℕ). unwrap_or o 0) (get-under-root c.key c.graph)
+
+    own : get (bytes_alone n) [] ≡ Some n
+    own = ap (λ (g : Graph). get g []) (sym (node_leaf n)) ∙ get-root n [] no_children.sorted
+
+    alone : (k : Key) (p : Path) → get (bytes_alone n) (k ∷ p) ≡ None
+    alone k p = ap (λ (g : Graph). get g (k ∷ p)) (sym (node_leaf n)) ∙ get-below n [] k p no_children.sorted
+
+    sizes : (p : Path) → size_at (sum_of_all (bytes_alone n) cs) p ≡ size_at (node n cs) p
+    sizes [] = omega (arith, size_at-added_up made (bytes_alone n) cs [], sum_by-none (λ (c : Child). size_at (made c) []) none cs, ap (λ (o : Option ℕ). unwrap_or o 0) own, ap (λ (o : Option ℕ). unwrap_or o 0) (get-root n cs h.sorted))
+    sizes (k ∷ p) = omega (arith, size_at-added_up made (bytes_alone n) cs (k ∷ p), (children_at cs k p h.sorted).0, ap (λ (o : Option ℕ). unwrap_or o 0) (alone k p), ap (λ (o : Option ℕ). unwrap_or o 0) (get-below n cs k p h.sorted))
+
+    paths : (p : Path) → contains_key (sum_of_all (bytes_alone n) cs) p ≡ contains_key (node n cs) p
+    paths [] = has-added_up made (bytes_alone n) cs [] ∙ (λ i. is_some (own i) || list_any (λ (c : Child). contains_key (made c) []) cs)
+        ∙ ap is_some (sym (get-root n cs h.sorted))
+    paths (k ∷ p) = has-added_up made (bytes_alone n) cs (k ∷ p) ∙ (λ i. is_some (alone k p i) || (children_at cs k p h.sorted).1 i)
+        ∙ ap is_some (sym (get-below n cs k p h.sorted))

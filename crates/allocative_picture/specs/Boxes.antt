@@ -1,5 +1,5 @@
 -- Figures as texts, and the box of a frame: its place and its element.
-use Rattle.std.specs.Prelude.{ℕ, ◌+◌, ◌-◌, ◌*◌, ◌/◌, ◌%◌, ◌==◌, ◌&&◌, Bool, not, cond, nat_lt, max, length, List, []}
+use Rattle.std.specs.Prelude.{ℕ, ◌+◌, ◌-◌, ◌*◌, ◌/◌, ◌%◌, ◌==◌, ◌&&◌, ◌||◌, Bool, not, cond, nat_lt, max, length, List, []}
 use Rattle.std.specs.Prelude.{◌∷◌, ◌++◌, codes, decimal, bytes_eq}
 use Rattle.std.specs.List.{concat}
 use Rattle.allocative_graph.specs.Path.{Key, fnv}
@@ -19,26 +19,42 @@ unit_of n =
     (cond (nat_lt n 0x4000000000000) (0x10000000000, codes "TiB")
     (cond (nat_lt n 0x1000000000000000) (0x4000000000000, codes "PiB") (0x1000000000000000, codes "EiB"))))))
 
--- Bytes in their greatest binary unit, for example `1.5 KiB`: a whole number below 1 KiB, and otherwise with one
--- decimal, rounded down.
+-- The greatest power of a thousand that n reaches, and its letter.
+abbrev pub step_of : ℕ → ℕ × List ℕ
+step_of n =
+    cond (nat_lt n 1000) (1, [])
+    (cond (nat_lt n 1000000) (1000, codes "k ")
+    (cond (nat_lt n 1000000000) (1000000, codes "M ")
+    (cond (nat_lt n 1000000000000) (1000000000, codes "G ")
+    (cond (nat_lt n 1000000000000000) (1000000000000, codes "T ")
+    (cond (nat_lt n 1000000000000000000) (1000000000000000, codes "P ") (1000000000000000000, codes "E "))))))
+
+-- The number n in so great a step: a whole number if the step is 1, and otherwise with one decimal, rounded down.
+unfoldable pub stepped : ℕ → ℕ → List ℕ
+stepped n step =
+    cond (nat_lt step 2) (decimal n) (decimal (n / step) ++ codes "." ++ decimal (n % step * 10 / step)) ++ codes " "
+
+-- Bytes in their greatest binary unit, for example `1.5 KiB`.
 unfoldable pub size_text : ℕ → List ℕ
-size_text n =
-    cond (nat_lt n 0x400) (decimal n)
-    (decimal (n / (unit_of n).0) ++ codes "." ++ decimal (n % (unit_of n).0 * 10 / (unit_of n).0))
-    ++ codes " " ++ (unit_of n).1
+size_text n = stepped n (unit_of n).0 ++ (unit_of n).1
 
 -- Whether a unit is that of bytes.
 abbrev pub is_bytes : List ℕ → Bool
 is_bytes unit = bytes_eq unit (codes "bytes")
 
--- An amount in a unit: bytes in their greatest binary unit, and any other as a plain number with the unit, as
--- `1536 samples`.
+-- An amount in a unit: bytes in their greatest binary unit, and any other in its greatest power of a thousand, as
+-- `1.2 M samples`.
 unfoldable pub amount_text : List ℕ → ℕ → List ℕ
-amount_text unit n = cond (is_bytes unit) (size_text n) (decimal n ++ codes " " ++ unit)
+amount_text unit n = cond (is_bytes unit) (size_text n) (stepped n (step_of n).0 ++ (step_of n).1 ++ unit)
 
--- An amount in full: bytes also in their greatest binary unit, for example `1.5 KiB (1536 bytes)`.
+-- Whether an amount in a unit is also said in full.
+abbrev pub is_stepped : List ℕ → ℕ → Bool
+is_stepped unit n = is_bytes unit || not (nat_lt n 1000)
+
+-- An amount in a unit, also in full, for example as `1.5 KiB (1536 bytes)`.
 unfoldable pub full_text : List ℕ → ℕ → List ℕ
-full_text unit n = amount_text unit n ++ cond (is_bytes unit) (codes " (" ++ decimal n ++ codes " bytes)") []
+full_text unit n =
+    amount_text unit n ++ cond (is_stepped unit n) (codes " (" ++ decimal n ++ codes " " ++ unit ++ codes ")") []
 
 -- Millionths of all as a number of percent with two decimals, rounded down, for example `12.34`.
 unfoldable pub percent_text : ℕ → List ℕ
@@ -91,11 +107,11 @@ class_text Plain r = key_class r.depth r.key
 class_text Warned r = codes "warned"
 class_text (Changed before) r = change_class before (r.whole - before)
 
--- The classes that hide texts, in a window of 1000 pixels: both texts in a box below 24 pixels or too narrow for a
--- key of so many bytes, and otherwise the figure if it may not fit beside the key.
+-- The classes that hide texts, in a window of 1000 pixels: both texts in a box below 24 pixels, and otherwise the
+-- figure if it may not fit beside a key of so many bytes. A key that does not fit ends at the edge of the box.
 unfoldable pub fit_text : ℕ → ℕ → List ℕ
 fit_text units bytes =
-    cond (nat_lt units (1000 * max 24 (8 * bytes + 8))) (codes " thin brief")
+    cond (nat_lt units 24000) (codes " thin brief")
     (cond (nat_lt units (1000 * (8 * bytes + 120))) (codes " brief") [])
 
 -- ---- colours of a change
@@ -145,11 +161,12 @@ declared_text unit u r =
     concat (full_text unit r.whole ∷ codes ", " ∷ percent_text u
     ∷ cond (r.own == r.whole) (codes "% of all") (codes "% of all\n" ++ full_text unit r.own ++ codes " of its own") ∷ [])
 
--- The bytes of a path in the earlier profile and in the later one. Those of another unit are not said twice.
+-- The amounts of a path in the earlier profile and in the later one, also in full.
 unfoldable pub both_text : List ℕ → ℕ → ℕ → List ℕ
 both_text unit before after =
     (amount_text unit before ++ codes " before, " ++ amount_text unit after ++ codes " after")
-    ++ cond (is_bytes unit) (codes " (" ++ decimal before ++ codes " and " ++ decimal after ++ codes " bytes)") []
+    ++ cond (is_stepped unit (max before after))
+    (codes " (" ++ decimal before ++ codes " and " ++ decimal after ++ codes " " ++ unit ++ codes ")") []
 
 -- The title of a frame's box after the key, by its mark, from the share of its bytes in millionths.
 unfoldable pub title_text : List ℕ → ℕ → Mark → FrameData → List ℕ

@@ -6,6 +6,7 @@ use Rattle.allocative_graph.specs.Path.{Key, Path, key_cmp, is_same_path}
 use Rattle.allocative_graph.specs.Graph.{Graph, total, total_at, sum_of, size_at}
 use Rattle.allocative_picture.specs.declared.frame.Mark.{Mark}
 use Rattle.allocative_picture.specs.Frames.{FrameData, frame_of}
+use Rattle.allocative_picture.specs.Views.{reversed}
 use Rattle.allocative_picture.specs.Boxes.{left_edge, right_edge, width, is_drawn, element}
 
 -- The frame of a path of a graph.
@@ -58,3 +59,7 @@ OnceLaw = (g : Graph) (p : Path) → contains_key g p ≡ true → count_by (λ 
 -- change is as wide as its bytes before and after together.
 abbrev pub ChangeLaw : Type 0
 ChangeLaw = (g h : Graph) (p : Path) → total_at (sum_of g h) p ≡ total_at g p + total_at h p
+
+-- Reversing the paths of a graph twice gives each path its bytes back.
+abbrev pub ReverseLaw : Type 0
+ReverseLaw = (g : Graph) (p : Path) → size_at (reversed (reversed g)) p ≡ size_at g p

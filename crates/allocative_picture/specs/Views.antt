@@ -1,5 +1,5 @@
--- Views of a graph: its bytes by last key, and its outline.
-use Rattle.std.specs.Prelude.{◌≡◌, ℕ, zero, suc, ◌<◌, ◌≤◌, ◌⊎◌, ◌-◌, cond, List, [], ◌∷◌, drop, fold, length, sum_by, codes}
+-- Views of a graph: its bytes by last key, its reversed paths, and its outline.
+use Rattle.std.specs.Prelude.{◌≡◌, ℕ, zero, suc, ◌<◌, ◌≤◌, ◌⊎◌, ◌-◌, ◌==◌, cond, List, [], ◌∷◌, drop, fold, length, reverse, sum_by, codes}
 use Rattle.std.specs.List.{AllZip}
 use Rattle.std.specs.FinMap.{entries}
 use Rattle.allocative_graph.specs.Path.{Key, Path}
@@ -8,6 +8,7 @@ use Rattle.allocative_graph.specs.Graph.{ends_in}
 use Rattle.allocative_graph.specs.Rows.{node, sum_of_all, AreChildren}
 use Rattle.allocative_graph.specs.Representation.Children.{graph_of_path}
 use Rattle.allocative_graph.specs.declared.flamegraph.Child.{Child}
+use Rattle.allocative_picture.specs.declared.views.Gathered.{Gathered}
 
 -- The graph whose root alone has n bytes.
 abbrev pub bytes_alone : ℕ → Graph
@@ -18,13 +19,30 @@ bytes_alone n = add_self n default
 abbrev pub last_of : Path → Path
 last_of p = drop (length p - 1) p
 
+-- The graph h with the bytes of some paths added by last key.
+abbrev pub by_last_keys : Graph → List (Path × ℕ) → Graph
+by_last_keys h es = fold (λ h e. sum_of h (graph_of_path (last_of e.0) e.1)) h es
+
 -- The bytes of all paths by last key: those of all paths that end in a key add up under it.
 abbrev pub by_last_key : Graph → Graph
-by_last_key g = fold (λ h e. sum_of h (graph_of_path (last_of e.0) e.1)) default (entries g)
+by_last_key g = by_last_keys default (entries g)
+
+-- A view with the children that wait.
+abbrev pub all_of : Gathered → Graph
+all_of gathered = sum_of_all gathered.view gathered.waiting.items
 
 -- The bytes of all paths of g that end in k.
 abbrev pub bytes_ending_in : Key → Graph → ℕ
 bytes_ending_in k g = sum_by (λ e. cond (ends_in k e.0) e.1 0) (entries g)
+
+-- ---- reversed paths
+-- The graph h with the bytes of some paths at the reversed paths. Paths without bytes are left out.
+abbrev pub reversed_onto : Graph → List (Path × ℕ) → Graph
+reversed_onto h es = fold (λ h e. cond (e.1 == 0) h (sum_of h (graph_of_path (reverse e.0) e.1))) h es
+
+-- The bytes of each path of g at the reversed path.
+abbrev pub reversed : Graph → Graph
+reversed g = reversed_onto default (entries g)
 
 -- ---- the outline
 -- The graphs of some children, added up.

@@ -5,7 +5,7 @@ ghost use Rattle.allocative_picture.specs.Frames.{frame_data};
 ghost use Rattle.allocative_picture.specs.Boxes.{edge, width, is_drawn, figure_text, declared_text, title_text, viewport, element, shade, paint_text, change_text, both_text, class_text, change_class, fit_text};
 
 use crate::escape::escaped;
-use crate::figures::{Amount, Full, Percent, Place};
+use crate::figures::{Amount, Full, Percent, Place, is_stepped};
 use crate::frame::{Frame, Mark};
 use allocative_graph::key::Key;
 use std::alloc::{AllocError, Global};
@@ -58,8 +58,8 @@ impl fmt::Display for Comparison<'_> {
         let Difference(before, after, unit) = self.0;
         let (earlier, later) = (Amount(before, unit), Amount(after, unit));
         write!(f, "{earlier} before, {later} after")?;
-        if unit == "bytes" {
-            write!(f, " ({before} and {after} bytes)")?;
+        if is_stepped(before.max(after), unit) {
+            write!(f, " ({before} and {after} {unit})")?;
         }
         Ok(())
     }
@@ -137,14 +137,13 @@ fn change_class(before: usize, after: usize) -> &'static str
     }
 }
 
-/// The classes that hide the texts which do not fit into a box that is so many millionths wide, in a window of 1000
-/// pixels, with a key of so many bytes: the key and the figure, or the figure alone.
+/// The classes that hide the texts of a box that is so many millionths wide, in a window of 1000 pixels: both if it is
+/// below 24 pixels, and otherwise the figure, if it may not fit beside a key of so many bytes.
 #[tactic(auto, unfolding(crate::specs::Boxes::fit_text))]
 pub(crate) fn fit(units: u128, bytes: usize) -> &'static str
     ensures { result.now ≡ fit_text units bytes }
 {
-    let key = 24_u128.max(8 * bytes as u128 + 8);
-    if units < 1000 * key {
+    if units < 24_000 {
         " thin brief"
     } else if units < 1000 * (8 * bytes as u128 + 120) {
         " brief"

@@ -1,15 +1,15 @@
 //! Figures as texts.
 ghost use Rattle.std.specs.Prelude.{◌≡◌, ◌*◌, ◌<◌, Some};
-ghost use Rattle.allocative_picture.specs.Boxes.{unit_of, amount_text, full_text, percent_text, place_text};
+ghost use Rattle.allocative_picture.specs.Boxes.{unit_of, step_of, amount_text, full_text, is_stepped, stepped, percent_text, place_text};
 
 use std::fmt;
 
-/// An amount and its unit, printed as `1536 samples`. Bytes are printed in their greatest binary unit, rounded
-/// down to tenths, for example `1.5 KiB`.
+/// An amount and its unit, printed in its greatest power of a thousand, for example as `1.2 M samples`, and bytes in
+/// their greatest binary unit, as `1.5 KiB`. Both are rounded down to tenths.
 #[derive(Clone, Copy)]
 pub(crate) struct Amount<'a>(pub usize, pub &'a str);
 
-/// An amount and its unit, printed as an `Amount`. Bytes are also printed in full, for example as `1.5 KiB (1536 bytes)`.
+/// An amount and its unit, printed as an `Amount` and also in full, for example as `1.5 KiB (1536 bytes)`.
 #[derive(Clone, Copy)]
 pub(crate) struct Full<'a>(pub usize, pub &'a str);
 
@@ -37,22 +37,60 @@ fn unit_of(bytes: usize) -> (usize, &'static str)
     }
 }
 
+/// The greatest power of a thousand that a number reaches, and its letter.
+fn step_of(number: usize) -> (usize, &'static str)
+    ensures step { result.0 ≡ (step_of number).0 }
+    ensures letter { result.1.now ≡ (step_of number).1 }
+{
+    match number {
+        0..=999 => (1, ""),
+        1_000..=999_999 => (1_000, "k "),
+        1_000_000..=999_999_999 => (1_000_000, "M "),
+        1_000_000_000..=999_999_999_999 => (1_000_000_000, "G "),
+        1_000_000_000_000..=999_999_999_999_999 => (1_000_000_000_000, "T "),
+        1_000_000_000_000_000..=999_999_999_999_999_999 => (1_000_000_000_000_000, "P "),
+        _ => (1_000_000_000_000_000_000, "E "),
+    }
+}
+
+/// Whether an amount in a unit is also printed in full.
+pub(crate) fn is_stepped(amount: usize, unit: &str) -> bool
+    ensures { result ≡ is_stepped unit.now amount }
+{
+    unit == "bytes" || amount >= 1000
+}
+
+/// A number and a step, printed as a multiple of the step with one decimal, or as it is if the step is 1.
+#[derive(Clone, Copy)]
+struct Stepped(usize, usize);
+
+#[tactic(auto, unfolding(crate::specs::Boxes::stepped))]
+impl fmt::Display for Stepped {
+    ghost output = { λ s. Some (stepped s.0 s.1) };
+
+    fn fmt<W: fmt::Write>(&self, f: &mut fmt::Formatter<W>) -> fmt::Result {
+        let Stepped(number, step) = *self;
+        if step < 2 {
+            return write!(f, "{number} ");
+        }
+        let whole = number / step;
+        let tenths = (number % step) as u128 * 10 / step as u128;
+        write!(f, "{whole}.{tenths} ")
+    }
+}
+
 #[tactic(auto, unfolding(crate::specs::Boxes::amount_text, crate::specs::Boxes::size_text))]
 impl fmt::Display for Amount<'_> {
     ghost output = { λ a. Some (amount_text a.1.now a.0) };
 
     fn fmt<W: fmt::Write>(&self, f: &mut fmt::Formatter<W>) -> fmt::Result {
         let Amount(amount, unit) = *self;
-        if unit != "bytes" {
-            return write!(f, "{amount} {unit}");
+        if unit == "bytes" {
+            let (bytes, name) = unit_of(amount);
+            return write!(f, "{}{name}", Stepped(amount, bytes));
         }
-        let (bytes, name) = unit_of(amount);
-        if amount < 0x400 {
-            return write!(f, "{amount} {name}");
-        }
-        let whole = amount / bytes;
-        let tenths = amount % bytes * 10 / bytes;
-        write!(f, "{whole}.{tenths} {name}")
+        let (step, letter) = step_of(amount);
+        write!(f, "{}{letter}{unit}", Stepped(amount, step))
     }
 }
 
@@ -63,8 +101,8 @@ impl fmt::Display for Full<'_> {
     fn fmt<W: fmt::Write>(&self, f: &mut fmt::Formatter<W>) -> fmt::Result {
         let Full(amount, unit) = *self;
         write!(f, "{}", Amount(amount, unit))?;
-        if unit == "bytes" {
-            write!(f, " ({amount} bytes)")?;
+        if is_stepped(amount, unit) {
+            write!(f, " ({amount} {unit})")?;
         }
         Ok(())
     }

@@ -1,7 +1,7 @@
 //! The laws of pictures. Each is a function without parameters, whose contract is the law.
 #![tactic(auto, using(crate::proofs::Geometry::laws, crate::proofs::Escaping::escapes))]
 
-ghost use Rattle.allocative_picture.specs.Laws.{InsideLaw, ApartLaw, ShareLaw, WithinLaw, BoxesLaw, OnceLaw, ChangeLaw};
+ghost use Rattle.allocative_picture.specs.Laws.{InsideLaw, ApartLaw, ShareLaw, WithinLaw, BoxesLaw, OnceLaw, ChangeLaw, ReverseLaw};
 ghost use Rattle.allocative_picture.specs.Escape.{EscapeLaw};
 
 /// The box of a path lies within the box of its parent, the path without its last key.
@@ -43,4 +43,10 @@ pub fn escape_law()
 /// The bytes of a path and all below it in the sum of two graphs are those in the two graphs together.
 pub fn change_law()
     ensures { ChangeLaw }
+{}
+
+/// Reversing the paths of a graph twice gives each path its bytes back.
+#[tactic(auto, using(crate::proofs::Reversing::reversed_twice))]
+pub fn reverse_law()
+    ensures { ReverseLaw }
 {}

@@ -15,7 +15,8 @@ pub struct Options<'a> {
     /// The width of the narrowest box, in millionths of the width of the picture. A path has no box if its box would
     /// be narrower, or would have no width.
     pub narrowest: u32,
-    /// What the sizes count, as `bytes`, which are printed in binary units, or `samples`. It may be any text.
+    /// What the sizes count: `bytes`, which are printed in binary units, or any text, as `samples`, of which thousands
+    /// are printed as `1.2 k samples`.
     pub unit: &'a str,
 }
 

@@ -1,30 +1,51 @@
-//! Views of a flame graph, which say what is heavy where its keys are data: the bytes by last key, and the outline of a
-//! graph. Each is a graph, and keeps the total.
-ghost use Rattle.std.specs.Prelude.{◌≡◌, [], ◌∷◌, IfOk, OnOk};
-ghost use Rattle.allocative_graph.specs.Path.{Key, texts};
-ghost use Rattle.allocative_graph.specs.Graph.{size_at, sum_of, total, under};
-ghost use Rattle.allocative_graph.specs.Rows.{row_figures};
-ghost use Rattle.allocative_picture.specs.Views.{by_last_key, bytes_alone, bytes_ending_in, joined, last_of, GuidesChild, IsOutline};
+//! Views of a flame graph, which say what is heavy where its keys are data: the outline of a graph, the bytes by last key,
+//! and the reversed paths. Each is a graph, and keeps the total.
+ghost use Rattle.std.specs.Prelude.{◌≡◌, ◌<◌, ◌-◌, ◌^◌, [], ◌∷◌, ◌++◌, IfOk, OnOk, reverse};
+ghost use Rattle.std.specs.FinMap.{entries, len};
+ghost use Rattle.allocative_graph.specs.Path.{Key, Path, texts};
+ghost use Rattle.allocative_graph.specs.Graph.{default, size_at, sum_of, total, under};
+ghost use Rattle.allocative_graph.specs.Rows.{under_rows};
+ghost use Rattle.allocative_graph.specs.Representation.Children.{graph_of_path};
+ghost use Rattle.allocative_picture.specs.Views.{all_of, by_last_key, by_last_keys, bytes_alone, bytes_ending_in, joined, reversed, reversed_onto, GuidesChild, IsOutline};
+ghost use Rattle.allocative_picture.specs.Table.{behind};
 
-use allocative_graph::flamegraph::{Child, FlameGraph, Row, add_at};
+use allocative_graph::flamegraph::{Child, FlameGraph};
 use allocative_graph::key::Key;
 use std::alloc::{AllocError, Global};
+use std::mem;
+
+/// Adds bytes to the root of an empty view, where they fit.
+#[inline(never)]
+fn add_bytes(view: &mut FlameGraph, bytes: usize) -> Result<(), AllocError>
+    requires { view.old ≡ default }
+    ensures { OnOk result (view.new ≡ bytes_alone bytes) }
+{
+    view.add_self(bytes).map_err(|_| AllocError)
+}
 
 /// A graph whose root alone has bytes.
 fn bytes_alone(alloc: Global, bytes: usize) -> Result<FlameGraph, AllocError>
     ensures { IfOk result (λ graph. graph ≡ bytes_alone bytes) }
 {
     let mut graph = FlameGraph::default(alloc);
-    graph.add_self(bytes).map_err(|_| AllocError)?;
+    add_bytes(&mut graph, bytes)?;
     Ok(graph)
 }
 
-/// Adds a graph with a key before its paths. The bytes of all views together are those of one graph, so the only error
-/// is that memory runs out.
-fn put(view: &mut FlameGraph, key: Key, graph: FlameGraph) -> Result<(), AllocError>
-    ensures { OnOk result (view.new ≡ sum_of view.old (under key graph)) }
+/// Adds a graph with a key before its paths, and leaves an empty graph in its place. The bytes of all views together are
+/// those of one graph, so the only error is that memory runs out.
+#[inline(never)]
+fn put(
+    alloc: Global,
+    view: &mut FlameGraph,
+    key: &Key,
+    graph: &mut FlameGraph,
+) -> Result<(), AllocError>
+    ensures sum { OnOk result (view.new ≡ sum_of view.old (under key.now graph.old)) }
+    ensures empty { graph.new ≡ default }
 {
-    view.add_child(key, graph).map_err(|_| AllocError)
+    let child = mem::replace(graph, FlameGraph::default(alloc));
+    view.add_child(key.copy(), child).map_err(|_| AllocError)
 }
 
 /// The graphs of some children, added up.
@@ -40,6 +61,7 @@ fn joined(alloc: Global, children: &[Child]) -> Result<FlameGraph, AllocError>
 }
 
 /// What guides the outline of a child: what the guide has at the child's key, or the child itself if that is nothing.
+#[inline(never)]
 fn guide_of<'a>(guide: &'a FlameGraph, child: &'a Child) -> &'a FlameGraph
     ensures { GuidesChild guide.now child.now result.now }
 {
@@ -49,12 +71,42 @@ fn guide_of<'a>(guide: &'a FlameGraph, child: &'a Child) -> &'a FlameGraph
     }
 }
 
+/// What is below the children of a guide and of a graph, added up.
+#[derive(Drop)]
+struct Folded {
+    guide: FlameGraph,
+    graph: FlameGraph,
+}
+
+/// The graphs of the children of a guide and of a graph, added up. It is a call of its own, and its result in a box, so
+/// that a level of an outline takes less of the stack.
+#[inline(never)]
+fn fold_children(
+    alloc: Global,
+    guides: &[Child],
+    children: &[Child],
+) -> Result<Box<Folded>, AllocError>
+    ensures guide { IfOk result (λ both. both.value.guide ≡ joined guides.now) }
+    ensures graph { IfOk result (λ both. both.value.graph ≡ joined children.now) }
+{
+    let both = Folded {
+        guide: joined(alloc, guides)?,
+        graph: joined(alloc, children)?,
+    };
+    Ok(Box::new(alloc, both)?)
+}
+
+/// Drops what was added up. It is a call of its own, as `fold_children` is.
+#[inline(never)]
+fn release(_both: Box<Folded>) {}
+
 /// The outline of a graph: the graph cut at a depth, with keys folded.
 ///
 /// A path has at most `depth` keys; what is below adds to its ancestor of so many keys. If a path has more than `most`
-/// children, they are one child `{}`, in which their graphs add up before they are folded in turn. With `usize::MAX`
-/// nothing is cut, and no keys are folded. The children are counted in the guide, which is the graph itself, or the sum
-/// of several graphs whose outlines are to be alike. The only error is that memory runs out.
+/// children, they are one child `{}`, in which their graphs add up before they are folded in turn. If `most` is
+/// `usize::MAX` and the graph has fewer than `depth` paths, the outline is the graph. The children are counted in the
+/// guide, which is the graph itself, or the sum of several graphs whose outlines are to be alike. The only error is that
+/// memory runs out.
 pub fn outline(
     alloc: Global,
     guide: &FlameGraph,
@@ -64,55 +116,206 @@ pub fn outline(
 ) -> Result<FlameGraph, AllocError>
     ensures outline { IfOk result (IsOutline depth most guide.now graph.now) }
     ensures total { IfOk result (λ view. total view ≡ total graph.now) }
+    ensures whole { IfOk result (λ view. len graph.now < depth → most ≡ 2 ^ 64 - 1 → view ≡ graph.now) }
 {
-    let Some(rest) = depth.checked_sub(1) else {
-        return bytes_alone(alloc, graph.total_size());
-    };
-    let mut view = bytes_alone(alloc, graph.self_size())?;
-    let guides = guide.children();
-    let children = graph.children();
-    if guides.len() > most {
-        let guide_below = joined(alloc, guides)?;
-        let all = joined(alloc, children)?;
-        let below = outline(alloc, &guide_below, &all, rest, most)?;
-        put(&mut view, Key::new("{}"), below)?;
-        return Ok(view);
-    }
-    for child in children {
-        let child_guide = guide_of(guide, child);
-        let below = outline(alloc, child_guide, &child.graph, rest, most)?;
-        put(&mut view, child.key.copy(), below)?;
-    }
+    let mut view = FlameGraph::default(alloc);
+    add_outline(alloc, guide, graph, depth, most, &mut view)?;
     Ok(view)
 }
 
-/// The last key of a row's path alone, or no key of the root's.
-#[tactic(auto, using(crate::proofs::Placing::last_keys))]
-fn last_of(row: &Row) -> &[&'static str]
-    ensures { texts result.now ≡ last_of (row_figures row.now).path }
+/// Makes the outline of a graph of an empty view. What it calls is not inlined, so that a level takes less of the stack.
+fn add_outline(
+    alloc: Global,
+    guide: &FlameGraph,
+    graph: &FlameGraph,
+    depth: usize,
+    most: usize,
+    view: &mut FlameGraph,
+) -> Result<(), AllocError>
+    requires { view.old ≡ default }
+    ensures outline { OnOk result (IsOutline depth most guide.now graph.now view.new) }
+    ensures whole { OnOk result (len graph.now < depth → most ≡ 2 ^ 64 - 1 → view.new ≡ graph.now) }
 {
-    let path = row.path.as_slice();
-    &path[path.len().saturating_sub(1)..]
+    let Some(rest) = depth.checked_sub(1) else {
+        return add_bytes(view, graph.total_size());
+    };
+    add_bytes(view, graph.self_size())?;
+    let guides = guide.children();
+    let children = graph.children();
+    let mut below = FlameGraph::default(alloc);
+    if guides.len() > most {
+        let both = fold_children(alloc, guides, children)?;
+        let outlined = add_outline(alloc, &both.guide, &both.graph, rest, most, &mut below);
+        release(both);
+        outlined?;
+        return put(alloc, view, &Key::new("{}"), &mut below);
+    }
+    for child in children {
+        let child_guide = guide_of(guide, child);
+        add_outline(alloc, child_guide, &child.graph, rest, most, &mut below)?;
+        put(alloc, view, &child.key, &mut below)?;
+    }
+    Ok(())
+}
+
+/// A view, and children that are still to be added to it. Many are added at a time, since a new child moves those that
+/// come after it.
+#[derive(Drop)]
+struct Gathered {
+    view: FlameGraph,
+    waiting: Vec<Child>,
+}
+
+impl Gathered {
+    /// Adds a graph with a key before its paths.
+    #[tactic(auto, using(crate::proofs::Viewing::all_push))]
+    fn add(&mut self, key: Key, graph: FlameGraph) -> Result<(), AllocError>
+        ensures { OnOk result (all_of self.new ≡ sum_of (all_of self.old) (under key graph)) }
+    {
+        self.waiting.push(Child { key, graph })?;
+        if self.waiting.len() > self.view.children().len() {
+            self.add_waiting()?;
+        }
+        Ok(())
+    }
+
+    /// Adds the children that wait. The bytes of all views together are those of one graph, so the only error is that
+    /// memory runs out.
+    fn add_waiting(&mut self) -> Result<(), AllocError>
+        ensures all { OnOk result (all_of self.new ≡ all_of self.old) }
+        ensures none { OnOk result (self.new.waiting.items ≡ []) }
+    {
+        let none = Vec::new(*self.waiting.allocator());
+        let waiting = mem::replace(&mut self.waiting, none);
+        self.view.add_children(waiting).map_err(|_| AllocError)
+    }
+}
+
+/// Adds bytes under a key alone. It is a call of its own, so that a level of the walk takes less of the stack.
+#[inline(never)]
+fn add_key(
+    alloc: Global,
+    key: &Key,
+    bytes: usize,
+    gathered: &mut Gathered,
+) -> Result<(), AllocError>
+    ensures { OnOk result (all_of gathered.new ≡ sum_of (all_of gathered.old) (under key.now (bytes_alone bytes))) }
+{
+    gathered.add(key.copy(), bytes_alone(alloc, bytes)?)
+}
+
+/// Adds the bytes of each path of a graph by its last key, which is the given one for the root.
+fn add_last_keys(
+    alloc: Global,
+    key: &Key,
+    graph: &FlameGraph,
+    gathered: &mut Gathered,
+) -> Result<(), AllocError>
+    ensures { OnOk result
+        (all_of gathered.new ≡ by_last_keys (all_of gathered.old) (under_rows key.now (entries graph.now))) }
+{
+    let children = graph.children();
+    add_key(alloc, key, graph.self_size(), gathered)?;
+    for child in children {
+        add_last_keys(alloc, &child.key, &child.graph, gathered)?;
+    }
+    Ok(())
 }
 
 /// The bytes of a graph by last key: all paths that end in a key add up under that key alone. The root keeps its own
-/// bytes. The only error is that memory runs out.
-#[tactic(auto, using(std::proofs::lemmas::List::Sums::fold_more))]
+/// bytes. What is held on the way is at most a few times what is returned. The only error is that memory runs out.
 pub fn by_last_key(alloc: Global, graph: &FlameGraph) -> Result<FlameGraph, AllocError>
     ensures view { IfOk result (λ view. view ≡ by_last_key graph.now) }
     ensures total { IfOk result (λ view. total view ≡ total graph.now) }
     ensures sizes { IfOk result (λ view. (k : Key) → size_at view (k ∷ []) ≡ bytes_ending_in k graph.now) }
 {
-    let Ok(mut rows) = graph.rows() else {
-        return Err(AllocError);
+    let mut gathered = Gathered {
+        view: bytes_alone(alloc, graph.self_size())?,
+        waiting: Vec::new(alloc),
     };
-    // The contract of `total_size` says that all bytes fit a `usize`, so no sum below overflows.
-    let _all = graph.total_size();
-    // Each key is then added behind those that are there. The result of a sum does not depend on it.
-    rows.sort_unstable_by(|a: &Row, b: &Row| last_of(a).cmp(last_of(b)));
-    let mut view = FlameGraph::default(alloc);
-    for row in &rows {
-        add_at(&mut view, last_of(row), row.self_size)?;
+    let children = graph.children();
+    for child in children {
+        add_last_keys(alloc, &child.key, &child.graph, &mut gathered)?;
     }
-    Ok(view)
+    gathered.add_waiting()?;
+    Ok(gathered.view)
+}
+
+/// The graph that has bytes at the reverse of a path alone.
+fn graph_of_reversed(
+    alloc: Global,
+    path: &[&'static str],
+    bytes: usize,
+) -> Result<FlameGraph, AllocError>
+    ensures { IfOk result (λ graph. graph ≡ graph_of_path (reverse (texts path.now)) bytes) }
+{
+    let mut graph = bytes_alone(alloc, bytes)?;
+    for key in path {
+        let mut outer = FlameGraph::default(alloc);
+        put(alloc, &mut outer, &Key::new(*key), &mut graph)?;
+        graph = outer;
+    }
+    Ok(graph)
+}
+
+/// Adds the bytes of a path with a last key at the reversed path, if it has some. It is a call of its own, so that a level
+/// of the walk takes less of the stack.
+#[inline(never)]
+fn add_reversed_path(
+    alloc: Global,
+    path: &[&'static str],
+    key: &Key,
+    bytes: usize,
+    gathered: &mut Gathered,
+) -> Result<(), AllocError>
+    ensures { OnOk result (all_of gathered.new
+        ≡ reversed_onto (all_of gathered.old) ((texts path.now ++ key.now ∷ [], bytes) ∷ [])) }
+{
+    if bytes == 0 {
+        return Ok(());
+    }
+    let graph = graph_of_reversed(alloc, path, bytes)?;
+    gathered.add(key.copy(), graph)
+}
+
+/// Adds the bytes of each path of a graph at the reversed path. Before its paths are the given keys, `key` last.
+fn add_reversed(
+    alloc: Global,
+    path: &mut Vec<&'static str>,
+    key: &Key,
+    graph: &FlameGraph,
+    gathered: &mut Gathered,
+) -> Result<(), AllocError>
+    ensures path { OnOk result (path.new.items ≡ path.old.items) }
+    ensures all { OnOk result (all_of gathered.new
+        ≡ reversed_onto (all_of gathered.old) (behind (texts path.old.items ++ key.now ∷ []) (entries graph.now))) }
+{
+    let children = graph.children();
+    add_reversed_path(alloc, path.as_slice(), key, graph.self_size(), gathered)?;
+    path.push(key.as_str())?;
+    for child in children {
+        add_reversed(alloc, path, &child.key, &child.graph, gathered)?;
+    }
+    path.pop();
+    Ok(())
+}
+
+/// The graph with the keys of each path in reverse: which paths lead to a last key. Paths without bytes of their own are
+/// left out. Reversed twice, each path has its bytes back. The only error is that memory runs out.
+pub fn reverse(alloc: Global, graph: &FlameGraph) -> Result<FlameGraph, AllocError>
+    ensures view { IfOk result (λ view. view ≡ reversed graph.now) }
+    ensures total { IfOk result (λ view. total view ≡ total graph.now) }
+    ensures sizes { IfOk result (λ view. (p : Path) → size_at view p ≡ size_at graph.now (reverse p)) }
+{
+    let mut path: Vec<&'static str> = Vec::new(alloc);
+    let mut gathered = Gathered {
+        view: bytes_alone(alloc, graph.self_size())?,
+        waiting: Vec::new(alloc),
+    };
+    let children = graph.children();
+    for child in children {
+        add_reversed(alloc, &mut path, &child.key, &child.graph, &mut gathered)?;
+    }
+    gathered.add_waiting()?;
+    Ok(gathered.view)
 }

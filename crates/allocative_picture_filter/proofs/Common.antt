@@ -1,16 +1,13 @@
 -- The names that proofs of this crate cite, passed on from one place. Declares nothing.
-pub use Rattle.allocative_graph.proofs.Common.{Graph, default, total, text, Lacks, IsCut, map-append, take_more}
-pub use Rattle.allocative_graph.proofs.Common.{length-map, lines}
-pub use Rattle.allocative_picture_filter.specs.Arguments.{StopsAsking, Disagree, is_input, value_in, values_in, IsAsked}
-pub use Rattle.allocative_picture_filter.specs.Arguments.{IsWrong, picture_app}
+pub use Rattle.allocative_graph.proofs.Common.{Graph, default, total, text, Lacks, IsCut, map-append, take_more, lines}
 pub use Rattle.allocative_picture_filter.specs.Differential.{HasTwoCounts, IsDifferential}
 pub use Rattle.allocative_picture_filter.specs.Fault.{IsReadingOf, fault_of}
 pub use Rattle.allocative_picture_filter.specs.declared.fault.Fault.{Fault}
-pub use Rattle.allocative_picture_filter.specs.declared.fault.Fault.TheVariants.{Memory, Arguments, Writing}
+pub use Rattle.allocative_picture_filter.specs.declared.fault.Fault.TheVariants.{Memory, Writing}
 pub use Rattle.allocative_picture_filter.specs.declared.fault.Source.TheVariants.{Input}
 pub use Rattle.allocative_picture_filter.specs.declared.run.Text.{Text}
-pub use Rattle.std.proofs.lemmas.Iterator.{cases_from_all, cases_from_any, YieldsList-from_slice}
+pub use Rattle.std.proofs.lemmas.Iterator.{cases_from_all, cases_from_any}
 pub use Rattle.std.proofs.lemmas.Option.{IfSome_then}
-pub use Rattle.std.proofs.lemmas.Result.{IfOk-weaker, IfErr-weaker}
-pub use Rattle.std.specs.List.{AllWithin, list_all}
-pub use Rattle.std.specs.Str.Parse.{IsNumeral, digits_value}
+pub use Rattle.std.proofs.lemmas.Result.{IfOk-weaker}
+pub use Rattle.std.specs.List.{AllWithin}
+pub use Rattle.std.specs.Str.Parse.{IsNumeral}

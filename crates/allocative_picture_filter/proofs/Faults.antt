@@ -1,7 +1,7 @@
 -- Faults and their status.
 use Rattle.std.proofs.Common.{◌≡◌, inl, inr, ℕ, ◌^◌, ◌≤◌, List, [], ◌∷◌, Option, None, Some, Ok, Err, Result, refl}
 use Rattle.std.proofs.Common.{IfSome, IfErr, IsErrOf, IsErrAnd}
-use Rattle.allocative_picture_filter.proofs.Common.{Graph, Fault, Text, Memory, Arguments, Writing, StopsAsking}
+use Rattle.allocative_picture_filter.proofs.Common.{Graph, Fault, Text, Memory, Writing}
 use Rattle.allocative_picture_filter.proofs.Common.{fault_of}
 use Rattle.allocative_picture_filter.specs.Run.{Sourced, StopsAddingUp, StopsJoining, Stops}
 use Rattle.allocative_graph.specs.declared.refusal.Refusal as refusal
@@ -37,12 +37,6 @@ pub of_each : {A : Type 0} {Q : A → Type 0} (o : Option A) → ((a : A) → Q 
 of_each None f = tt
 of_each (Some a) f = f a
 
--- Why nothing is asked for, if that implies another reason.
-pub because : (f : Fault) (P Q : Type 0) → (P → Q) → StopsAsking P f → StopsAsking Q f
-because Memory P Q more h = tt
-because (Arguments reason) P Q more h = more h
-because f P Q more h = absurd h
-
 -- What holds of a fault holds if the result is that fault.
 pub holds-of : {T : Type 0} (r : Result T Fault) (P : Fault → Type 0) (f : Fault) → IsErrAnd r (λ e. e ≡ f) → P f →
     IfErr r P
@@ -50,4 +44,4 @@ holds-of (Ok x) P f is h = tt
 holds-of (Err e) P f is h = rw is h
 
 -- The lemmas by which a run is stopped by its first fault.
-pub ruleset stopping = (holds-of, of_each, because)
+pub ruleset stopping = (holds-of, of_each)

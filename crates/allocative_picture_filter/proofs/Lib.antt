@@ -1,4 +1,3 @@
 pub mod Common
 pub mod Faults
-pub mod Rows
 pub mod Sums

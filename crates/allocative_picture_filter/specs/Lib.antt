@@ -1,4 +1,3 @@
-pub mod Arguments
 pub mod Differential
 pub mod Fault
 pub mod Run

@@ -6,7 +6,7 @@ use Rattle.allocative_graph.specs.Graph.{Graph, default, sum_of, text, total}
 use Rattle.allocative_graph.specs.Read.{IsRead, IsFault, Exceeds}
 use Rattle.allocative_picture.specs.Picture.{profile_drawing, change_drawing}
 use Rattle.allocative_picture.specs.Table.{IsTable}
-use Rattle.allocative_picture.specs.Views.{IsOutline, by_last_key}
+use Rattle.allocative_picture.specs.Views.{IsOutline, by_last_key, reversed}
 use Rattle.allocative_picture.specs.declared.options.Options.{Options}
 use Rattle.allocative_picture_filter.specs.Differential.{IsDifferential}
 use Rattle.allocative_picture_filter.specs.Fault.{IsReadingOf}
@@ -64,6 +64,10 @@ AddUp ts h = AddUpOnto default ts h
 abbrev pub is_change : Arguments → ℕ → Bool
 is_change asked before = not (asked.as_text || nat_lt 0 asked.top || (before == 0))
 
+-- The graph g, or that with the reversed paths if it is asked for.
+abbrev pub turned : Arguments → Graph → Graph
+turned asked g = cond asked.reverse (reversed g) g
+
 -- Whether graphs are outlined.
 abbrev pub is_outlined : Arguments → Bool
 is_outlined asked = not ((asked.depth == 0) && (asked.fold == 0))
@@ -115,7 +119,7 @@ pub record IsMade (asked : Arguments) (before : List Text) (after : List Sourced
   pub earlier_read : AddUp (map sourced before) earlier
   pub later_read : AddUp after later
   pub some : IsTrue asked.not_empty → 0 < total later
-  pub shows : Shows asked (is_change asked (length before)) earlier later made
+  pub shows : Shows asked (is_change asked (length before)) (turned asked earlier) (turned asked later) made
 
 -- ---- what stops a run
 -- Why no graph is read of a text: memory runs out; it is not UTF-8; it is in the differential form; or it is not, and a

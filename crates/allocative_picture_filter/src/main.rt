@@ -2,19 +2,14 @@
 //! Files of an earlier profile may be named, and the picture then shows the change.
 #![tactic(auto)]
 
-ghost use Rattle.std.specs.Prelude.{◌≡◌, IsTrue, OnOk};
-ghost use Rattle.std.specs.Io.KnownBytes.{Appends};
-ghost use Rattle.allocative_io.specs.Streams.{AppendsBeginning};
-ghost use Rattle.allocative_picture_filter.specs.declared.run.TheConstants.{USAGE};
-
 mod arguments;
 mod differential;
 mod fault;
 mod run;
 
-use arguments::{Arguments, argument_fault, read_arguments};
+use arguments::{Arguments, read_arguments};
 use fault::{Fault, Source, report};
-use run::{Text, USAGE, read_text, run, write_output};
+use run::{Text, read_text, run};
 use std::env;
 use std::fs::File;
 use std::io::{ErrorKind, Read, Write};
@@ -27,8 +22,8 @@ fn arguments_of<'a, R: Env + AllocGlobal>(rt: &R) -> Result<Vec<String>, Fault<'
         Ok(args) => Ok(args.skip(1).collect(rt.alloc())?),
         Err(error) if error.kind() == ErrorKind::OutOfMemory => Err(Fault::Memory),
         Err(_) => {
-            let reason = String::from_str(rt.alloc(), "an argument is not UTF-8");
-            Err(argument_fault(reason))
+            let reason = String::from_str(rt.alloc(), "an argument is not UTF-8")?;
+            Err(Fault::Arguments(reason))
         }
     }
 }
@@ -54,22 +49,13 @@ fn read_files<'a, R: Files + AllocGlobal>(
     Ok(texts)
 }
 
-// Does what the arguments ask for. With `help` it writes the usage, and reads nothing.
+// Does what the arguments ask for.
 fn run_on_files<'a, S: Files + AllocGlobal, R: Read, W: Write>(
     rt: &S,
     asked: &Arguments<'a>,
     input: &mut R,
     output: &mut W,
-) -> Result<(), Fault<'a>>
-    ensures unread { IsTrue asked.now.help → input.new ≡ input.old }
-    ensures shown { IsTrue asked.now.help
-        → OnOk result (Appends (W.contents output.old) (W.contents output.new) USAGE.now) }
-    ensures beginning { IsTrue asked.now.help
-        → AppendsBeginning (W.contents output.old) (W.contents output.new) USAGE.now }
-{
-    if asked.help {
-        return write_output(output, USAGE);
-    }
+) -> Result<(), Fault<'a>> {
     let before = read_files(rt, asked.before.as_slice())?;
     let after = read_files(rt, asked.after.as_slice())?;
     let (before, after) = (before.as_slice(), after.as_slice());

@@ -4,7 +4,7 @@ ghost use Rattle.std.specs.Io.KnownBytes.{Appends};
 ghost use Rattle.allocative_graph.specs.Graph.{Graph, default, total};
 ghost use Rattle.allocative_io.specs.Streams.{AppendsBeginning};
 ghost use Rattle.allocative_picture_filter.specs.Fault.{IsReadingOf};
-ghost use Rattle.allocative_picture_filter.specs.Run.{sourced, without_mark, later_texts, Reads, Adds, AddUp, StopsReading, StopsAdding, StopsAddingUp, StopsProfile, Stops, IsMade, IsShown, Shows, Writes, guide_of, is_change, is_outlined, limit_of};
+ghost use Rattle.allocative_picture_filter.specs.Run.{sourced, without_mark, later_texts, Reads, Adds, AddUp, StopsReading, StopsAdding, StopsAddingUp, StopsProfile, Stops, IsMade, IsShown, Shows, Writes, guide_of, is_change, is_outlined, limit_of, turned};
 ghost use Rattle.allocative_picture.specs.Views.{IsOutline};
 
 use crate::arguments::Arguments;
@@ -17,23 +17,9 @@ use allocative_io::{ReadError, read_input, write_text};
 use allocative_picture::options::Options;
 use allocative_picture::picture::{change_picture, picture};
 use allocative_picture::table::table;
-use allocative_picture::views::{by_last_key, outline};
+use allocative_picture::views::{by_last_key, outline, reverse};
 use std::alloc::{AllocError, Global};
 use std::io::{Read, Write};
-
-/// How the program is used.
-pub const USAGE: &str =
-    r"usage: allocative-picture [--title TEXT] [--unit WORD] [--narrowest WIDTH] [--depth KEYS] [--fold CHILDREN]
-    [--by-last-key] [--text | --top LINES] [--not-empty] [--before EARLIER].. [FILE | -]..
-
-Adds up collapsed stacks, lines of keys joined by `;`, a space and a number of bytes, and writes their picture to
-standard output. They are read from the files, and from standard input where `-` or no file is named. With files of
-earlier stacks the picture is that of the change. With --text the added lines are written in place of a picture, and
-with --top a table of the heaviest paths. --depth adds what is below so many keys to its ancestor. --fold makes the
-children of a path that has more than so many one child `{}`. --by-last-key adds up the paths that end in a key. WORD
-is what the numbers count, `bytes` if it is not given. WIDTH is that of the narrowest box, in millionths of the
-picture's width. With --not-empty a profile of 0 bytes is refused.
-";
 
 /// A text, and where it comes from. Its bytes are kept as long as the program runs, since the keys of a graph are
 /// parts of them.
@@ -78,8 +64,8 @@ pub fn read_text<'a, R: Read>(
     }
 }
 
-/// Writes a text to the output. If a write fails, a beginning of the text is written.
-pub fn write_output<W: Write>(output: &mut W, text: &str) -> Result<(), Fault<'static>>
+// Writes a text to the output. If a write fails, a beginning of the text is written.
+fn write_output<W: Write>(output: &mut W, text: &str) -> Result<(), Fault<'static>>
     ensures whole { OnOk result (Appends (W.contents output.old) (W.contents output.new) text.now) }
     ensures beginning { AppendsBeginning (W.contents output.old) (W.contents output.new) text.now }
     ensures err { IfErr result (λ f. f ≡ Fault.Writing) }
@@ -277,8 +263,19 @@ fn written(
     }
 }
 
-// Makes what the arguments ask for of the graphs of the earlier texts and of the others.
-fn made_of(
+// The graph, or that with the reversed paths if it is asked for.
+fn turned(alloc: Global, asked: &Arguments<'_>, graph: FlameGraph) -> Result<FlameGraph, AllocError>
+    ensures turned { IfOk result (λ made. made ≡ turned asked.now graph) }
+    ensures total { IfOk result (λ made. total made ≡ total graph) }
+{
+    if asked.reverse {
+        return reverse(alloc, &graph);
+    }
+    Ok(graph)
+}
+
+// Makes what the arguments ask for of the graphs of the earlier texts and of the others, whose paths are turned.
+fn made_of_turned(
     alloc: Global,
     asked: &Arguments<'_>,
     change: bool,
@@ -293,6 +290,24 @@ fn made_of(
     let shown_earlier = shown(alloc, asked, &guide, earlier)?;
     let shown_later = shown(alloc, asked, &guide, later)?;
     written(alloc, asked, change, &shown_earlier, &shown_later)
+}
+
+// Makes what the arguments ask for of the graphs of the earlier texts and of the others.
+fn made_of(
+    alloc: Global,
+    asked: &Arguments<'_>,
+    change: bool,
+    earlier: FlameGraph,
+    later: FlameGraph,
+) -> Result<String, Refusal>
+    ensures ok { IfOk result
+        (λ made. Shows asked.now change (turned asked.now earlier) (turned asked.now later) (string_bytes made)) }
+    ensures too_large { IsErrOf result Refusal.TooLarge
+        → 2 ^ 64 ≤ cond change (total earlier + total later) 0 }
+{
+    let turned_earlier = turned(alloc, asked, earlier)?;
+    let turned_later = turned(alloc, asked, later)?;
+    made_of_turned(alloc, asked, change, turned_earlier, turned_later)
 }
 
 // Makes what the arguments ask for.

@@ -6,8 +6,6 @@ use Rattle.std.specs.FinMap.{keys}
 use Rattle.allocative.specs.Path.{Path, is_same_path}
 use Rattle.allocative.specs.Graph.{Graph, size_at, sum_of, joined}
 use Rattle.allocative_service.specs.declared.history.changes.Change.{Change}
-use Rattle.allocative_service.specs.declared.history.changes.ChangeKind.{ChangeKind}
-use Rattle.allocative_service.specs.declared.history.changes.ChangeKind.TheVariants.{Grew, Shrank, Came, Went}
 
 -- A path, and its own bytes in two profiles.
 pub record Changed : Type 0 where
@@ -36,11 +34,6 @@ changes_of g h = flat_map (change_of g h) (keys (sum_of g h))
 -- they are the same.
 abbrev pub HasEach : Graph → Graph → List Changed → Type 0
 HasEach g h cs = (p : Path) → filter (λ c. is_same_path p c.path) cs ≡ change_of g h p
-
--- The kind of a change. A path came if it had no bytes before, and went if it has none after. A path that grew or
--- shrank has bytes in both profiles.
-abbrev pub kind_of : Changed → ChangeKind
-kind_of c = cond (c.earlier == 0) Came (cond (c.later == 0) Went (cond (nat_lt c.earlier c.later) Grew Shrank))
 
 -- The number of bytes by which a path grew, which is 0 if it shrank.
 abbrev pub growth : Changed → ℕ

@@ -2,7 +2,6 @@ pub mod Measured
 pub mod AccountData
 pub mod Accounts
 pub mod Rejected
-pub mod Told
 pub mod Entries
 pub mod Shelf
 pub mod Store

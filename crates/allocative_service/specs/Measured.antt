@@ -1,22 +1,15 @@
 -- The bytes that are counted of a value.
 use Rattle.std.specs.Prelude.{◌≡◌, ℕ, Bool, Option, Result, IfErr, MatchResult}
 use Rattle.allocative.specs.Strict.{MayRefuseProfile}
-use Rattle.allocative.specs.Graph.{Graph, total}
 use Rattle.allocative.specs.Refusal.{Refusal}
 use Rattle.allocative.specs.Shows.{Showing}
 use Rattle.allocative.specs.SizeOf.{IsSizeOfOwned, IsSizeOfUnique, MayRefuseOwned, MayRefuseSize, AnswersOwned}
-use Rattle.allocative.specs.SizeOf.{AnswersSize, AnswersVisit}
-use Rattle.allocative.specs.RefusedVisits.{RefusesVisit, RefusesProfile}
+use Rattle.allocative.specs.SizeOf.{AnswersSize, AnswersVisit, IsSizeOfShown, RefusesShown}
 use Rattle.allocative.specs.Visited.{Effect}
-use Rattle.allocative.specs.Visits.{IsGraphOf}
 use Rattle.allocative_service.specs.declared.ledger.rejection.Rejection.{Rejection}
 use Rattle.allocative_service.specs.declared.ledger.rejection.Rejection.TheVariants.{NotMeasured}
 use Rattle.allocative_service.specs.declared.measure.Measure.{Measure}
 use Rattle.allocative_service.specs.declared.measure.Measure.TheVariants.{Owned, Shown, Unique}
-
--- The bytes of all that a value shows: the total of the graph of some whole showing that p allows.
-abbrev pub IsSizeOfShown : Showing → ℕ → Type 0
-IsSizeOfShown p bytes = (g : Graph) × IsGraphOf p g × (bytes ≡ total g)
 
 -- By the measure, a value of a declared size that may show what p allows declares these bytes.
 abbrev pub Declares : Measure → Option ℕ → Showing → ℕ → Type 0
@@ -36,9 +29,9 @@ abbrev pub Measures : Measure → Bool → Option ℕ → Showing → Result ℕ
 Measures measure is_strict size p result = MatchResult result (Declares measure size p)
     (λ r. (e : Refusal) × (r ≡ NotMeasured e) × MayRefuseMeasure measure is_strict size p e)
 
--- What is answered, by the measure, of a value of a declared size: that of `size_of_owned`, or of `size_of_unique`, after
--- a visit of this effect, which shows p; an error of `size_of_shown` is one of a profile after such a visit.
+-- What is answered, by the measure, of a value of a declared size after a visit of this effect, which shows p: that of
+-- `size_of_owned`, of `size_of_shown`, or of `size_of_unique`.
 abbrev pub AnswersMeasure : Measure → Option ℕ → Showing → Effect → Result ℕ Refusal → Type 0
 AnswersMeasure Owned size p effect result = AnswersOwned p effect result
-AnswersMeasure Shown size p effect result = IfErr result (RefusesProfile (RefusesVisit p effect))
+AnswersMeasure Shown size p effect result = IfErr result (RefusesShown p effect)
 AnswersMeasure Unique size p effect result = AnswersVisit p effect (AnswersSize size) result

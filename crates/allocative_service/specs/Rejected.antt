@@ -1,5 +1,5 @@
 -- Why data is not admitted.
-use Rattle.std.specs.Prelude.{◌≡◌, ◌⊎◌, ℕ, ◌+◌, ◌^◌, ◌<◌, ◌≤◌, Bool, Option, Some, None, IsSome, IfSome, OnSome}
+use Rattle.std.specs.Prelude.{◌≡◌, ◌⊎◌, ℕ, ◌+◌, ◌^◌, ◌<◌, ◌≤◌, Bool, false, true, Option, Some, None, IsSome, IfSome, OnSome}
 use Rattle.std.specs.Prelude.{unwrap_or, Result, Ok, Err}
 use Rattle.allocative.specs.Refusal.{Refusal}
 use Rattle.allocative.specs.Shows.{Showing}
@@ -11,6 +11,12 @@ use Rattle.allocative_service.specs.declared.ledger.rejection.Rejection.TheVaria
 use Rattle.allocative_service.specs.declared.measure.Measure.{Measure}
 use Rattle.allocative_service.specs.Measured.{Declares, MayRefuseMeasure}
 use Rattle.allocative_service.specs.AccountData.{AccountData, sum_of, bytes_at}
+
+-- Whether a limit is the cause.
+abbrev pub is_limit : Rejection → Bool
+is_limit (OverBudget _ _) = true
+is_limit (LedgerFull _ _) = true
+is_limit _ = false
 
 -- The rejection has the requested bytes and the limit that they exceed.
 abbrev pub IsOverBudget : ℕ → ℕ → Rejection → Type 0

@@ -51,7 +51,7 @@ impl<K: Eq + Hash, V: Allocative + Described, S: BuildHasher> Model for BoundedC
     ghost view = { λ c. bounded c.entries.entries c.bound c.measure };
 
     ghost invariant = { λ c. (c.entries.cap ≡ 2 ^ 64 - 1) × (c.bytes ≡ bytes_of c.entries.entries)
-        × IsBounded V.size V.may_show (bounded c.entries.entries c.bound c.measure) };
+        × IsBounded V.layout.size V.may_show (bounded c.entries.entries c.bound c.measure) };
 }
 
 /// Puts the pair first, in place of an entry with an equal key. It returns the old value and its bytes. The other
@@ -155,13 +155,13 @@ impl<K: Eq + Hash + Drop, V: Allocative + Described, S: BuildHasher + Drop> Boun
     ) -> Result<Option<V>, Refused<K, V>>
         requires { F.IsAlwaysCallable on_evict }
         ensures ok { OnOk result
-            (Inserts V.size V.may_show K.eq (step_of F.step) on_evict key value self.old self.new) }
+            (Inserts V.layout.size V.may_show K.eq (step_of F.step) on_evict key value self.old self.new) }
         ensures had { IfOk result (λ had. had ≡ value_at (K.eq key) self.old.entries) }
         ensures refused { IfErr result
-            (λ r. RefusesInsert V.size V.may_show V.is_strict value self.old.measure self.old.bound r.error) }
+            (λ r. RefusesInsert V.layout.size V.may_show V.is_strict value self.old.measure self.old.bound r.error) }
         ensures returned { IfErr result (λ r. (r.key ≡ key) × (r.value ≡ value)) }
         ensures err { OnErr result (self.new ≡ self.old) }
-        ensures bounded { IsBounded V.size V.may_show self.new }
+        ensures bounded { IsBounded V.layout.size V.may_show self.new }
     {
         let room = self.bound;
         let (error, key, value) = match self.measure.size_of(self.alloc, &value) {
@@ -185,7 +185,7 @@ impl<K: Eq + Hash + Drop, V: Allocative + Described, S: BuildHasher + Drop> Boun
         ensures value { result ≡ entry_at (K.eq key.now) self.old.entries }
         ensures others { self.new ≡ without (K.eq key.now) self.old }
         ensures unchanged { IfNone result (self.new ≡ self.old) }
-        ensures bounded { IsBounded V.size V.may_show self.new }
+        ensures bounded { IsBounded V.layout.size V.may_show self.new }
     {
         let (key, kept) = self.entries.pop_entry(key)?;
         self.bytes -= kept.bytes;
@@ -207,7 +207,7 @@ impl<K: Eq + Hash + Drop, V: Allocative + Described, S: BuildHasher + Drop> Boun
         ensures recent { KeepsRecent (step_of F.step)
             on_evict bound self.old.entries self.new.entries }
         ensures set { self.new ≡ bounded self.new.entries bound self.old.measure }
-        ensures bounded { IsBounded V.size V.may_show self.new }
+        ensures bounded { IsBounded V.layout.size V.may_show self.new }
     {
         self.bytes = evict(&mut self.entries, self.bytes as u128, bound, on_evict);
         self.bound = bound;
@@ -227,13 +227,13 @@ impl<K: Eq + Hash + Drop, V: Allocative + Described, S: BuildHasher + Drop> Boun
         requires changes { C.IsAlwaysCallable change }
         requires callable { F.IsAlwaysCallable on_evict }
         ensures ok { IfOk result (λ there. MatchBool there
-            (Changes V.size V.may_show K.eq (step_of F.step) on_evict (K.eq key.now)
+            (Changes V.layout.size V.may_show K.eq (step_of F.step) on_evict (K.eq key.now)
             (ChangesTo C.FnOnce change) self.old self.new)
             ((lookup_entry (K.eq key.now) self.old.entries ≡ None) × (self.new ≡ self.old))) }
         ensures refused { IfErr result
-            (RefusesChange V.size V.may_show V.is_strict (K.eq key.now) (ChangesTo C.FnOnce change) self.old) }
+            (RefusesChange V.layout.size V.may_show V.is_strict (K.eq key.now) (ChangesTo C.FnOnce change) self.old) }
         ensures err { OnErr result (self.new ≡ without (K.eq key.now) self.old) }
-        ensures bounded { IsBounded V.size V.may_show self.new }
+        ensures bounded { IsBounded V.layout.size V.may_show self.new }
     {
         let Some((key, mut value)) = self.remove(key) else {
             return Ok(false);
@@ -304,7 +304,7 @@ impl<K: Eq + Hash + Drop, V: Allocative + Described, S: BuildHasher + Drop> Boun
     /// The declared bytes of all values together.
     pub fn bytes(&self) -> usize
         ensures sum { result ≡ bytes_of self.now.entries }
-        ensures bounded { IsBounded V.size V.may_show self.now }
+        ensures bounded { IsBounded V.layout.size V.may_show self.now }
     {
         self.bytes
     }

@@ -11,7 +11,7 @@ mod shown;
 pub mod text;
 mod walk;
 
-pub use crate::history::changes::{Change, ChangeKind, by_growth, compare, grew_most};
+pub use crate::history::changes::{Change, by_growth, compare, grew_most};
 pub use crate::history::text::report;
 use allocative::{Allocative, FlameGraph, Refusal, profile_value};
 use std::alloc::{AllocError, Global};
@@ -57,8 +57,9 @@ impl History {
         Ok(())
     }
 
-    /// Takes a profile of a value, as `profile_value` does, and keeps its graph as the latest. It fails as
-    /// `profile_value` does, and with `Memory` if memory runs out. After an error the history is unchanged.
+    /// Takes a profile of a value, as `profile_value` does, and keeps its graph as the latest. For a strict type the error
+    /// is `Memory` if memory runs out, or `TooLarge` if a flame graph cannot take all that the value may show. After an
+    /// error the history is unchanged.
     pub fn take_profile<T: Allocative>(&mut self, alloc: Global, value: &T) -> Result<(), Refusal>
         ensures taken { OnOk result (TakesProfile (T.may_show value.now) self.old self.new) }
         ensures refused { IfErr result (MayRefuseProfile T.is_strict (T.may_show value.now)) }

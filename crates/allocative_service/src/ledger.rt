@@ -253,17 +253,17 @@ impl Ledger {
         value: &T,
     ) -> Result<usize, Rejection>
         ensures admitted { IfOk result
-            (λ total. (bytes : ℕ) × Declares (measure_of self.old) T.size (T.may_show value.now) bytes
+            (λ total. (bytes : ℕ) × Declares (measure_of self.old) T.layout.size (T.may_show value.now) bytes
             × Enters tenant.now number bytes None self.old self.new total) }
         ensures rejected { IfErr result (RejectsIn
-            (RejectsNew number (RejectsMeasured (measure_of self.old) T.is_strict T.size (T.may_show value.now)
+            (RejectsNew number (RejectsMeasured (measure_of self.old) T.is_strict T.layout.size (T.may_show value.now)
             (RejectsNewBytes self.old))) (account_of tenant.now self.old)) }
         ensures unchanged { OnErr result (IsUnchanged self.old self.new) }
     {
         let (measure, alloc) = (self.measure, self.alloc);
         let bytes_of = |had|
             ensures { MatchOption had
-                (Measures measure T.is_strict T.size (T.may_show value.entry.now) result)
+                (Measures measure T.is_strict T.layout.size (T.may_show value.entry.now) result)
                 (λ _. result ≡ Err (Rejection.Taken number)) }
         {
             match had {
@@ -288,10 +288,12 @@ impl Ledger {
         value: &T,
     ) -> Result<usize, Rejection>
         ensures measured { IfOk result
-            (λ total. (bytes : ℕ) × (had : ℕ) × Declares (measure_of self.old) T.size (T.may_show value.now) bytes
+            (λ total. (bytes : ℕ) × (had : ℕ) × Declares (measure_of self.old) T.layout.size (T.may_show value.now)
+            bytes
             × Enters tenant.now number bytes (Some had) self.old self.new total) }
         ensures rejected { IfErr result (RejectsIn
-            (RejectsChange number (λ had. RejectsMeasured (measure_of self.old) T.is_strict T.size (T.may_show value.now)
+            (RejectsChange number (λ had. RejectsMeasured (measure_of self.old) T.is_strict T.layout.size
+            (T.may_show value.now)
             (RejectsPut self.old had))) (account_of tenant.now self.old)) }
         ensures unchanged { OnErr result (IsUnchanged self.old self.new) }
     {
@@ -299,7 +301,7 @@ impl Ledger {
         let bytes_of = |had|
             ensures { MatchOption had
                 (result ≡ Err (Rejection.NotThere number))
-                (λ _. Measures measure T.is_strict T.size (T.may_show value.entry.now) result) }
+                (λ _. Measures measure T.is_strict T.layout.size (T.may_show value.entry.now) result) }
         {
             match had {
                 None => Err(Rejection::NotThere { number }),
@@ -313,8 +315,8 @@ impl Ledger {
     /// Measures a value again after it has changed, replaces the bytes of the entry under the number, also beyond the
     /// limits, and returns the bytes of all entries of the tenant with what of them exceeds the limits.
     ///
-    /// While an account exceeds its limit, `admit`, `record` and `charge` return `OverBudget`, and while the ledger
-    /// does, `LedgerFull`.
+    /// While an account exceeds its limit, `admit`, `record` and `charge` enter nothing for it: they return `OverBudget`,
+    /// unless an earlier cause holds. While the ledger does, they return `LedgerFull` in the same way.
     ///
     /// The error is `NoAccount` if the tenant has no account, otherwise `NotThere` if the number has no entry, otherwise
     /// `NotMeasured` if `Measure::size_of` returns an error, and otherwise `TooLarge` if the bytes of all accounts
@@ -326,11 +328,12 @@ impl Ledger {
         value: &T,
     ) -> Result<Standing, Rejection>
         ensures entered { IfOk result
-            (λ s. (bytes : ℕ) × (had : ℕ) × Declares (measure_of self.old) T.size (T.may_show value.now) bytes
+            (λ s. (bytes : ℕ) × (had : ℕ) × Declares (measure_of self.old) T.layout.size (T.may_show value.now) bytes
             × Stores tenant.now number bytes (Some had) self.old self.new s.bytes) }
         ensures standing { IfOk result (StandsAt tenant.now self.new) }
         ensures rejected { IfErr result (RejectsIn
-            (RejectsChange number (λ had. RejectsMeasured (measure_of self.old) T.is_strict T.size (T.may_show value.now)
+            (RejectsChange number (λ had. RejectsMeasured (measure_of self.old) T.is_strict T.layout.size
+            (T.may_show value.now)
             (RejectsGrowth self.old had))) (account_of tenant.now self.old)) }
         ensures unchanged { OnErr result (IsUnchanged self.old self.new) }
     {

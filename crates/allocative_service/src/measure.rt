@@ -1,10 +1,8 @@
 //! What is counted of a value.
-ghost use Rattle.std.specs.Prelude.{◌<◌, ◌^◌, IfOk, IfErr};
-ghost use Rattle.allocative.specs.Strict.{MayRefuseProfile};
-ghost use Rattle.allocative.specs.RefusedVisits.{RefusesVisit, RefusesProfile};
-ghost use Rattle.allocative_service.specs.Measured.{IsSizeOfShown, Declares, MayRefuseMeasure, AnswersMeasure};
+ghost use Rattle.std.specs.Prelude.{IfOk, IfErr};
+ghost use Rattle.allocative_service.specs.Measured.{Declares, MayRefuseMeasure, AnswersMeasure};
 
-use allocative::{Allocative, Described, Refusal, profile_value, size_of_owned, size_of_unique};
+use allocative::{Allocative, Described, Refusal, size_of_owned, size_of_shown, size_of_unique};
 use std::alloc::Global;
 
 /// Which bytes a ledger or a cache counts of a value.
@@ -29,10 +27,10 @@ impl Measure {
         alloc: Global,
         value: &T,
     ) -> Result<usize, Refusal>
-        ensures measured { IfOk result (Declares self T.size (T.may_show value.now)) }
+        ensures measured { IfOk result (Declares self T.layout.size (T.may_show value.now)) }
         ensures refused { IfErr result
-            (MayRefuseMeasure self T.is_strict T.size (T.may_show value.now)) }
-        ensures answer { AnswersMeasure self T.size (T.may_show value.now) (T.effect value.now)
+            (MayRefuseMeasure self T.is_strict T.layout.size (T.may_show value.now)) }
+        ensures answer { AnswersMeasure self T.layout.size (T.may_show value.now) (T.effect value.now)
             result }
     {
         match self {
@@ -41,20 +39,4 @@ impl Measure {
             Measure::Unique => size_of_unique(value),
         }
     }
-}
-
-/// The bytes of all that a value shows: the total of the graph that `profile_value` makes of it. What a shared pointer
-/// points to counts once for each value that is measured. The memory of the graph is given back before it returns.
-///
-/// An error is that of `profile_value`. For a strict type that is `Memory`, or `TooLarge` if a flame graph cannot take
-/// all that the value may show.
-pub fn size_of_shown<T: Allocative>(alloc: Global, value: &T) -> Result<usize, Refusal>
-    ensures shown { IfOk result (IsSizeOfShown (T.may_show value.now)) }
-    ensures refused { IfErr result (MayRefuseProfile T.is_strict (T.may_show value.now)) }
-    ensures answer { IfErr result
-        (RefusesProfile (RefusesVisit (T.may_show value.now) (T.effect value.now))) }
-    ensures fits { IfOk result (λ bytes. bytes < 2 ^ 63) }
-{
-    let profile = profile_value(alloc, value)?;
-    Ok(profile.flamegraph().total_size())
 }

@@ -45,7 +45,7 @@ impl<K: Eq + Hash, V: Allocative + Described> Model for Shelf<K, V> {
     ghost view = { λ s. shelved s.entries.entries s.budget.limit s.overgrown s.measure };
 
     ghost invariant = { λ s. (s.entries.cap ≡ 2 ^ 64 - 1) × (s.bytes ≡ bytes_of s.entries.entries)
-        × IsKept V.size V.may_show (shelved s.entries.entries s.budget.limit s.overgrown s.measure) };
+        × IsKept V.layout.size V.may_show (shelved s.entries.entries s.budget.limit s.overgrown s.measure) };
 }
 
 /// The bytes of a value, if they are at most `room`. The error is `NotMeasured` if `Measure::size_of` returns an error,
@@ -56,9 +56,9 @@ fn figure_within<V: Allocative + Described>(
     value: &V,
     room: usize,
 ) -> Result<usize, Rejection>
-    ensures figure { IfOk result (IsFigure V.size V.may_show measure value.now) }
+    ensures figure { IfOk result (IsFigure V.layout.size V.may_show measure value.now) }
     ensures within { IfOk result (λ bytes. bytes ≤ room) }
-    ensures refused { IfErr result (RefusesFigure V.size V.may_show V.is_strict measure room value.now) }
+    ensures refused { IfErr result (RefusesFigure V.layout.size V.may_show V.is_strict measure room value.now) }
 {
     let bytes = measure.size_of(alloc, value)?;
     if bytes > room {
@@ -100,14 +100,14 @@ impl<K: Eq + Hash + Drop, V: Allocative + Described> Shelf<K, V> {
     ) -> Result<Option<V>, NotKept<K, V>>
         requires { bytes_of self.old.entries ≤ all }
         ensures ok { OnOk result
-            (PutsOnShelf V.size V.may_show K.eq all most key value self.old self.new) }
+            (PutsOnShelf V.layout.size V.may_show K.eq all most key value self.old self.new) }
         ensures had { IfOk result (λ had. had ≡ value_at (K.eq key) self.old.entries) }
         ensures refused { IfErr result
-            (λ r. RefusesKept V.size V.may_show V.is_strict (K.eq key) all most value self.old r.error) }
+            (λ r. RefusesKept V.layout.size V.may_show V.is_strict (K.eq key) all most value self.old r.error) }
         ensures returned { IfErr result (λ r. (r.key ≡ key) × (r.value ≡ value)) }
         ensures err { OnErr result (self.new ≡ self.old) }
         ensures within { all + bytes_of self.new.entries ≤ max most all + bytes_of self.old.entries }
-        ensures kept { IsKept V.size V.may_show self.new }
+        ensures kept { IsKept V.layout.size V.may_show self.new }
     {
         let (error, key, value) = match self.figure_of(&key, &value, all, most) {
             Ok(bytes) => match put(&mut self.entries, key, Kept { value, bytes }) {
@@ -126,13 +126,13 @@ impl<K: Eq + Hash + Drop, V: Allocative + Described> Shelf<K, V> {
     #[tactic(auto, using(crate::proofs::Inserting::putting))]
     fn figure_of(&self, key: &K, value: &V, all: usize, most: usize) -> Result<usize, Rejection>
         requires { bytes_of self.now.entries ≤ all }
-        ensures figure { IfOk result (IsFigure V.size V.may_show self.now.measure value.now) }
+        ensures figure { IfOk result (IsFigure V.layout.size V.may_show self.now.measure value.now) }
         ensures room { IfOk result (HasRoom all (Some most) (bytes_of self.now.entries) self.now.limit
             (bytes_under (K.eq key.now) self.now)) }
         ensures all_within { IfOk result (λ bytes. all + bytes_of (remove_entry (K.eq key.now) self.now.entries) + bytes
             ≤ most + bytes_of self.now.entries) }
         ensures refused { IfErr result
-            (RefusesKept V.size V.may_show V.is_strict (K.eq key.now) all most value.now self.now) }
+            (RefusesKept V.layout.size V.may_show V.is_strict (K.eq key.now) all most value.now self.now) }
     {
         let bytes = self.measure.size_of(self.alloc, value)?;
         let sum = self.bytes;
@@ -177,13 +177,13 @@ impl<K: Eq + Hash + Drop, V: Allocative + Described> Shelf<K, V> {
         requires called { C.IsAlwaysCallable change }
         requires part { bytes_of self.old.entries ≤ all }
         ensures ok { IfOk result (λ there. MatchBool there
-            (KeepsChanged V.size V.may_show (K.eq key.now) (ChangesTo C.FnOnce change) self.old self.new)
+            (KeepsChanged V.layout.size V.may_show (K.eq key.now) (ChangesTo C.FnOnce change) self.old self.new)
             ((lookup (K.eq key.now) self.old.entries ≡ None) × (self.new ≡ self.old))) }
-        ensures refused { IfErr result (RefusesChanged V.size V.may_show V.is_strict (K.eq key.now)
+        ensures refused { IfErr result (RefusesChanged V.layout.size V.may_show V.is_strict (K.eq key.now)
             (ChangesTo C.FnOnce change) all self.old) }
         ensures err { OnErr result (self.new ≡ shelf_without (K.eq key.now) self.old) }
         ensures fits { all + bytes_of self.new.entries < 2 ^ 64 + bytes_of self.old.entries }
-        ensures kept { IsKept V.size V.may_show self.new }
+        ensures kept { IsKept V.layout.size V.may_show self.new }
     {
         let Some(kept) = self.entries.peek_mut(key) else {
             return Ok(false);
@@ -220,7 +220,7 @@ impl<K: Eq + Hash + Drop, V: Allocative + Described> Shelf<K, V> {
         ensures others { self.new ≡ shelf_without (K.eq key.now) self.old }
         ensures unchanged { IfNone result (self.new ≡ self.old) }
         ensures within { bytes_of self.new.entries ≤ bytes_of self.old.entries }
-        ensures kept { IsKept V.size V.may_show self.new }
+        ensures kept { IsKept V.layout.size V.may_show self.new }
     {
         let (key, kept) = self.entries.pop_entry(key)?;
         self.bytes -= kept.bytes;
@@ -267,7 +267,7 @@ impl<K: Eq + Hash + Drop, V: Allocative + Described> Shelf<K, V> {
     /// The bytes of all values together.
     pub fn bytes(&self) -> usize
         ensures sum { result ≡ bytes_of self.now.entries }
-        ensures kept { IsKept V.size V.may_show self.now }
+        ensures kept { IsKept V.layout.size V.may_show self.now }
     {
         self.bytes
     }

@@ -18,8 +18,8 @@ use std::collections::BTreeMap;
 use std::hash::Hash;
 use std::marker::Model;
 
-/// A ledger that keeps the values itself, so that no bill is stale: a value is reached for writing only by `change`,
-/// which measures it again. Each value is under a key of its tenant.
+/// A ledger that keeps the values itself, each under a key of its tenant. A value is reached for writing only by
+/// `change`, which measures it again.
 #[derive(Drop)]
 pub struct Store<K: Eq + Hash, V: Allocative + Described> {
     alloc: Global,
@@ -171,11 +171,13 @@ impl<K: Eq + Hash + Drop, V: Allocative + Described> Store<K, V> {
     #[tactic(auto, using(crate::proofs::Storing::shelves))]
     pub fn put(&mut self, tenant: &str, key: K, value: V) -> Result<Option<V>, NotKept<K, V>>
         ensures ok { OnOk result (Replaces tenant.now
-            (PutsOnShelf V.size V.may_show K.eq (all_kept self.old.shelves) self.old.limit key value) self.old self.new) }
+            (PutsOnShelf V.layout.size V.may_show K.eq (all_kept self.old.shelves) self.old.limit key value) self.old
+            self.new) }
         ensures had { IfOk result (λ had. had
             ≡ option_and_then (λ h. value_at (K.eq key) h.entries) (shelf_of tenant.now self.old)) }
         ensures refused { IfErr result (λ r. RejectsIn
-            (RefusesKept V.size V.may_show V.is_strict (K.eq key) (all_kept self.old.shelves) self.old.limit value)
+            (RefusesKept V.layout.size V.may_show V.is_strict (K.eq key) (all_kept self.old.shelves) self.old.limit
+            value)
             (shelf_of tenant.now self.old) r.error) }
         ensures returned { IfErr result (λ r. (r.key ≡ key) × (r.value ≡ value)) }
         ensures err { OnErr result (self.new ≡ self.old) }
@@ -209,13 +211,13 @@ impl<K: Eq + Hash + Drop, V: Allocative + Described> Store<K, V> {
     ) -> Result<Option<Standing>, NotKept<K, V>>
         requires { C.IsAlwaysCallable change }
         ensures changed { IfOk result (λ there. IfSome there (λ standing. Replaces tenant.now
-            (KeepsChanged V.size V.may_show (K.eq key.now) (ChangesTo C.FnOnce change)) self.old self.new)) }
+            (KeepsChanged V.layout.size V.may_show (K.eq key.now) (ChangesTo C.FnOnce change)) self.old self.new)) }
         ensures standing { IfOk result (λ there. IfSome there (StoreStands tenant.now self.new)) }
         ensures none { IfOk result (λ there. IfNone there
             ((option_and_then (λ h. lookup (K.eq key.now) h.entries) (shelf_of tenant.now self.old) ≡ None)
             × (self.new ≡ self.old))) }
         ensures refused { IfErr result (λ r. MatchOption (shelf_of tenant.now self.old) ⊥
-            (λ h. RefusesChanged V.size V.may_show V.is_strict (K.eq key.now) (ChangesTo C.FnOnce change)
+            (λ h. RefusesChanged V.layout.size V.may_show V.is_strict (K.eq key.now) (ChangesTo C.FnOnce change)
             (all_kept self.old.shelves) h r)) }
         ensures err { OnErr result (Replaces tenant.now
             (λ h now. now ≡ shelf_without (K.eq key.now) h) self.old self.new) }

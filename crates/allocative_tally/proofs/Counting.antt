@@ -1,5 +1,5 @@
 -- How what was counted composes as what is shown does.
-use Rattle.std.proofs.Common.{◌≡◌, ◌≤◌, ◌<◌, ◌+◌, ◌^◌, ℕ, Bool, true, false, Option, Some, None, refl, sym, subst, ap}
+use Rattle.std.proofs.Common.{◌≡◌, ◌≤◌, ◌<◌, ◌+◌, ◌^◌, ℕ, Bool, true, false, Option, Some, None, refl, sym, subst}
 use Rattle.std.proofs.Common.{◌∙◌, arith}
 use Rattle.std.proofs.lemmas.Bool.{false≢true}
 use Rattle.allocative.proofs.Common.{Key, Forest, Empty, followed_by, entry_of, Showing, Nothing, Both, InsideAs}
@@ -7,10 +7,10 @@ use Rattle.allocative.proofs.Common.{Inside, Field}
 use Rattle.allocative.proofs.Strict.{followed_by-empty, followed_by_assoc}
 use Rattle.allocative_graph.{specs.Owned.direct, proofs.Owned.direct-following}
 use Rattle.allocative_tally.specs.{IsPlain, Merged, Width, Unique, Wide, is_unique, HasWidth, Shape, NoEntry, Beside}
-use Rattle.allocative_tally.specs.{EntryAt, forest_of, IsRight, entry_counted, top_bytes, is_there, weight}
-use Rattle.allocative_tally.specs.{ShownAs, IsWithin, AddsEntry, both_bounds, weight_entry}
+use Rattle.allocative_tally.specs.{EntryAt, forest_of, IsRight, entry_counted, top_bytes, is_there}
+use Rattle.allocative_tally.specs.{ShownAs, IsWithin, AddsEntry, both_bounds}
 use Rattle.allocative_tally.proofs.Sizes.{HoldsBound, holds_itself, holds_nothing}
-use Rattle.allocative_tally.proofs.Weighing.{both_weight, field_as}
+use Rattle.allocative_tally.proofs.Shown.{field_as}
 use Rattle.allocative_tally.proofs.Merging.{plain_parts, plain_inside, merged_same, merged_then, merged_both}
 use Rattle.allocative_tally.proofs.Merging.{merged_entry, merged_inside, KeepsOwned, direct_entry, merged_swapped}
 use Rattle.allocative_tally.specs.{Tallies.Tallies, declared.tally.Sum.Sum}
@@ -22,7 +22,6 @@ tallies_none {w} {s = s} x = record {
   allowed = x;
   within = elim w as (λ v. IsWithin 0 v) [ None ↦ tt | Some n ↦ omega arith ];
   merged = λ r room. (rw (followed_by-empty (forest_of s)) (merged_same (forest_of s) r.0), r.1);
-  weighs = λ f x. omega arith;
 }
 
 -- What was counted as p within a bound was counted as q, if p is shown as q, within a size that holds the bound.
@@ -33,7 +32,6 @@ tallies_to h a t = record {
   allowed = a.up t.counted t.allowed;
   within = h.room _ t.within;
   merged = t.merged;
-  weighs = λ f x. let l = a.down f x in omega (arith, t.weighs l.0 l.1, l.2);
 }
 
 -- What was counted as p was counted as q, if p is shown as q.
@@ -59,7 +57,6 @@ tallies_then {w} {v} {s = s} {t = t} {u = u} a b = record {
       let more = plain_parts (forest_of t) b.counted l.0.plain in
       let all = merged_then (merged_both m.0 (merged_same b.counted more.1)) l.0 in
       (subst (λ (h : Forest). Merged h (forest_of u)) (followed_by_assoc (forest_of s) a.counted b.counted) all, l.1);
-  weighs = λ f x. omega (arith, a.weighs x.0 x.2, b.weighs x.1 x.3, both_weight x);
 }
 
 -- A value was counted into the first of two shapes.
@@ -77,7 +74,6 @@ first_counted {s = s} {u = u} c = record {
       let all = merged_both m.0 (merged_same (forest_of u) old.1) in
       let before = merged_both (merged_same (forest_of s) old.0) swapped in
       (rw followed_by_assoc (merged_then before (rw followed_by_assoc at all)), (m.1, r.1.1));
-  weighs = λ f x. omega (arith, c.weighs f x);
 }
 
 -- A value was counted into the second of two shapes.
@@ -91,7 +87,6 @@ second_counted {s = s} {u = u} c = record {
       let old = plain_parts (forest_of u) (forest_of s) r.0 in
       let m = c.merged (old.1, r.1.1) (omega (arith, room, direct-following (forest_of u) (forest_of s))) in
       (rw followed_by_assoc (merged_both (merged_same (forest_of u) old.0) m.0), (r.1.0, m.1));
-  weighs = λ f x. omega (arith, c.weighs f x);
 }
 
 -- Two values were counted, each into a tally of its own.
@@ -150,7 +145,6 @@ tallies_entry {w} {p} x k n {old} {new} {s} {t} more c keeps inside = record {
             (keeps_owned x m n f c.counted kept keeps) all.0,
         (all.1, (λ e. absurd (false≢true (sym e))), keeps_both x m n f c.counted (forest_of t) kept keeps direct_is),
       );
-  weighs = λ f y. omega (arith, more.weighs, c.weighs y.0 y.1, ap weight y.2, weight_entry (is_unique x) k n y.0);
 }
 
 -- ---- in the words of the code

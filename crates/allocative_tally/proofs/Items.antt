@@ -1,29 +1,24 @@
 -- How texts, buffers and items are counted, and those of arrays, boxes, maps and the packs.
-use Rattle.std.proofs.Common.{MatchResult, ◌≡◌, ◌≤◌, ◌<◌, ◌+◌, ◌-◌, ◌*◌, ◌^◌, mul-add, ℕ, Bool, true, false, codes}
+use Rattle.std.proofs.Common.{OnOk, ◌≡◌, ◌≤◌, ◌<◌, ◌+◌, ◌-◌, ◌*◌, ◌^◌, mul-add, ℕ, Bool, true, false, codes}
 use Rattle.std.proofs.Common.{List, ◌++◌, length, length-append, Option, Some, None, refl, ap, subst, ◌∙◌, arith, ◌∷◌}
-use Rattle.std.proofs.Common.{le_refl, Result, mul-suc, [], map, Ok, max, min, ◌≢◌}
+use Rattle.std.proofs.Common.{le_refl, Result, mul-suc, [], map, Ok}
 use Rattle.std.{proofs.lemmas.Iterator.YieldsList, proofs.lemmas.Iterator.items_from_drains, specs.Iterator.Yields}
 use Rattle.std.{proofs.lemmas.Nat.mul-le, specs.Result.result_and, proofs.lemmas.Bool.Decides.nat_tests}
-use Rattle.allocative_described.specs.Sizes.{checked, size_product, IsRawTableSize, size_sum, size_max, size_up}
+use Rattle.allocative_described.specs.Sizes.{checked, size_product, IsRawTableSize, size_sum}
 use Rattle.allocative_graph.{specs.Owned.direct, proofs.Owned.direct-following}
-use Rattle.allocative.proofs.Common.{slice_shows, Key, Showing, Both, Inside, InsideAs, Field, buffer_shows, Forest}
-use Rattle.allocative.proofs.Common.{sized, each_shows, table_shows, Refusal, Entered, with_room, without_room}
-use Rattle.allocative.proofs.Common.{without_size}
+use Rattle.allocative.proofs.Common.{Key, Showing, Inside, InsideAs, Field, buffer_shows, Forest, Both}
+use Rattle.allocative.proofs.Common.{sized, each_shows, table_shows, Refusal, Entered, slice_shows}
 use Rattle.allocative.specs.Bodies.{text_shows, are_shown_each, bytes_shown}
-use Rattle.allocative.{proofs.ContainerMeaning.checked_fits, proofs.Runs.begins, specs.Runs.field_of}
+use Rattle.allocative.{proofs.ContainerMeaning.checked_fits, specs.Runs.field_of}
 use Rattle.allocative.{specs.Runs.pair_shows, specs.PackShows.index_data_shows, specs.declared.visitor.Visitor.Visitor}
-use Rattle.allocative_tally.proofs.Weighing.{text_as, each_in, cut_as, buffer_as, index_data_as, table_as, both_weight}
-use Rattle.allocative_tally.proofs.Weighing.{exceeds_as, exceeds_inside, exceeds_entry, begins_with, exceeds_in}
-use Rattle.allocative_tally.proofs.Weighing.{exceeds_first, field_some, each_as}
+use Rattle.allocative_tally.proofs.Shown.{text_as, each_in, cut_as, buffer_as, index_data_as, table_as, each_as}
 use Rattle.allocative_tally.specs.{Shape, Wide, NoEntry, Beside, EntryAt, forest_of, sum_of, sum_times, entries}
 use Rattle.allocative_tally.specs.{bytes_times, top_bytes, items_shape, buffer_shape, unused_shape, pairs_shape}
-use Rattle.allocative_tally.specs.{table_shape, shape_shows, IsNothing, ShownAs, least_weight, TalliesNext, size_times}
-use Rattle.allocative_tally.specs.{AddsPlaces, buffer_of, in_slices, TalliesMany, FitsWord, IsDeclared, IsWithin}
-use Rattle.allocative_tally.specs.{both_bounds, TalliesFields, AddsItems, AreFields, CannotAdd, HoldsOfEveryRun}
-use Rattle.allocative_tally.specs.{CannotTally, field_least, Exceeds, IsWhole, CannotAddItems, weight, load, Width}
-use Rattle.allocative_tally.specs.{is_unique, HasWidth, text_shape, AddsEntry, ShapeCounts, no_room_for_items}
-use Rattle.allocative_tally.specs.{no_room_for_places, no_room_for_both, too_many_buffers, too_many_items}
-use Rattle.allocative_tally.specs.{too_many_bytes, Told, starts_both, starts_sum, no_bytes}
+use Rattle.allocative_tally.specs.{table_shape, shape_shows, IsNothing, ShownAs, TalliesNext, size_times}
+use Rattle.allocative_tally.specs.{AddsPlaces, buffer_of, in_slices, TalliesMany, FitsWord, IsWithin}
+use Rattle.allocative_tally.specs.{both_bounds, TalliesFields, AddsItems, AreFields, HoldsOfEveryRun, IsWhole, Width}
+use Rattle.allocative_tally.specs.{is_unique, HasWidth, text_shape, AddsEntry, ShapeCounts, Told, starts_both}
+use Rattle.allocative_tally.specs.{starts_sum, no_bytes}
 use Rattle.allocative_tally.proofs.Counting.{counted_field, counted_inline, counted_unique, counted_leaf, tallies_both}
 use Rattle.allocative_tally.proofs.Counting.{tallies_as, tallies_then, tallies_none, entry_direct, shape_direct}
 use Rattle.allocative_tally.proofs.Counting.{tallies_to, tallies_entry}
@@ -57,14 +52,11 @@ text_counted {l} {c} {a} {b} {u} {a'} {b'} {u'} room capacity used unused fits =
 -- A container is counted as its own entry of n bytes, with what it shows inside it.
 pub container : {X E : Type 0} {m : ℕ} (n : ℕ) (k : Key) {p q : Showing} {s t : Shape} {r : Result X E} → m ≤ n →
     n < 2 ^ 64 → ShownAs (Inside k n p) q → ShapeCounts (Some m) p s t r →
-    MatchResult r (λ _. TalliesNext (Some n) q (λ i. entries k (Some n) i s) (λ i. entries k (Some n) i t))
-    (λ _. CannotTally q (λ i. entries k (Some n) i s))
-container n k room fits like inside = (told_then inside
-    (λ a. record {
-      declared = record { bytes = n; sized = refl; fits = fits };
-      next = λ i. tallies_as like (counted_inline (one_more (Some n) i (i + 1) refl refl) a (holds_bytes room));
-    })
-    (λ a. record { next = λ i. exceeds_as like (exceeds_inside false n a) })).told
+    OnOk r (TalliesNext (Some n) q (λ i. entries k (Some n) i s) (λ i. entries k (Some n) i t))
+container n k room fits like inside = (told_then inside (λ a. record {
+  declared = record { bytes = n; sized = refl; fits = fits };
+  next = λ i. tallies_as like (counted_inline (one_more (Some n) i (i + 1) refl refl) a (holds_bytes room));
+})).told
 
 -- ---- places
 -- So many values of a size that fit a word have so many bytes.
@@ -76,62 +68,36 @@ items_all : {size : Option ℕ} {l : ℕ} {old new : Places} (z : ℕ) → AddsI
     z * new.items ≡ z * old.items + z * l
 items_all {l = l} {old} z a = ap (λ (i : ℕ). z * i) a.items ∙ mul-add z old.items l
 
--- A buffer that cannot be added exceeds a word, with what its items have to count.
-items_over : {z l m : ℕ} {old : Places} → CannotAddItems (Some z) l old →
-    min (max (old.items + l) (z * (old.items + l))) (2 ^ 64 - 1) ≤ m →
-    2 ^ 64 ≤ old.buffers + min (8 * old.buffers) (2 ^ 64 - 1) + m + 9
-items_over (too_many_buffers h) a = omega (arith, h)
-items_over (too_many_items h) a = omega (arith, h, a)
-items_over (too_many_bytes h) a = omega (arith, h _ refl, a)
-
--- What was counted inside an entry of 8 bytes has too much to count if its buffer cannot be added.
-pub run_exceeds : {x : Width} {z l : ℕ} {w : Option ℕ} {old : Places} {k : Key} {p : Showing} {s t : Shape} →
-    CannotAddItems (Some z) l old → old.items + l + bytes_times (Some z) (old.items + l) ≤ load t → Tallies w p s t →
-    Exceeds (InsideAs (is_unique x) k 8 p) (EntryAt x k (sum_times (Some 8) old.buffers) s)
-run_exceeds {x} {s = s} c least a = exceeds_entry (is_unique x) 8
-    (λ g y. omega (arith, items_over {m = load s + weight g} c (omega (arith, least, a.weighs g y))))
-
--- What items in buffers have to be, those before as s and those then as t: too much to count if they have no declared
--- size; at most their bytes at the top; at least their number and bytes.
-pub record Bears (size : Option ℕ) (p : Showing) (s t : ℕ → Shape) : Type 0 where
-  pub heavy : (f : Forest) → size ≡ None → p f → 2 ^ 64 ≤ weight f
+-- So many items of any number before them have at most their bytes at the top, if they have a declared size.
+pub record AreWithin (size : Option ℕ) (s : ℕ → Shape) : Type 0 where
   pub most : (z i : ℕ) → size ≡ Some z → direct (forest_of (s i)) ≤ z * i
-  pub least : (i : ℕ) → i + bytes_times size i ≤ load (t i)
 
 -- An entry of 8 bytes is counted with the items inside it, if they were counted and added.
-pub entry_counts : {R E : Type 0} (x : Width) {k : Key} {old new : Places} {size : Option ℕ} {l : ℕ} {p : Showing}
-    {s t : ℕ → Shape} {a b r : Result (Unit {0}) E} → r ≡ result_and a b →
-    (R → TalliesMany size l p s t × Bears size p s t) →
+pub entry_counts : {E : Type 0} (x : Width) {k : Key} {old new : Places} {size : Option ℕ} {l : ℕ} {p : Showing}
+    {s t : ℕ → Shape} {a b r : Result (Unit {0}) E} → r ≡ result_and a b → AreWithin size s →
     ((z : ℕ) (f : Forest) → size ≡ Some z → bytes_times size l ≡ z * l → p f → direct f ≤ z * l → HasWidth x 8 f) →
-    Told a R (CannotTally p s) → Told b (AddsItems size l old new) (CannotAddItems size l old) →
+    Told a (TalliesMany size l p s t) → Told b (AddsItems size l old new) →
     ShapeCounts (Some 8) (InsideAs (is_unique x) k 8 p) (EntryAt x k (sum_times (Some 8) old.buffers) (s old.items))
     (EntryAt x k (sum_times (Some 8) new.buffers) (t new.items)) r
-entry_counts x {old = old} {size = None} e items fits run added = and_told e run
-    (λ y. told_then added (λ a. let none = a.room.sized in absurd (cc))
-    (λ c. exceeds_inside (is_unique x) 8 (record { most = λ f g. omega (arith, (items y).1.heavy f refl g) })))
-    (λ n. exceeds_inside (is_unique x) 8 (n.next old.items))
-entry_counts x {k} {old} {new} {size = Some z} {l = l} e items fits run added = and_told e run
-    (λ y. told_then added
-    (λ a.
-    let all = (items y).0.next old.items new.items a.items in
+entry_counts x {size = None} e within fits run added =
+    and_told e run (λ y. told_then added (λ a. let none = a.room.sized in absurd (cc)))
+entry_counts x {k} {old} {new} {size = Some z} {l = l} e within fits run added = and_told e run
+    (λ y. told_then added (λ a.
+    let all = y.next old.items new.items a.items in
     let room = fits_some a.room in
     tallies_entry x k 8 (one_more (Some 8) old.buffers new.buffers refl a.buffers) all
     (fits z all.counted refl (omega (arith, room, items_all z a)) all.allowed all.within)
-    (λ r w b. omega (arith, (items y).1.most z old.items refl, all.within, room, items_all z a)))
-    (λ c. run_exceeds {x = x} c ((items y).1.least (old.items + l)) ((items y).0.next old.items (old.items + l) refl)))
-    (λ n. exceeds_inside (is_unique x) 8 (n.next old.items))
+    (λ r w b. omega (arith, within.most z old.items refl, all.within, room, items_all z a))))
 
 -- A buffer with unused places is counted with its items, which were counted, if it was added. The items have at most
--- their bytes at the top, and at least their number and bytes.
+-- their bytes at the top.
 pub places_added : {X E : Type 0} (k : Key) {old new : Places} {z y l u : ℕ} {p : Showing} {s : Shape}
     (t : ℕ → ℕ → Shape) {r : Result X E} → direct (forest_of s) ≤ z * old.items →
-    min (max (old.items + l) (z * (old.items + l))) (2 ^ 64 - 1) ≤ load (t (old.buffers + 1) (old.items + l)) →
     Tallies (Some (z * l)) p s (t (old.buffers + 1) (old.items + l)) →
-    Told r (AddsPlaces (Some z) (Some y) l u old new) (CannotAdd (Some z) (Some y) l u old) →
+    Told r (AddsPlaces (Some z) (Some y) l u old new) →
     ShapeCounts (Some 8) (InsideAs true k 8 (Both p (bytes_shown (codes "unused_capacity") (Some y) u)))
     (buffer_shape k old.buffers s old.unused) (buffer_shape k new.buffers (t new.buffers new.items) new.unused) r
-places_added k {old} {new} {z} {y} {l} {u} {s = s} t top least items added = told_then added
-    (λ a.
+places_added k {old} {new} {z} {y} {l} {u} {s = s} t top items added = told_then added (λ a.
     let spare = fits_some a.spare_room in
     let bytes = checked_fits (y * u) spare in
     let left = counted_field {k = codes "unused_capacity"} bytes (counted_leaf
@@ -142,16 +108,6 @@ places_added k {old} {new} {z} {y} {l} {u} {s = s} t top least items added = tol
     let unused = entry_direct Wide (codes "unused_capacity") (sum_of old.buffers old.unused) NoEntry in
     counted_unique {k = k} (one_more (Some 8) old.buffers new.buffers refl a.adds.buffers) inside (λ r. omega
     (arith, before, unused, within, top, spare, a.unused, a.room, fits_some a.adds.room, items_all z a.adds)))
-    (λ c. exceeds_entry true 8 (λ g x.
-    let all = both_weight x in
-    let own = items.weighs x.0 x.2 in
-    let unused : min (y * u + 1) (2 ^ 64) ≤ weight x.1 = grind (arith, nat_tests, field_least x.1 x.3) in
-    let heavy = λ (h : CannotAddItems (Some z) l old).
-    items_over {m = load s + weight x.0} h (omega (arith, least, own)) in elim c [
-      | no_room_for_items h ↦ omega (arith, heavy h, all)
-      | no_room_for_places h ↦ omega (arith, h y refl, unused, all)
-      | no_room_for_both h ↦ omega (arith, h, least, own, unused, all)
-    ]))
 
 -- ---- slices
 -- Other items than those that are shown one by one are entries of their bytes together.
@@ -164,7 +120,7 @@ one_in false name z needs_drop p xs n is adds = rw (is, slice_shows) (counted_le
 one_in true name z needs_drop p xs n is adds =
     tallies_to (holds_bytes {m = z * length xs + z * 0} (omega arith)) (cut_as name z needs_drop p xs is)
     (tallies_then (counted_leaf adds)
-    (counted_leaf {n = z * 0} (record { is_there = grind arith; bytes = λ room. omega arith; weighs = omega arith })))
+    (counted_leaf {n = z * 0} (record { is_there = grind arith; bytes = λ room. omega arith })))
 
 -- One more slice of items is counted, after n slices of i items: each item, or one entry of all bytes.
 pub record SliceCounts {T E : Type 0} (cut : Bool) (name : Key) (z : ℕ) (needs_drop : Bool) (p : T → Showing)
@@ -177,15 +133,13 @@ pub record SliceCounts {T E : Type 0} (cut : Bool) (name : Key) (z : ℕ) (needs
 
 -- So many values more are counted, after n.
 pub many_counts : {X E : Type 0} {w : Option ℕ} {l : ℕ} (n : ℕ) {m : ℕ} {p : Showing} {s t : ℕ → Shape}
-    {r : Result X E} → m ≡ n + l → Told r (TalliesMany w l p s t) (CannotTally p s) →
-    ShapeCounts (size_times w l) p (s n) (t m) r
-many_counts n {m} e run = told_then run (λ a. a.next n m e) (λ a. a.next n)
+    {r : Result X E} → m ≡ n + l → Told r (TalliesMany w l p s t) → ShapeCounts (size_times w l) p (s n) (t m) r
+many_counts n {m} e run = told_then run (λ a. a.next n m e)
 
 -- A slice of items that are shown one by one is what each item shows.
 pub slice_each : {T E : Type 0} (cut : Bool) {name : Key} {z : ℕ} {needs_drop : Bool} {p : T → Showing} {xs : List T}
     {s t : ℕ → Shape} {n i : ℕ} {r : Result (Unit {0}) E} → are_shown_each needs_drop (Some z) ≡ true →
-    Told r (TalliesMany (Some z) (length xs) (each_shows p xs) s t) (CannotTally (each_shows p xs) s) →
-    SliceCounts cut name z needs_drop p xs s t n i r
+    Told r (TalliesMany (Some z) (length xs) (each_shows p xs) s t) → SliceCounts cut name z needs_drop p xs s t n i r
 slice_each cut {name} {z} {needs_drop} {p} {xs} {i = i} is each =
     record { slice = rw is (shown_counts (each_in cut name z needs_drop p xs is) (many_counts i refl each)) }
 
@@ -197,7 +151,7 @@ slice_one cut {name} {z} {needs_drop} {p} {xs} {n = n} {i} is =
     let all = mul-add z i (length xs) in
     let bytes = bytes_times (Some z) in
     let adds : AddsEntry (z * length xs) (sum_of n (bytes i)) (sum_of (n + 1) (bytes (i + length xs))) =
-    record { is_there = grind arith; bytes = λ room. omega (arith, room, all); weighs = omega (arith, all) } in
+    record { is_there = grind arith; bytes = λ room. omega (arith, room, all) } in
     record { slice = rw is (record { told = one_in cut name z needs_drop p xs n is adds }) }
 
 -- ---- buffers
@@ -206,32 +160,19 @@ pub buffer_counts : {T S E : Type 0} (cut : Bool) {z c : ℕ} {old new : Places}
     {p : T → Showing} {xs : List T} {is_none : S → Type 0} {g : S → ℕ → Shape} {u v : S} {a b r : Result (Unit {0}) E} →
     r ≡ result_and a b → 0 < z → 0 < length xs + c → IsWhole (Some z) is_none g →
     SliceCounts cut name z needs_drop p xs (g u) (g v) old.buffers old.items a →
-    Told b (AddsPlaces (Some z) (Some z) (length xs) (c - length xs) old new)
-    (CannotAdd (Some z) (Some z) (length xs) (c - length xs) old) →
+    Told b (AddsPlaces (Some z) (Some z) (length xs) (c - length xs) old new) →
     ShapeCounts (Some 8) (buffer_shows (Some z) (in_slices cut name (Some z) needs_drop p xs) (length xs) c)
     (buffer_of name (Some z) needs_drop old (g u)) (buffer_of name (Some z) needs_drop new (g v)) r
 buffer_counts cut {z} {old = old} {name = name} {needs_drop} {xs = xs} {g} {u} {v} e some room whole slice added =
     let i = old.items in
-    let j = i + length xs in
     let items = λ (b : Bool) (n m : ℕ) (s : Shape). items_shape b name n (bytes_times (Some z) m) s in
     let each = are_shown_each needs_drop (Some z) in
-    let more = mul-le 1 j z j some (omega arith) in
     shown_counts (buffer_as refl some room) (and_told e slice.slice
     (λ c. places_added (codes "ptr") (λ n m. items each n m (g v m))
     (elim each as (λ b. direct (forest_of (items b old.buffers i (g u i))) ≤ z * i) [
       | true ↦ omega (arith, shape_direct (g u i), whole.most u i)
       | false ↦ omega (arith, entry_direct Wide name (sum_of old.buffers (bytes_times (Some z) i)) NoEntry)
-    ])
-    (elim each as (λ b. min (max j (z * j)) (2 ^ 64 - 1) ≤ load (items b (old.buffers + 1) j (g v j)))
-    [ true ↦ omega (arith, whole.least v j) | false ↦ omega (arith, more) ]) c added)
-    (λ n. exceeds_inside true 8 (exceeds_first n)))
-
--- A container without a declared size of its items cannot be counted.
-pub buffer_unsized : {size : Option ℕ} {p : Showing} {n c : ℕ} {s : Shape} → size ≡ None → Exceeds
-    (buffer_shows size p n c) s
-buffer_unsized e = record {
-  most = λ f x. absurd (elim x [ without_size y z ↦ cc | without_room y z v w ↦ cc | with_room y z v w ↦ cc ]);
-}
+    ]) c added))
 
 -- ---- one by one
 -- The bytes of one more value.
@@ -266,22 +207,6 @@ pub run_as : {S A B : Type 0} {steps : S → Option A → S → Type 0} {s : S} 
     HoldsOfEveryRun steps s v q → ((xs : List B) → q xs → r xs) → HoldsOfEveryRun steps s v r
 run_as o up = record { along = λ xs y. up xs (o.along xs y) }
 
--- If an item of a run cannot be counted, once those before it were, no list that every run gives can.
-pub run_cannot : {S A B : Type 0} {w : Option ℕ} (steps : S → Option A → S → Type 0) {s u : S} (t : S) {v : A → B}
-    {p : B → Showing} {x : A} (xs : List A) {a b : ℕ → Shape} → Yields steps s xs t → steps t (Some x) u →
-    TalliesMany w (length (map v xs)) (each_shows p (map v xs)) a b → CannotTally (p (v x)) b →
-    HoldsOfEveryRun steps s v (λ ys. CannotTally (each_shows p ys) a)
-run_cannot steps {s = s} t {v} {p} {x} xs {a} {b} g n c e = record {
-  along = λ ys y. let split = begins steps v s t xs ys g n y in
-      let all = length (map v xs) in
-      subst (λ zs. CannotTally (each_shows p zs) a) split.1 (record {
-        next = λ i. exceeds_in {s = a i} (begins_with p (map v xs) (v x) split.0) (omega arith) (record {
-          most = λ f z. omega
-              (arith, (c.next i (i + all) refl).weighs z.0 z.2, (e.next (i + all)).most z.1 z.3, both_weight z);
-        });
-      });
-}
-
 -- What holds of all items of a run that has ended holds of every list that every run gives.
 pub run_ends : {S A B : Type 0} {steps : S → Option A → S → Type 0} {s : S} (t u : S) {v : A → B}
     {r : List B → Type 0} (xs : List A) → Yields steps s xs t → steps t None u → r (map v xs) →
@@ -304,21 +229,6 @@ pub product_order : (n : ℕ) (w : Option ℕ) → size_product (Some n) w ≡ s
 product_order n None = refl
 product_order n (Some s) = ap checked (omega arith)
 
--- More fields than a word counts cannot be counted.
-pub fields_full : {T : Type 0} {k : Key} (w : Option ℕ) (p : T → Showing) (xs : List T) {n : ℕ} {s : Shape} →
-    2 ^ 64 ≤ n + length xs → Exceeds (each_shows (field_of k w p) xs) (entries k w n s)
-fields_full {T} {k} w p xs over = record { most = λ f y. omega (arith, over, number xs f y) }
-  where
-    number : (xs : List T) (f : Forest) → each_shows (field_of k w p) xs f → length xs ≤ weight f
-    number [] f y = omega arith
-    number (x ∷ xs) f y = omega (arith, number xs y.1 y.3, both_weight y, field_some y.0 y.2)
-
--- A small vector with a declared size has items with one.
-pub small_sized : (n : ℕ) (w : Option ℕ) (align : ℕ) →
-    IsDeclared (size_up (size_sum (Some 8) (size_max (Some 16) (size_product (Some n) w))) align) → w ≢ None
-small_sized n None align d = let none = d.sized in absurd (cc)
-small_sized n (Some s) align d = λ e. cc
-
 -- ---- items of a declared size
 -- A field has its declared size.
 field_direct : (k : Key) (w : Option ℕ) (n : ℕ) (p : Showing) (f : Forest) → w ≡ Some n → Field k w p f → direct f ≡ n
@@ -336,22 +246,15 @@ most_direct (Some y) {z} n s e most =
 pub are_fields : {T S : Type 0} (k : Key) (size : Option ℕ) (p : T → Showing) (s : S → ℕ → Shape) →
     AreFields size (field_of k size p) (λ t n. entries k size n (s t n))
 are_fields k size p s = record {
-  least = λ x f y. field_least f y;
   bytes = λ x z f e. field_direct k size z (p x) f e;
-  numbers = λ t n. omega arith;
   most = λ t z n e. most_direct size n (entries k size n (s t n)) e (le_refl _);
 }
 
--- What the sum of two sizes is: no more to count than both, that of sizes that are there, and no more bytes of so many.
-sum_facts : (v w : Option ℕ) → (least_weight (size_sum v w) ≤ least_weight v + least_weight w)
-    × ((z : ℕ) → size_sum v w ≡ Some z → (m : ℕ) × (n : ℕ) × (v ≡ Some m) × (w ≡ Some n) × (m + n ≡ z))
-    × ((n : ℕ) → bytes_times (size_sum v w) n ≤ bytes_times v n + bytes_times w n)
-sum_facts (Some m) (Some n) = (
-  grind (arith, nat_tests),
-  λ z e. (m, n, refl, refl, grind (arith, nat_tests, e)),
-  λ i. grind (arith, nat_tests),
-)
-sum_facts v w = (omega arith, λ z e. absurd (cc), λ n. omega arith)
+-- The sum of two sizes is that of sizes that are there.
+sum_sized : (v w : Option ℕ) (z : ℕ) → size_sum v w ≡ Some z →
+    (m : ℕ) × (n : ℕ) × (v ≡ Some m) × (w ≡ Some n) × (m + n ≡ z)
+sum_sized (Some m) (Some n) z e = (m, n, refl, refl, grind (arith, nat_tests, e))
+sum_sized v w z e = absurd (cc)
 
 -- Pairs of fields have the sum of both declared sizes.
 pub pairs_are_fields : {K V S R : Type 0} (v w : Option ℕ) (p : K → Showing) (q : V → Showing) (s : S → ℕ → Shape)
@@ -359,26 +262,17 @@ pub pairs_are_fields : {K V S R : Type 0} (v w : Option ℕ) (p : K → Showing)
     AreFields (size_sum v w) (pair_shows v p w q) (λ (u : S × R). pairs_shape v w (s u.0) (t u.1))
 pairs_are_fields v w p q s t =
     let a = are_fields (codes "key") v p s in
-    let b = are_fields (codes "value") w q t in
-    let (weight_is, sizes, times_is) = sum_facts v w in record {
-      least = λ e f x. omega (arith, weight_is, both_weight x, a.least e.0 x.0 x.2, b.least e.1 x.1 x.3);
+    let b = are_fields (codes "value") w q t in record {
       bytes = λ e z f i x.
-          let (m, n, first, second, all) = sizes z i in
+          let (m, n, first, second, all) = sum_sized v w z i in
           let top = ap direct x.4 ∙ direct-following x.0 x.1 in
           omega (arith, all, top, a.bytes e.0 m x.0 first x.2, b.bytes e.1 n x.1 second x.3);
-      numbers = λ u i. omega (arith, a.numbers u.0 i, b.numbers u.1 i, times_is i);
       most = λ u z i e.
-          let (m, n, first, second, all) = sizes z e in
+          let (m, n, first, second, all) = sum_sized v w z e in
           let keys = forest_of (entries (codes "key") v i (s u.0 i)) in
           let top = direct-following keys (forest_of (entries (codes "value") w i (t u.1 i))) in
           omega (arith, top, ap (λ (k : ℕ). k * i) all, a.most u.0 m i first, b.most u.1 n i second);
     }
-
--- Items have too much to count if there is one, and they have no declared size.
-pub fields_heavy : {A S : Type 0} {size : Option ℕ} {p : A → Showing} {s : S → ℕ → Shape} (xs : List A) →
-    AreFields size p s → 0 < length xs → (f : Forest) → size ≡ None → each_shows p xs f → 2 ^ 64 ≤ weight f
-fields_heavy [] a some f e y = absurd (omega (arith, some))
-fields_heavy (x ∷ xs) a some f e y = omega (arith, a.least x y.0 y.2, both_weight y, ap least_weight e)
 
 -- Items have the bytes of all.
 pub fields_direct : {A S : Type 0} {size : Option ℕ} {p : A → Showing} {s : S → ℕ → Shape} (xs : List A) →
@@ -387,12 +281,10 @@ fields_direct [] a z f e y = ap direct y ∙ omega arith
 fields_direct (x ∷ xs) a z f e (g, h, y, l, i) =
     omega (arith, ap direct i ∙ direct-following g h, a.bytes x z g e y, fields_direct xs a z h e l)
 
--- Fields are what items in buffers have to be, if there is one or they have a declared size.
-pub fields_bear : {A S : Type 0} {size : Option ℕ} {p : A → Showing} {s : S → ℕ → Shape} {u v : S} (xs : List A) →
-    AreFields size p s → (size ≡ None → 0 < length xs) → TalliesMany size (length xs) (each_shows p xs) (s u) (s v) →
-    TalliesMany size (length xs) (each_shows p xs) (s u) (s v) × Bears size (each_shows p xs) (s u) (s v)
-fields_bear {u = u} {v} xs a some items =
-    (items, record { heavy = λ f e. fields_heavy xs a (some e) f e; most = a.most u; least = a.numbers v })
+-- So many fields have at most their bytes at the top.
+pub fields_within : {A S : Type 0} {size : Option ℕ} {p : A → Showing} {s : S → ℕ → Shape} (u : S) →
+    AreFields size p s → AreWithin size (s u)
+fields_within u a = record { most = a.most u }
 
 -- ---- the entry `data`
 -- No item shows nothing.
@@ -415,25 +307,21 @@ table_counted a a' c c' {b = b} {bytes} some is size more buckets fits =
 
 -- The buffer of a container in the order of insertion is counted, if its items were counted and added.
 pub index_counts : {A S E : Type 0} {item size : Option ℕ} {u : ℕ} {p : A → Showing} (xs : List A) {g : S → ℕ → Shape}
-    {v v' : S} {old new : Places} {a b r : Result (Unit {0}) E} → r ≡ result_and a b → (item ≡ None → size ≡ None) →
-    AreFields item p g →
-    Told a (TalliesMany item (length xs) (each_shows p xs) (g v) (g v')) (CannotTally (each_shows p xs) (g v)) →
-    Told b (AddsPlaces item size (length xs) u old new) (CannotAdd item size (length xs) u old) →
+    {v v' : S} {old new : Places} {a b r : Result (Unit {0}) E} → r ≡ result_and a b → AreFields item p g →
+    Told a (TalliesMany item (length xs) (each_shows p xs) (g v) (g v')) →
+    Told b (AddsPlaces item size (length xs) u old new) →
     ShapeCounts (Some 8) (index_data_shows size (each_shows p xs) u)
     (buffer_shape (codes "data") old.buffers (g v old.items) old.unused)
     (buffer_shape (codes "data") new.buffers (g v' new.items) new.unused) r
-index_counts {size = None} xs {old = old} e none fields run added = shown_counts index_data_as (and_told e run
-    (λ _. told_then added (λ a. let missing = a.spare_room.sized in absurd (cc))
-    (λ _. exceeds_inside true 8 (record { most = λ f x. omega (arith, both_weight x, field_least x.1 x.3) })))
-    (λ n. exceeds_inside true 8 (exceeds_first (n.next old.items))))
-index_counts {item = None} {size = Some y} xs e none fields run added = let missing = none refl in absurd (cc)
-index_counts {item = Some z} {size = Some y} xs {g} {v} {v'} {old} e none fields run added =
+index_counts {size = None} xs e fields run added =
+    and_told e run (λ _. told_then added (λ a. let missing = a.spare_room.sized in absurd (cc)))
+index_counts {item = None} {size = Some y} xs e fields run added =
+    and_told e run (λ _. told_then added (λ a. let missing = a.adds.room.sized in absurd (cc)))
+index_counts {item = Some z} {size = Some y} xs {g} {v} {v'} {old} e fields run added =
     let i = old.items in
     let j = i + length xs in
     shown_counts index_data_as (and_told e run
-    (λ items. places_added (codes "data") (λ _ m. g v' m) (fields.most v z i refl) (omega (arith, fields.numbers v' j))
-    (items.next i j refl) added)
-    (λ n. exceeds_inside true 8 (exceeds_first (n.next i))))
+    (λ items. places_added (codes "data") (λ _ m. g v' m) (fields.most v z i refl) (items.next i j refl) added))
 
 -- ---- what is entered
 -- The fields of no pairs.

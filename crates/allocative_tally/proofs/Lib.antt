@@ -1,12 +1,12 @@
 pub mod Merging
-pub mod Weighing
+pub mod Shown
 pub mod Sizes
 pub mod Counting
 pub mod Entering
 pub mod Fields
 pub mod Items
 -- The answers import the lemmas from here, and what most of them cite besides.
-pub use Weighing.*
+pub use Shown.*
 pub use Sizes.*
 pub use Counting.*
 pub use Entering.*

@@ -41,6 +41,10 @@ pub holds_second : (u v : Option ℕ) {w : Option ℕ} → HoldsBound v w → Ho
 holds_second (Some m) (Some n) h = record { room = λ d i. room_checked (m + n) d (omega (arith, h.room d i)) }
 holds_second u v h = record { room = λ d i. tt }
 
+-- The first field.
+pub holds_alone : (u : Option ℕ) → HoldsBound (size_sum (Some 0) u) u
+holds_alone u = holds_second (Some 0) u holds_itself
+
 -- The fields of one variant.
 pub holds_first_of : (u v : Option ℕ) {w : Option ℕ} → HoldsBound u w → HoldsBound (size_max u v) w
 holds_first_of (Some m) (Some n) h = record { room = λ d i. omega (arith, h.room d i) }

@@ -25,27 +25,9 @@ pub record Merged (f g : Forest) : Type 0 where
   pub same_direct : direct f ≡ direct g
   pub fits : (open_visitors : ℕ) → FitsWords open_visitors f → FitsWords open_visitors g
 
--- What a forest has to count: the bytes of all its entries, and the entries.
-abbrev pub weight : Forest → ℕ
-weight Empty = 0
-weight (Inline k n inside after) = n + 1 + weight inside + weight after
-weight (unique_entry k n inside after) = n + 1 + weight inside + weight after
-weight (First k n i inside after) = n + 1 + weight inside + weight after
-weight (Again k n i after) = n + 1 + weight after
-
--- What a value of a declared size has to count at least: more than its bytes. No word has it if there is no size.
-abbrev pub least_weight : Option ℕ → ℕ
-least_weight None = 2 ^ 64
-least_weight (Some s) = s + 1
-
--- A forest of p that has no more to count than f.
-abbrev pub Lighter : Showing → Forest → Type 0
-Lighter p f = (g : Forest) × p g × (weight g ≤ weight f)
-
--- What p shows is shown as q, and q shows nothing that has less to count.
+-- What p shows is shown as q.
 pub record ShownAs (p q : Showing) : Type 0 where
   pub up : (f : Forest) → p f → q f
-  pub down : (f : Forest) → q f → Lighter p f
 
 -- Each entry of one place is unique, or inline with at least the bytes directly inside it, or inline with at most
 -- those. Merging entries of one kind keeps what they own.
@@ -161,12 +143,6 @@ buffer_shape k n items unused = EntryAt Unique k (sum_times (Some 8) n) (Beside 
 abbrev pub table_shape : ℕ → ℕ → Shape
 table_shape n bytes = EntryAt Unique (codes "raw_table") (sum_times (Some 8) n)
     (EntryAt Wide (codes "alloc") (sum_of n bytes) NoEntry)
-
--- The numbers of a shape: the counts and the bytes of all its sums.
-abbrev pub load : Shape → ℕ
-load NoEntry = 0
-load (Beside s t) = load s + load t
-load (EntryAt width k sum s) = sum.count + sum.bytes + load s
 
 -- The bytes of a shape's sums at its top.
 abbrev pub top_bytes : Shape → ℕ

@@ -7,19 +7,18 @@ use crate::field::{FieldMany, OwnTally, SizedMany, count_own};
 use crate::tally::{CountError, Entries, Tallied, declared};
 use allocative::{Described, Refusal, Visitor};
 use either::{Either, Left, Right};
-use std::marker::PhantomData;
 
 impl<T: Tallied> Tallied for Option<T> {
     type Tally = OwnTally<T::Tally>;
 
-    ghost shape = { λ t n. entries (codes "Option") ⟦<Option<T> as Described>⟧.size n
-        (entries (codes "Some") T.size t.count (T.shape t.values t.count)) };
+    ghost shape = { λ t n. entries (codes "Option") ⟦<Option<T> as Described>⟧.layout.size n
+        (entries (codes "Some") T.layout.size t.count (T.shape t.values t.count)) };
 
     ghost whole = { is_whole (Prim.search starting) };
 
     fn show(tally: &Self::Tally, count: usize, visitor: &mut Visitor<'_>) -> Result<(), Refusal> {
         let some = FieldMany::<T>("Some", &tally.values, tally.count);
-        SizedMany::<Option<T>, _, _>("Option", count, some, PhantomData).enter(visitor)
+        SizedMany("Option", <Option<T>>::size(), count, some).enter(visitor)
     }
 
     #[inline(always)]
@@ -42,16 +41,16 @@ pub struct EitherTally<P, Q> {
 impl<T: Tallied, E: Tallied> Tallied for Result<T, E> {
     type Tally = EitherTally<T::Tally, E::Tally>;
 
-    ghost shape = { λ t n. entries (codes "Result") ⟦<Result<T, E> as Described>⟧.size n
-        (Beside (entries (codes "Ok") T.size t.first.count (T.shape t.first.values t.first.count))
-        (entries (codes "Err") E.size t.second.count (E.shape t.second.values t.second.count))) };
+    ghost shape = { λ t n. entries (codes "Result") ⟦<Result<T, E> as Described>⟧.layout.size n
+        (Beside (entries (codes "Ok") T.layout.size t.first.count (T.shape t.first.values t.first.count))
+        (entries (codes "Err") E.layout.size t.second.count (E.shape t.second.values t.second.count))) };
 
     ghost whole = { is_whole (Prim.search starting) };
 
     fn show(tally: &Self::Tally, count: usize, visitor: &mut Visitor<'_>) -> Result<(), Refusal> {
         let ok = FieldMany::<T>("Ok", &tally.first.values, tally.first.count);
         let err = FieldMany::<E>("Err", &tally.second.values, tally.second.count);
-        SizedMany::<Result<T, E>, _, _>("Result", count, (ok, err), PhantomData).enter(visitor)
+        SizedMany("Result", <Result<T, E>>::size(), count, (ok, err)).enter(visitor)
     }
 
     #[inline(always)]
@@ -67,16 +66,16 @@ impl<T: Tallied, E: Tallied> Tallied for Result<T, E> {
 impl<L: Tallied, R: Tallied> Tallied for Either<L, R> {
     type Tally = EitherTally<L::Tally, R::Tally>;
 
-    ghost shape = { λ t n. entries (codes "Either") ⟦<Either<L, R> as Described>⟧.size n
-        (Beside (entries (codes "Left") L.size t.first.count (L.shape t.first.values t.first.count))
-        (entries (codes "Right") R.size t.second.count (R.shape t.second.values t.second.count))) };
+    ghost shape = { λ t n. entries (codes "Either") ⟦<Either<L, R> as Described>⟧.layout.size n
+        (Beside (entries (codes "Left") L.layout.size t.first.count (L.shape t.first.values t.first.count))
+        (entries (codes "Right") R.layout.size t.second.count (R.shape t.second.values t.second.count))) };
 
     ghost whole = { is_whole (Prim.search starting) };
 
     fn show(tally: &Self::Tally, count: usize, visitor: &mut Visitor<'_>) -> Result<(), Refusal> {
         let left = FieldMany::<L>("Left", &tally.first.values, tally.first.count);
         let right = FieldMany::<R>("Right", &tally.second.values, tally.second.count);
-        SizedMany::<Either<L, R>, _, _>("Either", count, (left, right), PhantomData).enter(visitor)
+        SizedMany("Either", <Either<L, R>>::size(), count, (left, right)).enter(visitor)
     }
 
     #[inline(always)]

@@ -1,15 +1,15 @@
 //! Parts of values that are counted first.
 
-ghost use Rattle.std.specs.Prelude.{ℕ, MatchResult, Option, length};
+ghost use Rattle.std.specs.Prelude.{ℕ, OnOk, Option, length};
 ghost use Rattle.std.specs.{Iterator.IsFinite, Map.Iter.deref, Map.Iter.deref_pair};
 ghost use Rattle.allocative_described.specs.Sizes.{size_sum};
 ghost use Rattle.allocative_graph.specs.{Forest.Forest, Shows.each_shows};
 ghost use Rattle.allocative.specs.Runs.{field_of, pair_shows};
-ghost use Rattle.allocative_tally.specs.{Shape, entries, pairs_shape, TalliesFields, TalliesMany, CannotTally};
+ghost use Rattle.allocative_tally.specs.{Shape, entries, pairs_shape, TalliesFields, TalliesMany};
 ghost use Rattle.allocative_tally.specs.{HoldsOfEveryRun, Told};
 
 use crate::tally::{CountError, Tallied, product};
-use allocative::{Allocative, Described, IntoKey, Part, Refusal, Visitor};
+use allocative::{Allocative, Described, IntoKey, Layout, Part, Refusal, Visitor};
 
 /// How a loop counts each item that an iterator gives, into the tally `S`.
 pub(crate) trait CountItem<A, S>: Drop {
@@ -30,10 +30,8 @@ pub(crate) trait CountItem<A, S>: Drop {
 
     /// Counts an item. It returns `Err` as `Tallied::tally` does.
     fn count_item(&self, item: A, tally: &mut S) -> Result<(), CountError>
-        ensures { MatchResult result
-            (λ _. TalliesFields size (may_show self.now (seen item))
-            (shape self.now tally.old) (shape self.now tally.new))
-            (λ _. CannotTally (may_show self.now (seen item)) (shape self.now tally.old)) };
+        ensures { OnOk result (TalliesFields size (may_show self.now (seen item))
+            (shape self.now tally.old) (shape self.now tally.new)) };
 }
 
 /// What the item shows, with no entry of its own.
@@ -45,7 +43,7 @@ impl<'a, T: Tallied> CountItem<&'a T, T::Tally> for Itself {
 
     ghost seen = { deref };
 
-    ghost size = { T.size };
+    ghost size = { T.layout.size };
 
     ghost may_show = { λ _. T.may_show };
 
@@ -66,11 +64,11 @@ impl<'a, T: Tallied> CountItem<&'a T, T::Tally> for FieldUnder {
 
     ghost seen = { deref };
 
-    ghost size = { T.size };
+    ghost size = { T.layout.size };
 
-    ghost may_show = { λ f. field_of (⟦<&'static str as IntoKey>⟧.key f.0) T.size T.may_show };
+    ghost may_show = { λ f. field_of (⟦<&'static str as IntoKey>⟧.key f.0) T.layout.size T.may_show };
 
-    ghost shape = { λ f t n. entries (⟦<&'static str as IntoKey>⟧.key f.0) T.size n (T.shape t n) };
+    ghost shape = { λ f t n. entries (⟦<&'static str as IntoKey>⟧.key f.0) T.layout.size n (T.shape t n) };
 
     #[inline(always)]
     fn count_item(&self, item: &'a T, tally: &mut T::Tally) -> Result<(), CountError> {
@@ -87,11 +85,11 @@ impl<'a, K: Tallied, V: Tallied> CountItem<(&'a K, &'a V), (K::Tally, V::Tally)>
 
     ghost seen = { deref_pair };
 
-    ghost size = { size_sum K.size V.size };
+    ghost size = { size_sum K.layout.size V.layout.size };
 
-    ghost may_show = { λ _. pair_shows K.size K.may_show V.size V.may_show };
+    ghost may_show = { λ _. pair_shows K.layout.size K.may_show V.layout.size V.may_show };
 
-    ghost shape = { λ _ t. pairs_shape K.size V.size (K.shape t.0) (V.shape t.1) };
+    ghost shape = { λ _ t. pairs_shape K.layout.size V.layout.size (K.shape t.0) (V.shape t.1) };
 
     #[inline(always)]
     fn count_item(
@@ -113,9 +111,8 @@ pub(crate) fn count_run<A: Drop, S, C: CountItem<A, S>, I: Iterator<Item = A> + 
 ) -> Result<(), CountError>
     requires can { I.can_next items }
     requires ends { IsFinite (I.remaining items) }
-    ensures { HoldsOfEveryRun I.next_gives items C.seen (λ xs. Told result
-        (TalliesMany C.size (length xs) (each_shows (C.may_show how) xs) (C.shape how tally.old) (C.shape how tally.new))
-        (CannotTally (each_shows (C.may_show how) xs) (C.shape how tally.old))) }
+    ensures { HoldsOfEveryRun I.next_gives items C.seen (λ xs. Told result (TalliesMany C.size (length xs)
+        (each_shows (C.may_show how) xs) (C.shape how tally.old) (C.shape how tally.new))) }
 {
     for item in items {
         how.count_item(item, tally)?;
@@ -160,28 +157,10 @@ impl<'a, T: Tallied> Allocative for CountedValue<'a, T> {
 }
 
 impl<'a, T: Described> Described for CountedValue<'a, T> {
-    ghost name = { T.name };
+    ghost layout = { T.layout };
 
-    ghost align = { T.align };
-
-    ghost needs_drop = { T.needs_drop };
-
-    ghost size = { T.size };
-
-    fn name() -> &'static str {
-        T::name()
-    }
-
-    fn align() -> usize {
-        T::align()
-    }
-
-    fn needs_drop() -> bool {
-        T::needs_drop()
-    }
-
-    fn size() -> Option<usize> {
-        T::size()
+    fn layout() -> Layout {
+        T::layout()
     }
 }
 

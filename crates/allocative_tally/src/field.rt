@@ -1,13 +1,12 @@
 //! Entries of declared sizes, and values with a number of their own.
 
-ghost use Rattle.std.specs.Prelude.{◌≡◌, MatchResult};
-ghost use Rattle.allocative_tally.specs.{entries, TalliesOwn, CannotTallyOwn};
+ghost use Rattle.std.specs.Prelude.{◌≡◌, OnOk};
+ghost use Rattle.allocative_tally.specs.{entries, TalliesOwn};
 ghost use Rattle.allocative.specs.Shows as shows;
 
 use crate::counted::Counted;
 use crate::tally::{CountError, Entries, InlineSum, Sum, Tallied, added};
-use allocative::{Declared, Described, IntoKey, Part, Refusal, Visitor};
-use std::marker::PhantomData;
+use allocative::{Declared, IntoKey, Part, Refusal, Visitor};
 
 /// What so many values show, by their tally.
 #[derive(Drop)]
@@ -26,23 +25,23 @@ impl<'a, T: Tallied> Entries for Many<'a, T> {
 pub struct FieldMany<'a, T: Tallied>(pub &'static str, pub &'a T::Tally, pub usize);
 
 impl<'a, T: Tallied> Entries for FieldMany<'a, T> {
-    ghost shape = { λ e. entries (⟦<&'static str as IntoKey>⟧.key e.0) T.size e.2 (T.shape e.1.now e.2) };
+    ghost shape = { λ e. entries (⟦<&'static str as IntoKey>⟧.key e.0) T.layout.size e.2 (T.shape e.1.now e.2) };
 
     fn enter(self, visitor: &mut Visitor<'_>) -> Result<(), Refusal> {
         let values = Many::<T>(self.1, self.2);
-        SizedMany::<T, _, _>(self.0, self.2, values, PhantomData).enter(visitor)
+        SizedMany(self.0, T::size(), self.2, values).enter(visitor)
     }
 }
 
-/// So many entries of a type's declared size under a key, with entries inside them.
+/// Entries of a declared size under a key, so many, with entries inside them.
 #[derive(Drop)]
-pub struct SizedMany<T, K, P>(pub K, pub usize, pub P, pub PhantomData<T>);
+pub struct SizedMany<K, P>(pub K, pub Option<usize>, pub usize, pub P);
 
-impl<T: Described, K: IntoKey, P: Entries> Entries for SizedMany<T, K, P> {
-    ghost shape = { λ e. entries (K.key e.0) T.size e.1 (P.shape e.2) };
+impl<K: IntoKey, P: Entries> Entries for SizedMany<K, P> {
+    ghost shape = { λ e. entries (K.key e.0) e.1 e.2 (P.shape e.3) };
 
     fn enter(self, visitor: &mut Visitor<'_>) -> Result<(), Refusal> {
-        InlineSum(self.0, Sum::times(T::size(), self.1), self.2).enter(visitor)
+        InlineSum(self.0, Sum::times(self.1, self.2), self.3).enter(visitor)
     }
 }
 
@@ -56,10 +55,8 @@ pub struct OwnTally<S> {
 /// Counts one more value of a number of its own. It returns `Err` as `Tallied::tally` does.
 #[inline(always)]
 pub fn count_own<T: Tallied>(own: &mut OwnTally<T::Tally>, value: &T) -> Result<(), CountError>
-    ensures { MatchResult result
-        (λ _. TalliesOwn T.size (T.may_show value.now)
-        own.old.count (T.shape own.old.values) own.new.count (T.shape own.new.values))
-        (λ _. CannotTallyOwn T.size (T.may_show value.now) own.old.count (T.shape own.old.values)) }
+    ensures { OnOk result (TalliesOwn T.layout.size (T.may_show value.now)
+        own.old.count (T.shape own.old.values) own.new.count (T.shape own.new.values)) }
 {
     own.count = added(own.count, 1)?;
     value.tally(&mut own.values)
@@ -71,7 +68,7 @@ pub struct CountedField<'a, K, T>(pub K, pub &'a T);
 
 #[tactic(auto, using(allocative::proofs::Parts::parts))]
 impl<'a, K: IntoKey, T: Tallied> Part for CountedField<'a, K, T> {
-    ghost may_show = { λ f. shows.Field (K.key f.0) T.size (T.may_show f.1.now) };
+    ghost may_show = { λ f. shows.Field (K.key f.0) T.layout.size (T.may_show f.1.now) };
 
     ghost is_strict = { T.is_strict };
 

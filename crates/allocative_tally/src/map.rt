@@ -16,14 +16,13 @@ use crate::tally::{CountError, Entries, InlineSum, Sum, Tallied, bytes_of, produ
 use allocative::{Described, Pairs, Part, Refusal, Visitor};
 use std::collections::{BTreeMap, BTreeSet, HashMap, HashSet};
 use std::hash::Hash;
-use std::marker::PhantomData;
 
 /// The fields of so many pairs, by the tallies of their keys and values.
 #[derive(Drop)]
-pub struct PairsMany<'a, K: Tallied, V: Tallied>(pub &'a (K::Tally, V::Tally), pub usize);
+pub(crate) struct PairsMany<'a, K: Tallied, V: Tallied>(pub &'a (K::Tally, V::Tally), pub usize);
 
 impl<'a, K: Tallied, V: Tallied> Entries for PairsMany<'a, K, V> {
-    ghost shape = { λ e. pairs_shape K.size V.size (K.shape e.0.now.0) (V.shape e.0.now.1) e.1 };
+    ghost shape = { λ e. pairs_shape K.layout.size V.layout.size (K.shape e.0.now.0) (V.shape e.0.now.1) e.1 };
 
     fn enter(self, visitor: &mut Visitor<'_>) -> Result<(), Refusal> {
         let keys = FieldMany::<K>("key", &self.0.0, self.1);
@@ -34,7 +33,7 @@ impl<'a, K: Tallied, V: Tallied> Entries for PairsMany<'a, K, V> {
 
 /// The declared size of a pair's key and value in bytes. `None` if a size is missing, or the sum exceeds a word.
 pub(crate) fn pair_size<K: Described, V: Described>() -> Option<usize>
-    ensures { result ≡ size_sum K.size V.size }
+    ensures { result ≡ size_sum K.layout.size V.layout.size }
 {
     K::size()?.checked_add(V::size()?)
 }
@@ -97,7 +96,7 @@ impl<K: Tallied + Eq + Hash, V: Tallied> Tallied for HashMap<K, V> {
     type Tally = DataTally<(K::Tally, V::Tally)>;
 
     ghost shape = { λ t n. entries (codes "HashMap") (Some 48) n
-        (data_shape t (λ v. pairs_shape K.size V.size (K.shape v.0) (V.shape v.1))) };
+        (data_shape t (λ v. pairs_shape K.layout.size V.layout.size (K.shape v.0) (V.shape v.1))) };
 
     ghost whole = { is_whole (Prim.search starting) };
 
@@ -105,7 +104,7 @@ impl<K: Tallied + Eq + Hash, V: Tallied> Tallied for HashMap<K, V> {
         let small = PairsMany::<K, V>(&tally.small.values, tally.small.places.items);
         let large = PairsMany::<K, V>(&tally.large.values, tally.large.places.items);
         let data = DataMany(tally, small, large);
-        SizedMany::<HashMap<K, V>, _, _>("HashMap", count, data, PhantomData).enter(visitor)
+        SizedMany("HashMap", <HashMap<K, V>>::size(), count, data).enter(visitor)
     }
 
     fn tally(&self, tally: &mut Self::Tally) -> Result<(), CountError> {
@@ -118,7 +117,7 @@ impl<K: Tallied + Ord, V: Tallied> Tallied for BTreeMap<K, V> {
     type Tally = DataTally<(K::Tally, V::Tally)>;
 
     ghost shape = { λ t n. entries (codes "BTreeMap") (Some 24) n
-        (data_shape t (λ v. pairs_shape K.size V.size (K.shape v.0) (V.shape v.1))) };
+        (data_shape t (λ v. pairs_shape K.layout.size V.layout.size (K.shape v.0) (V.shape v.1))) };
 
     ghost whole = { is_whole (Prim.search starting) };
 
@@ -126,7 +125,7 @@ impl<K: Tallied + Ord, V: Tallied> Tallied for BTreeMap<K, V> {
         let small = PairsMany::<K, V>(&tally.small.values, tally.small.places.items);
         let large = PairsMany::<K, V>(&tally.large.values, tally.large.places.items);
         let data = DataMany(tally, small, large);
-        SizedMany::<BTreeMap<K, V>, _, _>("BTreeMap", count, data, PhantomData).enter(visitor)
+        SizedMany("BTreeMap", <BTreeMap<K, V>>::size(), count, data).enter(visitor)
     }
 
     fn tally(&self, tally: &mut Self::Tally) -> Result<(), CountError> {
@@ -139,7 +138,7 @@ impl<K: Tallied + Eq + Hash> Tallied for HashSet<K> {
     type Tally = DataTally<K::Tally>;
 
     ghost shape = { λ t n. entries (codes "HashSet") (Some 48) n
-        (data_shape t (λ v i. entries (codes "key") K.size i (K.shape v i))) };
+        (data_shape t (λ v i. entries (codes "key") K.layout.size i (K.shape v i))) };
 
     ghost whole = { is_whole (Prim.search starting) };
 
@@ -147,7 +146,7 @@ impl<K: Tallied + Eq + Hash> Tallied for HashSet<K> {
         let small = FieldMany::<K>("key", &tally.small.values, tally.small.places.items);
         let large = FieldMany::<K>("key", &tally.large.values, tally.large.places.items);
         let data = DataMany(tally, small, large);
-        SizedMany::<HashSet<K>, _, _>("HashSet", count, data, PhantomData).enter(visitor)
+        SizedMany("HashSet", <HashSet<K>>::size(), count, data).enter(visitor)
     }
 
     fn tally(&self, tally: &mut Self::Tally) -> Result<(), CountError> {
@@ -159,7 +158,7 @@ impl<K: Tallied + Ord> Tallied for BTreeSet<K> {
     type Tally = DataTally<K::Tally>;
 
     ghost shape = { λ t n. entries (codes "BTreeSet") (Some 24) n
-        (data_shape t (λ v i. entries (codes "key") K.size i (K.shape v i))) };
+        (data_shape t (λ v i. entries (codes "key") K.layout.size i (K.shape v i))) };
 
     ghost whole = { is_whole (Prim.search starting) };
 
@@ -167,7 +166,7 @@ impl<K: Tallied + Ord> Tallied for BTreeSet<K> {
         let small = FieldMany::<K>("key", &tally.small.values, tally.small.places.items);
         let large = FieldMany::<K>("key", &tally.large.values, tally.large.places.items);
         let data = DataMany(tally, small, large);
-        SizedMany::<BTreeSet<K>, _, _>("BTreeSet", count, data, PhantomData).enter(visitor)
+        SizedMany("BTreeSet", <BTreeSet<K>>::size(), count, data).enter(visitor)
     }
 
     fn tally(&self, tally: &mut Self::Tally) -> Result<(), CountError> {
@@ -180,7 +179,7 @@ impl<K: Tallied + Ord> Tallied for BTreeSet<K> {
 pub struct CountedPairs<V>(pub V);
 
 impl<'a, K: Tallied + Ord, V: Tallied> Part for CountedPairs<&'a BTreeMap<K, V>> {
-    ghost may_show = { λ m. each_shows (pair_shows K.size K.may_show V.size V.may_show) m.0.now.entries };
+    ghost may_show = { λ m. each_shows (pair_shows K.layout.size K.may_show V.layout.size V.may_show) m.0.now.entries };
 
     ghost is_strict = { K.is_strict && V.is_strict };
 
@@ -197,7 +196,8 @@ impl<'a, K: Tallied + Ord, V: Tallied> Part for CountedPairs<&'a BTreeMap<K, V>>
 }
 
 impl<'a, K: Tallied + Eq + Hash, V: Tallied> Part for CountedPairs<&'a HashMap<K, V>> {
-    ghost may_show = { λ m. in_any_order (pair_shows K.size K.may_show V.size V.may_show) m.0.now.entries };
+    ghost may_show = { λ m. in_any_order (pair_shows K.layout.size K.may_show V.layout.size V.may_show)
+        m.0.now.entries };
 
     ghost is_strict = { K.is_strict && V.is_strict };
 

@@ -16,13 +16,13 @@ use std::time::{Duration, Instant, SystemTime};
 /// A type whose values show one entry of its name, with nothing inside it.
 pub trait Leaf: Allocative + Described {
     // A value shows its entry, and nothing else.
-    ghost one_entry: { (x : Self) → ShownAs (Field Self.name Self.size Nothing) (Self.may_show x) };
+    ghost one_entry: { (x : Self) → ShownAs (Field Self.layout.name Self.layout.size Nothing) (Self.may_show x) };
 }
 
 impl<T: Leaf> Tallied for T {
     type Tally = ();
 
-    ghost shape = { λ t n. entries T.name T.size n NoEntry };
+    ghost shape = { λ t n. entries T.layout.name T.layout.size n NoEntry };
 
     ghost whole = { is_whole (Prim.search starting) };
 

@@ -16,7 +16,6 @@ use indexmap::{IndexMap, IndexSet};
 use slab::Slab;
 use smallvec::SmallVec;
 use std::hash::Hash;
-use std::marker::PhantomData;
 
 /// Containers in the order of insertion, counted: their items, how many hash tables there are, and the bytes of their
 /// buckets.
@@ -66,7 +65,8 @@ impl<K: Tallied + Eq + Hash, V: Tallied> Tallied for IndexMap<K, V> {
     type Tally = IndexTally<(K::Tally, V::Tally)>;
 
     ghost shape = { λ t n. entries (codes "IndexMap") (Some 72) n (Beside (buffer_shape (codes "data") t.items.places.buffers
-        (pairs_shape K.size V.size (K.shape t.items.values.0) (V.shape t.items.values.1) t.items.places.items)
+        (pairs_shape K.layout.size V.layout.size (K.shape t.items.values.0) (V.shape t.items.values.1)
+        t.items.places.items)
         t.items.places.unused)
         (table_shape t.tables t.buckets)) };
 
@@ -75,7 +75,7 @@ impl<K: Tallied + Eq + Hash, V: Tallied> Tallied for IndexMap<K, V> {
     fn show(tally: &Self::Tally, count: usize, visitor: &mut Visitor<'_>) -> Result<(), Refusal> {
         let items = PairsMany::<K, V>(&tally.items.values, tally.items.places.items);
         let inside = IndexMany(tally, items);
-        SizedMany::<IndexMap<K, V>, _, _>("IndexMap", count, inside, PhantomData).enter(visitor)
+        SizedMany("IndexMap", <IndexMap<K, V>>::size(), count, inside).enter(visitor)
     }
 
     fn tally(&self, tally: &mut Self::Tally) -> Result<(), CountError> {
@@ -92,7 +92,7 @@ impl<T: Tallied + Eq + Hash> Tallied for IndexSet<T> {
     type Tally = IndexTally<T::Tally>;
 
     ghost shape = { λ t n. entries (codes "IndexSet") (Some 72) n (Beside (buffer_shape (codes "data") t.items.places.buffers
-        (entries (codes "value") T.size t.items.places.items (T.shape t.items.values t.items.places.items))
+        (entries (codes "value") T.layout.size t.items.places.items (T.shape t.items.values t.items.places.items))
         t.items.places.unused)
         (table_shape t.tables t.buckets)) };
 
@@ -101,7 +101,7 @@ impl<T: Tallied + Eq + Hash> Tallied for IndexSet<T> {
     fn show(tally: &Self::Tally, count: usize, visitor: &mut Visitor<'_>) -> Result<(), Refusal> {
         let items = FieldMany::<T>("value", &tally.items.values, tally.items.places.items);
         let inside = IndexMany(tally, items);
-        SizedMany::<IndexSet<T>, _, _>("IndexSet", count, inside, PhantomData).enter(visitor)
+        SizedMany("IndexSet", <IndexSet<T>>::size(), count, inside).enter(visitor)
     }
 
     fn tally(&self, tally: &mut Self::Tally) -> Result<(), CountError> {
@@ -124,10 +124,11 @@ pub struct SmallVecTally<S> {
 impl<T: Tallied, const N: usize> Tallied for SmallVec<T, N> {
     type Tally = SmallVecTally<T::Tally>;
 
-    ghost shape = { λ t n. entries (codes "SmallVec") ⟦<SmallVec<T, N> as Described>⟧.size n (Beside
-        (entries (codes "data") T.size t.in_place.count (T.shape t.in_place.values t.in_place.count))
+    ghost shape = { λ t n. entries (codes "SmallVec") ⟦<SmallVec<T, N> as Described>⟧.layout.size n (Beside
+        (entries (codes "data") T.layout.size t.in_place.count (T.shape t.in_place.values t.in_place.count))
         (EntryAt unique_width (codes "ptr") (sum_times (Some 8) t.spilled.places.buffers)
-        (entries (codes "data") T.size t.spilled.places.items (T.shape t.spilled.values t.spilled.places.items)))) };
+        (entries (codes "data") T.layout.size t.spilled.places.items
+        (T.shape t.spilled.values t.spilled.places.items)))) };
 
     ghost whole = { is_whole (Prim.search starting) };
 
@@ -136,7 +137,7 @@ impl<T: Tallied, const N: usize> Tallied for SmallVec<T, N> {
         let in_place = FieldMany::<T>("data", &tally.in_place.values, tally.in_place.count);
         let spilled = FieldMany::<T>("data", &tally.spilled.values, places.items);
         let pointer = UniqueSum("ptr", Sum::times(Some(8), places.buffers), spilled);
-        let size = Sum::times(<SmallVec<T, N>>::size(), count);
+        let size = Sum::times(<SmallVec<T, N>>::layout().size(), count);
         InlineSum("SmallVec", size, (in_place, pointer)).enter(visitor)
     }
 
@@ -157,14 +158,12 @@ impl<T: Tallied> Tallied for Slab<T> {
     type Tally = Buffers<T::Tally>;
 
     ghost shape = { λ t n. entries (codes "Slab") (Some 40) n
-        (buffer_of T.name T.size T.needs_drop t.places (T.shape t.values)) };
+        (buffer_of T.layout.name T.layout.size T.layout.needs_drop t.places (T.shape t.values)) };
 
     ghost whole = { is_whole (Prim.search starting) };
 
     fn show(tally: &Self::Tally, count: usize, visitor: &mut Visitor<'_>) -> Result<(), Refusal> {
-        SizedMany::<Slab<T>, _, _>("Slab", count, BuffersMany::<T>(tally), PhantomData).enter(
-            visitor,
-        )
+        SizedMany("Slab", <Slab<T>>::size(), count, BuffersMany::<T>(tally)).enter(visitor)
     }
 
     fn tally(&self, tally: &mut Self::Tally) -> Result<(), CountError> {

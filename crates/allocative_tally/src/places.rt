@@ -1,25 +1,24 @@
 //! Numbers of buffers and of their items, and the bytes of their unused places.
 
-ghost use Rattle.std.specs.Prelude.{◌≡◌, MatchResult};
-ghost use Rattle.allocative_tally.specs.{AddsPlaces, AddsItems, CannotAdd, CannotAddItems};
+ghost use Rattle.std.specs.Prelude.{◌≡◌, OnOk};
+ghost use Rattle.allocative_tally.specs.{AddsPlaces, AddsItems};
 
 use crate::tally::{CountError, added, bytes_of, product};
 
 /// How many buffers there are, how many items are in them, and the bytes of their unused places.
 #[derive(Clone, Copy, Default)]
-pub struct Places {
+pub(crate) struct Places {
     pub(crate) buffers: usize,
     pub(crate) items: usize,
     pub(crate) unused: usize,
 }
 
 impl Places {
-    /// Adds a buffer of so many items of a declared size, where no place is unused. It returns `Err` exactly if the
-    /// size is missing, or a number or the bytes of all items do not fit a word. Discard the numbers then.
+    /// Adds a buffer of so many items of a declared size, where no place is unused. It returns `Err` if the size is
+    /// missing, or a number or the bytes of all items do not fit a word. Discard the numbers then.
     #[inline(always)]
     pub fn add_full(&mut self, size: Option<usize>, items: usize) -> Result<(), CountError>
-        ensures { MatchResult result (λ _. AddsItems size items self.old self.new)
-            (λ _. CannotAddItems size items self.old) }
+        ensures { OnOk result (AddsItems size items self.old self.new) }
     {
         let buffers = added(self.buffers, 1)?;
         let items = added(self.items, items)?;
@@ -30,8 +29,8 @@ impl Places {
     }
 
     /// Adds a buffer of so many items and unused places. The first size is that of an item, the second that of a place.
-    /// It returns `Err` exactly if a size is missing, or a number or the bytes of all do not fit a word. Discard the
-    /// numbers then.
+    /// It returns `Err` if a size is missing, or a number or the bytes of all do not fit a word. Discard the numbers
+    /// then.
     #[inline(always)]
     pub fn add(
         &mut self,
@@ -39,8 +38,7 @@ impl Places {
         items: usize,
         unused: usize,
     ) -> Result<(), CountError>
-        ensures { MatchResult result (λ _. AddsPlaces sizes.0 sizes.1 items unused self.old self.new)
-            (λ _. CannotAdd sizes.0 sizes.1 items unused self.old) }
+        ensures { OnOk result (AddsPlaces sizes.0 sizes.1 items unused self.old self.new) }
     {
         let (item, place) = sizes;
         let spare = product(place, unused)?;

@@ -9,8 +9,8 @@ use crate::tally::Tallied;
 use allocative::{FlameGraphOutput, Refusal, profile_value};
 use std::alloc::Global;
 
-/// Graph and warnings of one value, as `profile_value` gives them, with the same promise but the clause `answer`. The
-/// value is counted first, and each path is entered once.
+/// Graph and warnings of one value, with the promise of `profile_value`. The value is counted first, which no clause
+/// shows: if a count exceeds a word or a size is missing, it is entered as `profile_value` enters it.
 ///
 /// ```
 /// let output = profile_counted(alloc, &names)?;
@@ -23,8 +23,8 @@ pub fn profile_counted<T: Tallied>(alloc: Global, root: &T) -> Result<FlameGraph
     profile_value(alloc, &CountedValue(root))
 }
 
-/// Graph and warnings of roots of one type, as `profile_values` gives them, with the same promise but the clause
-/// `answer`. The roots are counted first, all in one tally, and each path is entered once.
+/// Graph and warnings of roots of one type, with the promise of `profile_values`. The roots are counted first, all in
+/// one tally, which no clause shows: if a count exceeds a word or a size is missing, they are entered one by one.
 ///
 /// ```
 /// let output = profile_counted_values(alloc, orders.as_slice())?;

@@ -1,10 +1,10 @@
 //! Texts, boxes, vectors, deques and arrays.
 
-ghost use Rattle.std.specs.Prelude.{◌≡◌, None, Bool, codes, MatchResult, Some, length};
+ghost use Rattle.std.specs.Prelude.{◌≡◌, None, Bool, codes, OnOk, Some, length};
 ghost use Rattle.std.specs.{Iterator.IsFinite, Map.Iter.deref};
-ghost use Rattle.allocative.specs.Bodies.{are_shown_each as is_each, buffer_shows};
+ghost use Rattle.allocative.specs.Bodies.{buffer_shows};
 ghost use Rattle.allocative_tally.specs.{Unique, EntryAt, entries, sum_times, text_shape};
-ghost use Rattle.allocative_tally.specs.{Exceeds, HoldsOfEveryRun, buffer_of, in_slices, is_whole, starting};
+ghost use Rattle.allocative_tally.specs.{HoldsOfEveryRun, buffer_of, in_slices, is_whole, starting};
 ghost use Rattle.allocative_tally.specs.Tallies.{Tallies};
 
 use crate::counted::{FieldUnder, Itself, count_run};
@@ -13,9 +13,8 @@ use crate::places::Buffers;
 use crate::tally::{
     CountError, Entries, InlineSum, Sum, Tallied, UniqueSum, added, bytes_of, declared,
 };
-use allocative::{Described, Refusal, Visitor};
+use allocative::{Described, Refusal, Visitor, are_shown_each};
 use std::collections::VecDeque;
-use std::marker::PhantomData;
 
 /// Texts, counted: the bytes of their buffers, and how many of these are used and unused.
 #[derive(Default, Drop)]
@@ -37,7 +36,7 @@ impl Tallied for String {
         let unused = InlineSum("unused_capacity", Sum::of(count, tally.unused), ());
         let capacity = InlineSum("capacity", Sum::of(count, tally.capacity), (used, unused));
         let pointer = UniqueSum("ptr", Sum::times(Some(8), count), capacity);
-        SizedMany::<String, _, _>("String", count, pointer, PhantomData).enter(visitor)
+        SizedMany("String", <String>::size(), count, pointer).enter(visitor)
     }
 
     #[inline(always)]
@@ -49,23 +48,13 @@ impl Tallied for String {
     }
 }
 
-/// Whether items of a type are shown one by one in a slice.
-#[inline(always)]
-pub fn are_shown_each<T: Described>() -> bool
-    ensures { result ≡ is_each T.needs_drop T.size }
-{
-    match T::size() {
-        None => false,
-        Some(size) => T::needs_drop() && size != 0,
-    }
-}
-
 /// Buffers, with their items and unused places inside them.
 #[derive(Drop)]
-pub struct BuffersMany<'a, T: Tallied>(pub &'a Buffers<T::Tally>);
+pub(crate) struct BuffersMany<'a, T: Tallied>(pub &'a Buffers<T::Tally>);
 
 impl<'a, T: Tallied> Entries for BuffersMany<'a, T> {
-    ghost shape = { λ e. buffer_of T.name T.size T.needs_drop e.0.now.places (T.shape e.0.now.values) };
+    ghost shape = { λ e. buffer_of T.layout.name T.layout.size T.layout.needs_drop e.0.now.places
+        (T.shape e.0.now.values) };
 
     fn enter(self, visitor: &mut Visitor<'_>) -> Result<(), Refusal> {
         let places = self.0.places;
@@ -85,7 +74,7 @@ impl<'a, T: Tallied> Entries for BuffersMany<'a, T> {
 /// Counts the buffer of so many items, which an iterator gives, with room for so many. There is none if the items have
 /// size 0, or if there is neither an item nor room for one. It returns `Err` as `Tallied::tally` does.
 #[inline(always)]
-pub fn count_buffer<'a, T: Tallied + 'a, I: Iterator<Item = &'a T> + Drop>(
+pub(crate) fn count_buffer<'a, T: Tallied + 'a, I: Iterator<Item = &'a T> + Drop>(
     items: I,
     count: usize,
     capacity: usize,
@@ -94,14 +83,11 @@ pub fn count_buffer<'a, T: Tallied + 'a, I: Iterator<Item = &'a T> + Drop>(
     requires can { I.can_next items }
     requires ends { IsFinite (I.remaining items) }
     ensures { HoldsOfEveryRun I.next_gives items deref
-        (λ xs. count ≡ length xs → (cut : Bool) → MatchResult result
-        (λ _. Tallies (Some 8)
-        (buffer_shows T.size (in_slices cut T.name T.size T.needs_drop T.may_show xs) count capacity)
-        (buffer_of T.name T.size T.needs_drop tally.old.places (T.shape tally.old.values))
-        (buffer_of T.name T.size T.needs_drop tally.new.places (T.shape tally.new.values)))
-        (λ _. Exceeds
-        (buffer_shows T.size (in_slices cut T.name T.size T.needs_drop T.may_show xs) count capacity)
-        (buffer_of T.name T.size T.needs_drop tally.old.places (T.shape tally.old.values)))) }
+        (λ xs. count ≡ length xs → (cut : Bool) → OnOk result (Tallies (Some 8)
+        (buffer_shows T.layout.size (in_slices cut T.layout.name T.layout.size T.layout.needs_drop T.may_show xs)
+        count capacity)
+        (buffer_of T.layout.name T.layout.size T.layout.needs_drop tally.old.places (T.shape tally.old.values))
+        (buffer_of T.layout.name T.layout.size T.layout.needs_drop tally.new.places (T.shape tally.new.values)))) }
 {
     let Some(size) = T::size() else {
         return Err(CountError);
@@ -132,7 +118,7 @@ impl<T: Tallied> Tallied for Box<T> {
     fn show(tally: &Self::Tally, count: usize, visitor: &mut Visitor<'_>) -> Result<(), Refusal> {
         let values = Many::<T>(&tally.values, tally.places.items);
         let pointer = UniqueSum("ptr", Sum::times(Some(8), tally.places.buffers), values);
-        SizedMany::<Box<T>, _, _>("Box", count, pointer, PhantomData).enter(visitor)
+        SizedMany("Box", <Box<T>>::size(), count, pointer).enter(visitor)
     }
 
     #[inline(always)]
@@ -146,12 +132,12 @@ impl<T: Tallied> Tallied for Vec<T> {
     type Tally = Buffers<T::Tally>;
 
     ghost shape = { λ t n. entries (codes "Vec") (Some 24) n
-        (buffer_of T.name T.size T.needs_drop t.places (T.shape t.values)) };
+        (buffer_of T.layout.name T.layout.size T.layout.needs_drop t.places (T.shape t.values)) };
 
     ghost whole = { is_whole (Prim.search starting) };
 
     fn show(tally: &Self::Tally, count: usize, visitor: &mut Visitor<'_>) -> Result<(), Refusal> {
-        SizedMany::<Vec<T>, _, _>("Vec", count, BuffersMany::<T>(tally), PhantomData).enter(visitor)
+        SizedMany("Vec", <Vec<T>>::size(), count, BuffersMany::<T>(tally)).enter(visitor)
     }
 
     #[inline(always)]
@@ -164,13 +150,13 @@ impl<T: Tallied> Tallied for VecDeque<T> {
     type Tally = Buffers<T::Tally>;
 
     ghost shape = { λ t n. entries (codes "VecDeque") (Some 32) n
-        (buffer_of T.name T.size T.needs_drop t.places (T.shape t.values)) };
+        (buffer_of T.layout.name T.layout.size T.layout.needs_drop t.places (T.shape t.values)) };
 
     ghost whole = { is_whole (Prim.search starting) };
 
     fn show(tally: &Self::Tally, count: usize, visitor: &mut Visitor<'_>) -> Result<(), Refusal> {
         let buffers = BuffersMany::<T>(tally);
-        SizedMany::<VecDeque<T>, _, _>("VecDeque", count, buffers, PhantomData).enter(visitor)
+        SizedMany("VecDeque", <VecDeque<T>>::size(), count, buffers).enter(visitor)
     }
 
     #[inline(always)]
@@ -182,14 +168,19 @@ impl<T: Tallied> Tallied for VecDeque<T> {
 impl<T: Tallied, const N: usize> Tallied for [T; N] {
     type Tally = OwnTally<T::Tally>;
 
-    ghost shape = { λ t n. entries T.name ⟦<[T; N] as Described>⟧.size n
-        (entries (codes "data") T.size t.count (T.shape t.values t.count)) };
+    ghost shape = { λ t n. entries T.layout.name ⟦<[T; N] as Described>⟧.layout.size n
+        (entries (codes "data") T.layout.size t.count (T.shape t.values t.count)) };
 
     ghost whole = { is_whole (Prim.search starting) };
 
     fn show(tally: &Self::Tally, count: usize, visitor: &mut Visitor<'_>) -> Result<(), Refusal> {
         let items = FieldMany::<T>("data", &tally.values, tally.count);
-        InlineSum(T::name(), Sum::times(<[T; N]>::size(), count), items).enter(visitor)
+        InlineSum(
+            T::name(),
+            Sum::times(<[T; N]>::layout().size(), count),
+            items,
+        )
+        .enter(visitor)
     }
 
     #[inline(always)]

@@ -1,9 +1,8 @@
 //! The trait of what can be counted, and the entries of what was counted.
 
-ghost use Rattle.std.specs.Prelude.{◌≡◌, ◌≤◌, ◌+◌, ◌*◌, ◌^◌, ℕ, true, None, IfOk, MatchResult};
-ghost use Rattle.std.specs.Option.{ForSome};
+ghost use Rattle.std.specs.Prelude.{◌≡◌, ◌+◌, ◌*◌, ◌^◌, ◌≤◌, ℕ, true, IfOk, OnOk};
 ghost use Rattle.allocative_tally.specs.{Shape, NoEntry, Beside, EntryAt, Wide, Unique as unique_width};
-ghost use Rattle.allocative_tally.specs.{shape_shows, bytes_times, sum_of, sum_times, TalliesNext, CannotTally};
+ghost use Rattle.allocative_tally.specs.{shape_shows, bytes_times, sum_of, sum_times, TalliesNext};
 ghost use Rattle.allocative_tally.specs.{IsWhole, EntersShape, IsDeclared, FitsWord};
 
 use allocative::{Allocative, Described, Inside, IntoKey, Part, Refusal, Unique, Visitor};
@@ -27,20 +26,19 @@ pub trait Tallied: Allocative + Described {
     fn show(tally: &Self::Tally, count: usize, visitor: &mut Visitor<'_>) -> Result<(), Refusal>
         ensures { EntersShape (Self.shape tally.now count) visitor.old visitor.new result };
 
-    /// Counts what the value shows beyond its number. It returns `Err` only if a declared size is missing, or the bytes
-    /// and entries of the value and of those before it exceed a word. Discard the tally then.
+    /// Counts what the value shows beyond its number. It returns `Err` if a declared size is missing, or a number exceeds
+    /// a word. Discard the tally then, and enter the values one by one.
     fn tally(&self, tally: &mut Self::Tally) -> Result<(), CountError>
-        ensures { MatchResult result
-            (λ _. TalliesNext Self.size (Self.may_show self.now) (Self.shape tally.old) (Self.shape tally.new))
-            (λ _. CannotTally (Self.may_show self.now) (Self.shape tally.old)) };
+        ensures { OnOk result
+            (TalliesNext Self.layout.size (Self.may_show self.now) (Self.shape tally.old) (Self.shape tally.new)) };
 
     // So many values are entries of their declared size, and no value is none.
-    ghost whole: { IsWhole Self.size Self.Tally.is_default Self.shape };
+    ghost whole: { IsWhole Self.layout.size Self.Tally.is_default Self.shape };
 }
 
 /// The bytes of the entries of one place, and a number that is 0 if there is none.
 #[derive(Clone, Copy)]
-pub struct Sum {
+pub(crate) struct Sum {
     pub(crate) count: usize,
     pub(crate) bytes: usize,
 }
@@ -65,7 +63,7 @@ impl Sum {
 
 /// The bytes of so many values of a declared size, at most the greatest word; 0 if the size is missing.
 #[inline(always)]
-pub fn bytes_of(size: Option<usize>, count: usize) -> usize
+pub(crate) fn bytes_of(size: Option<usize>, count: usize) -> usize
     ensures { result ≡ bytes_times size count }
 {
     match size {
@@ -74,29 +72,29 @@ pub fn bytes_of(size: Option<usize>, count: usize) -> usize
     }
 }
 
-/// Returns `Err` exactly if a type's declared size is missing.
+/// Returns `Err` if a type's declared size is missing.
 #[inline(always)]
 pub fn declared<T: Described>() -> Result<(), CountError>
-    ensures { MatchResult result (λ _. IsDeclared T.size) (λ _. T.size ≡ None) }
+    ensures { OnOk result (IsDeclared T.layout.size) }
 {
     T::size().ok_or(CountError)?;
     Ok(())
 }
 
-/// The bytes of so many values of a declared size; `Err` exactly if the size is missing, or they do not fit a word.
+/// The bytes of so many values of a declared size; `Err` if the size is missing, or they do not fit a word.
 #[inline(always)]
-pub fn product(size: Option<usize>, count: usize) -> Result<usize, CountError>
-    ensures fits { MatchResult result (λ _. FitsWord size count) (λ _. ForSome size (λ s. 2 ^ 64 ≤ s * count)) }
+pub(crate) fn product(size: Option<usize>, count: usize) -> Result<usize, CountError>
+    ensures fits { OnOk result (FitsWord size count) }
     ensures bytes { IfOk result (λ b. b ≡ bytes_times size count) }
 {
     let bytes = size.ok_or(CountError)?;
     bytes.checked_mul(count).ok_or(CountError)
 }
 
-/// The sum of two numbers; `Err` exactly if it does not fit a word.
+/// The sum of two numbers; `Err` if it does not fit a word.
 #[inline(always)]
 pub fn added(number: usize, more: usize) -> Result<usize, CountError>
-    ensures { MatchResult result (λ n. n ≡ number + more) (λ _. 2 ^ 64 ≤ number + more) }
+    ensures { IfOk result (λ n. n ≡ number + more) }
 {
     number.checked_add(more).ok_or(CountError)
 }
@@ -114,7 +112,7 @@ pub trait Entries: Drop {
 
 /// The part of an `Allocative` that enters these entries.
 #[derive(Drop)]
-pub struct EntriesPart<P>(pub P);
+pub(crate) struct EntriesPart<P>(pub P);
 
 impl<P: Entries> Part for EntriesPart<P> {
     ghost may_show = { λ s. shape_shows (P.shape s.0) };
@@ -144,7 +142,7 @@ impl<P: Entries, Q: Entries> Entries for (P, Q) {
 
 /// The inline entry of a sum, with entries inside it; no entry if none was counted.
 #[derive(Drop)]
-pub struct InlineSum<K, P>(pub K, pub Sum, pub P);
+pub(crate) struct InlineSum<K, P>(pub K, pub Sum, pub P);
 
 impl<K: IntoKey, P: Entries> Entries for InlineSum<K, P> {
     ghost shape = { λ e. EntryAt Wide (K.key e.0) e.1 (P.shape e.2) };
@@ -159,7 +157,7 @@ impl<K: IntoKey, P: Entries> Entries for InlineSum<K, P> {
 
 /// The unique entry of a sum, with entries inside it; no entry if none was counted.
 #[derive(Drop)]
-pub struct UniqueSum<K, P>(pub K, pub Sum, pub P);
+pub(crate) struct UniqueSum<K, P>(pub K, pub Sum, pub P);
 
 impl<K: IntoKey, P: Entries> Entries for UniqueSum<K, P> {
     ghost shape = { λ e. EntryAt unique_width (K.key e.0) e.1 (P.shape e.2) };

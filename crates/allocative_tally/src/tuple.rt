@@ -6,21 +6,20 @@ ghost use Rattle.allocative_tally.specs.{Beside, entries, is_whole, starting};
 use crate::field::{FieldMany, SizedMany};
 use crate::tally::{CountError, Entries, Tallied, declared};
 use allocative::{Described, Refusal, Visitor};
-use std::marker::PhantomData;
 
 impl<A: Tallied, B: Tallied> Tallied for (A, B) {
     type Tally = (A::Tally, B::Tally);
 
-    ghost shape = { λ t n. entries (codes "tuple2") ⟦<(A, B) as Described>⟧.size n
-        (Beside (entries (codes "0") A.size n (A.shape t.0 n))
-        (entries (codes "1") B.size n (B.shape t.1 n))) };
+    ghost shape = { λ t n. entries (codes "tuple2") ⟦<(A, B) as Described>⟧.layout.size n
+        (Beside (entries (codes "0") A.layout.size n (A.shape t.0 n))
+        (entries (codes "1") B.layout.size n (B.shape t.1 n))) };
 
     ghost whole = { is_whole (Prim.search starting) };
 
     fn show(tally: &Self::Tally, count: usize, visitor: &mut Visitor<'_>) -> Result<(), Refusal> {
         let first = FieldMany::<A>("0", &tally.0, count);
         let second = FieldMany::<B>("1", &tally.1, count);
-        SizedMany::<(A, B), _, _>("tuple2", count, (first, second), PhantomData).enter(visitor)
+        SizedMany("tuple2", <(A, B)>::size(), count, (first, second)).enter(visitor)
     }
 
     #[inline(always)]
@@ -35,10 +34,10 @@ impl<A: Tallied, B: Tallied> Tallied for (A, B) {
 impl<A: Tallied, B: Tallied, C: Tallied> Tallied for (A, B, C) {
     type Tally = (A::Tally, B::Tally, C::Tally);
 
-    ghost shape = { λ t n. entries (codes "tuple3") ⟦<(A, B, C) as Described>⟧.size n
-        (Beside (entries (codes "0") A.size n (A.shape t.0 n))
-        (Beside (entries (codes "1") B.size n (B.shape t.1 n))
-        (entries (codes "2") C.size n (C.shape t.2 n)))) };
+    ghost shape = { λ t n. entries (codes "tuple3") ⟦<(A, B, C) as Described>⟧.layout.size n
+        (Beside (entries (codes "0") A.layout.size n (A.shape t.0 n))
+        (Beside (entries (codes "1") B.layout.size n (B.shape t.1 n))
+        (entries (codes "2") C.layout.size n (C.shape t.2 n)))) };
 
     ghost whole = { is_whole (Prim.search starting) };
 
@@ -47,7 +46,7 @@ impl<A: Tallied, B: Tallied, C: Tallied> Tallied for (A, B, C) {
         let second = FieldMany::<B>("1", &tally.1, count);
         let third = FieldMany::<C>("2", &tally.2, count);
         let inside = (first, (second, third));
-        SizedMany::<(A, B, C), _, _>("tuple3", count, inside, PhantomData).enter(visitor)
+        SizedMany("tuple3", <(A, B, C)>::size(), count, inside).enter(visitor)
     }
 
     #[inline(always)]
@@ -63,11 +62,11 @@ impl<A: Tallied, B: Tallied, C: Tallied> Tallied for (A, B, C) {
 impl<A: Tallied, B: Tallied, C: Tallied, D: Tallied> Tallied for (A, B, C, D) {
     type Tally = (A::Tally, B::Tally, C::Tally, D::Tally);
 
-    ghost shape = { λ t n. entries (codes "tuple4") ⟦<(A, B, C, D) as Described>⟧.size n
-        (Beside (entries (codes "0") A.size n (A.shape t.0 n))
-        (Beside (entries (codes "1") B.size n (B.shape t.1 n))
-        (Beside (entries (codes "2") C.size n (C.shape t.2 n))
-        (entries (codes "3") D.size n (D.shape t.3 n))))) };
+    ghost shape = { λ t n. entries (codes "tuple4") ⟦<(A, B, C, D) as Described>⟧.layout.size n
+        (Beside (entries (codes "0") A.layout.size n (A.shape t.0 n))
+        (Beside (entries (codes "1") B.layout.size n (B.shape t.1 n))
+        (Beside (entries (codes "2") C.layout.size n (C.shape t.2 n))
+        (entries (codes "3") D.layout.size n (D.shape t.3 n))))) };
 
     ghost whole = { is_whole (Prim.search starting) };
 
@@ -77,7 +76,7 @@ impl<A: Tallied, B: Tallied, C: Tallied, D: Tallied> Tallied for (A, B, C, D) {
         let third = FieldMany::<C>("2", &tally.2, count);
         let fourth = FieldMany::<D>("3", &tally.3, count);
         let inside = (first, (second, (third, fourth)));
-        SizedMany::<(A, B, C, D), _, _>("tuple4", count, inside, PhantomData).enter(visitor)
+        SizedMany("tuple4", <(A, B, C, D)>::size(), count, inside).enter(visitor)
     }
 
     #[inline(always)]
@@ -94,12 +93,12 @@ impl<A: Tallied, B: Tallied, C: Tallied, D: Tallied> Tallied for (A, B, C, D) {
 impl<A: Tallied, B: Tallied, C: Tallied, D: Tallied, E: Tallied> Tallied for (A, B, C, D, E) {
     type Tally = (A::Tally, B::Tally, C::Tally, D::Tally, E::Tally);
 
-    ghost shape = { λ t n. entries (codes "tuple5") ⟦<(A, B, C, D, E) as Described>⟧.size n
-        (Beside (entries (codes "0") A.size n (A.shape t.0 n))
-        (Beside (entries (codes "1") B.size n (B.shape t.1 n))
-        (Beside (entries (codes "2") C.size n (C.shape t.2 n))
-        (Beside (entries (codes "3") D.size n (D.shape t.3 n))
-        (entries (codes "4") E.size n (E.shape t.4 n)))))) };
+    ghost shape = { λ t n. entries (codes "tuple5") ⟦<(A, B, C, D, E) as Described>⟧.layout.size n
+        (Beside (entries (codes "0") A.layout.size n (A.shape t.0 n))
+        (Beside (entries (codes "1") B.layout.size n (B.shape t.1 n))
+        (Beside (entries (codes "2") C.layout.size n (C.shape t.2 n))
+        (Beside (entries (codes "3") D.layout.size n (D.shape t.3 n))
+        (entries (codes "4") E.layout.size n (E.shape t.4 n)))))) };
 
     ghost whole = { is_whole (Prim.search starting) };
 
@@ -110,7 +109,7 @@ impl<A: Tallied, B: Tallied, C: Tallied, D: Tallied, E: Tallied> Tallied for (A,
         let fourth = FieldMany::<D>("3", &tally.3, count);
         let fifth = FieldMany::<E>("4", &tally.4, count);
         let inside = (first, (second, (third, (fourth, fifth))));
-        SizedMany::<(A, B, C, D, E), _, _>("tuple5", count, inside, PhantomData).enter(visitor)
+        SizedMany("tuple5", <(A, B, C, D, E)>::size(), count, inside).enter(visitor)
     }
 
     #[inline(always)]

@@ -8,6 +8,7 @@ pub mod locked;
 pub mod nodes;
 pub mod pointers;
 pub mod services;
+pub mod sinks;
 pub mod structs;
 pub mod trees;
 pub mod wrappers;

@@ -2,12 +2,13 @@
 #![tactic(auto, using(allocative::proofs::Parts::parts))]
 
 ghost use Rattle.std.specs.Prelude.{codes, Some, true};
+ghost use Rattle.allocative.specs.Layouts.{declared};
 ghost use Rattle.allocative.specs.Shows as shows;
 ghost use Rattle.allocative.specs.StdShows.{Leaf};
 ghost use Rattle.allocative.specs.Levels.{recursive, plain, child, both, inside, field, vec_of};
 ghost use Rattle.example_types.specs.declared.nodes.Node.{out-Node};
 
-use allocative::{Allocative, Described, Field, Inside, Part, Refusal, Visitor};
+use allocative::{Allocative, Described, Field, Inside, Layout, Part, Refusal, Visitor};
 
 /// A node and the nodes below it.
 #[derive(Drop)]
@@ -17,28 +18,10 @@ pub struct Node {
 }
 
 impl Described for Node {
-    ghost name = { codes "Node" };
+    ghost layout = { declared (codes "Node") 32 8 true };
 
-    ghost align = { 8 };
-
-    ghost needs_drop = { true };
-
-    ghost size = { Some 32 };
-
-    fn name() -> &'static str {
-        "Node"
-    }
-
-    fn align() -> usize {
-        8
-    }
-
-    fn needs_drop() -> bool {
-        true
-    }
-
-    fn size() -> Option<usize> {
-        Some(32)
+    fn layout() -> Layout {
+        Layout::new("Node", 32, 8, true)
     }
 }
 

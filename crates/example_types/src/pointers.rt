@@ -19,7 +19,7 @@ pub struct PageLink<T: Drop> {
 impl<T: Allocative + Described> Allocative for PageLink<T> {
     ghost may_show = { λ l. Inside (codes "PageLink") 16
         (Shared (codes "page") 8 (record { maker = 0; number = l.number })
-        (Field (codes "Page") T.size (T.may_show l.page.value))) };
+        (Field (codes "Page") T.layout.size (T.may_show l.page.value))) };
 
     fn visit(&self, visitor: &mut Visitor<'_>) -> Result<(), Refusal> {
         let page = Shared {

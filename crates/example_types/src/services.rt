@@ -2,11 +2,12 @@
 #![tactic(auto, using(allocative::proofs::Parts::parts))]
 
 ghost use Rattle.std.specs.Prelude.{◌≡◌, ◌++◌, ◌∷◌, [], codes, false, IfOk, MatchResult, Some};
+ghost use Rattle.allocative.specs.Layouts.{declared};
 ghost use Rattle.allocative.specs.Shows.{Inside, Field, each_shows};
 ghost use Rattle.allocative.specs.Visits.{IsProfileOf};
 
 use allocative::{
-    Allocative, Described, Field, FlameGraphOutput, Inside, Named, Part, Refusal, Visitor,
+    Allocative, Described, Field, FlameGraphOutput, Inside, Layout, Named, Part, Refusal, Visitor,
     profile_values,
 };
 use std::alloc::Global;
@@ -18,28 +19,10 @@ pub struct Sensor {
 }
 
 impl Described for Sensor {
-    ghost name = { codes "Sensor" };
+    ghost layout = { declared (codes "Sensor") 8 8 false };
 
-    ghost align = { 8 };
-
-    ghost needs_drop = { false };
-
-    ghost size = { Some 8 };
-
-    fn name() -> &'static str {
-        "Sensor"
-    }
-
-    fn align() -> usize {
-        8
-    }
-
-    fn needs_drop() -> bool {
-        false
-    }
-
-    fn size() -> Option<usize> {
-        Some(8)
+    fn layout() -> Layout {
+        Layout::new("Sensor", 8, 8, false)
     }
 }
 

@@ -38,7 +38,7 @@ pub struct Named<T> {
 impl<T: Allocative + Described> Allocative for Named<T> {
     ghost may_show = { λ n. Inside (codes "Named") 64 (Both
         (Field (codes "name") (Some 24) (⟦<String as Allocative>⟧.may_show n.name)) (Both
-        (Field (codes "value") T.size (T.may_show n.value))
+        (Field (codes "value") T.layout.size (T.may_show n.value))
         (Field (codes "is_read") (Some 1) (⟦<bool as Allocative>⟧.may_show n.is_read)))) };
 
     ghost is_strict = { T.is_strict && true };

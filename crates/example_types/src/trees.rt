@@ -1,11 +1,12 @@
 //! An enum that holds itself in boxes.
 #![tactic(auto, using(allocative::proofs::Parts::parts))]
 
-ghost use Rattle.std.specs.Prelude.{codes, Some, true};
+ghost use Rattle.std.specs.Prelude.{codes, true};
+ghost use Rattle.allocative.specs.Layouts.{declared};
 ghost use Rattle.allocative.specs.Levels.{recursive};
 ghost use Rattle.example_types.specs.Trees.{tree_level};
 
-use allocative::{Allocative, Described, Field, Inside, Part, Refusal, Visitor};
+use allocative::{Allocative, Described, Field, Inside, Layout, Part, Refusal, Visitor};
 
 /// A number, or two trees.
 #[derive(Drop)]
@@ -15,28 +16,10 @@ pub enum Tree {
 }
 
 impl Described for Tree {
-    ghost name = { codes "Tree" };
+    ghost layout = { declared (codes "Tree") 24 8 true };
 
-    ghost align = { 8 };
-
-    ghost needs_drop = { true };
-
-    ghost size = { Some 24 };
-
-    fn name() -> &'static str {
-        "Tree"
-    }
-
-    fn align() -> usize {
-        8
-    }
-
-    fn needs_drop() -> bool {
-        true
-    }
-
-    fn size() -> Option<usize> {
-        Some(24)
+    fn layout() -> Layout {
+        Layout::new("Tree", 24, 8, true)
     }
 }
 

@@ -1,4 +1,4 @@
-//! Texts and numbers that no clause gives: of refusals, of faults, of a cache's errors and of a key.
+//! Texts and numbers that no clause gives: of refusals, rejections, faults, a cache's errors and a key.
 use crate::texts::is_text;
 use allocative::{Key, LineFault, ReadFault, Refusal};
 use allocative_service::cache::CacheError;
@@ -24,8 +24,6 @@ fn refusals_and_errors_have_their_texts(rt: HostRuntime) -> Result<(), Fail> {
         Refusal::Open as u8,
     ];
     assert!(rt; numbers == [1, 2, 3]);
-    let rejection = Rejection::NotMeasured(Refusal::TooLarge);
-    says(alloc, rejection, "not measured: sizes do not fit")?;
     let error = CacheError::NotMeasured(Refusal::Open);
     says(alloc, error, "not measured: a visitor was forgotten")?;
     let (bytes, bound) = (88, 48);
@@ -34,6 +32,39 @@ fn refusals_and_errors_have_their_texts(rt: HostRuntime) -> Result<(), Fail> {
     says(alloc, CacheError::Memory, "out of memory")?;
     let key = Key::new("count");
     says(alloc, format_args!("{key:?}"), "\"count\"")
+}
+
+#[test]
+fn rejections_have_their_texts(rt: HostRuntime) -> Result<(), Fail> {
+    let (bytes, limit, less, number) = (7, 5, 8, 2);
+    let rows = [
+        (
+            Rejection::OverBudget { bytes, limit },
+            "7 bytes exceed a limit of 5",
+        ),
+        (
+            Rejection::LedgerFull { bytes, limit },
+            "7 bytes in all exceed a limit of 5",
+        ),
+        (
+            Rejection::OverCredit { bytes, less },
+            "a credit of 8 bytes exceeds an entry of 7",
+        ),
+        (
+            Rejection::NotMeasured(Refusal::TooLarge),
+            "not measured: sizes do not fit",
+        ),
+        (Rejection::TooLarge, "sizes do not fit"),
+        (Rejection::NotKept, "out of memory"),
+        (Rejection::NoAccount, "there is no account"),
+        (Rejection::HasAccount, "there is an account already"),
+        (Rejection::Taken { number }, "there is an entry 2 already"),
+        (Rejection::NotThere { number }, "there is no entry 2"),
+    ];
+    for (rejection, want) in rows {
+        says(rt.alloc(), rejection, want)?;
+    }
+    Ok(())
 }
 
 #[test]

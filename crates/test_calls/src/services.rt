@@ -8,7 +8,7 @@ use crate::texts::{is_text, made};
 use allocative::{Allocative, FlameGraph, Part, Refusal, Visitor};
 use allocative_service::cache::BoundedCache;
 use allocative_service::history::{History, compare, grew_most, report};
-use allocative_service::ledger::{Account, Budget, Ledger, Rejection};
+use allocative_service::ledger::{Budget, Ledger, Rejection};
 use allocative_service::measure::Measure;
 use example_types::pointers::PageLink;
 use std::alloc::{AllocError, Global};
@@ -67,15 +67,6 @@ fn one_admitted(alloc: Global) -> Result<Ledger, Rejection> {
     Ok(ledger)
 }
 
-/// An account of its own, with one entry.
-fn one_entered(alloc: Global) -> Result<Account, Rejection> {
-    let mut account = Account::new(alloc, Budget { limit: 8 });
-    account.check_free(1)?;
-    Account::enter(&mut account, 1, 8)?;
-    account.change(1, account.entry(1)?)?;
-    Ok(account)
-}
-
 /// A history of one profile, of a number.
 fn one_profile(alloc: Global) -> Result<History, Refusal> {
     let mut history = History::new(alloc, 2);
@@ -92,9 +83,6 @@ fn services_show_what_they_keep(rt: HostRuntime) -> Result<(), Fail> {
     let text =
         "Ledger 32\nLedger;accounts;BTreeMap 16\nLedger;accounts;BTreeMap;data;key;String 16\nLedger;accounts;BTreeMap;data;key;String;ptr 8\nLedger;accounts;BTreeMap;data;key;String;ptr;capacity;u8 3\nLedger;accounts;BTreeMap;data;value;Account 40\nLedger;accounts;BTreeMap;data;value;Account;entries;BTreeMap 16\nLedger;accounts;BTreeMap;data;value;Account;entries;BTreeMap;data;key;u64 8\nLedger;accounts;BTreeMap;data;value;Account;entries;BTreeMap;data;value;usize 8\nIncorrect size declaration for node `Ledger;accounts;BTreeMap;data`, size of self: 8, size of inline children: 88\nIncorrect size declaration for node `Ledger;accounts;BTreeMap;data;value;Account;entries;BTreeMap;data`, size of self: 8, size of inline children: 16\n";
     made(alloc, one_admitted(alloc), text)?;
-    let text =
-        "Account 40\nAccount;entries;BTreeMap 16\nAccount;entries;BTreeMap;data;key;u64 8\nAccount;entries;BTreeMap;data;value;usize 8\nIncorrect size declaration for node `Account;entries;BTreeMap;data`, size of self: 8, size of inline children: 16\n";
-    made(alloc, one_entered(alloc), text)?;
     let text =
         "History 8\nHistory;profiles;VecDeque 24\nHistory;profiles;VecDeque;ptr 8\nHistory;profiles;VecDeque;ptr;FlameGraph 32\nHistory;profiles;VecDeque;ptr;FlameGraph;ptr 8\nHistory;profiles;VecDeque;ptr;FlameGraph;ptr;Child 56\n";
     made(alloc, one_profile(alloc), text)

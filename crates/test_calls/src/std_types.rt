@@ -3,21 +3,24 @@ use crate::texts::{counted, made, show, shows};
 use allocative::{IdArc, IdRc, Identity, Refusal, shared_inner_size};
 use either::Either;
 use std::alloc::{AllocError, Global};
+use std::borrow::CowStr;
 use std::boxed::{BoxedSlice, BoxedStr};
 use std::cell::{Cell, OnceCell, RefCell};
+use std::cmp::{Ordering, Reverse};
 use std::collections::{BTreeMap, BTreeSet, BinaryHeap, HashMap, HashSet, LinkedList, VecDeque};
 use std::marker::PhantomData;
 use std::mem::ManuallyDrop;
 use std::net::{IpAddr, Ipv4Addr, Ipv6Addr};
 use std::num::{
     NonZeroI8, NonZeroI16, NonZeroI32, NonZeroI64, NonZeroIsize, NonZeroU8, NonZeroU16, NonZeroU32,
-    NonZeroU64, NonZeroUsize,
+    NonZeroU64, NonZeroUsize, Wrapping,
 };
+use std::ops::Bound;
 use std::sync::atomic::{
     AtomicBool, AtomicI8, AtomicI16, AtomicI32, AtomicI64, AtomicIsize, AtomicU8, AtomicU16,
     AtomicU32, AtomicU64, AtomicUsize,
 };
-use std::sync::{Mutex, OnceLock, RwLock};
+use std::sync::{ArcStr, Mutex, OnceLock, RwLock};
 use std::test::Fail;
 use std::time::{Duration, Instant, SystemTime};
 
@@ -106,6 +109,12 @@ fn parts_in_place(rt: HostRuntime) -> Result<(), Fail> {
             (&error, "Result 2\nResult;Err;u16 2\n"),
             (&[1u16, 2, 3], "u16;data;u16 6\n"),
             (&ManuallyDrop::new(1u16), "ManuallyDrop;inner;u16 2\n"),
+            (&Reverse(1u32), "Reverse;0;u32 4\n"),
+            (&Wrapping(1u16), "Wrapping;0;u16 2\n"),
+            (&Ordering::Less, "Ordering 1\n"),
+            (&Bound::<u64>::Unbounded, "Bound 16\n"),
+            (&Bound::Included(1u32), "Bound 4\nBound;Included;u32 4\n"),
+            (&Bound::Excluded(1u8), "Bound 1\nBound;Excluded;u8 1\n"),
         ],
     )
 }
@@ -141,6 +150,10 @@ fn a_cell_or_a_lock_that_is_held_shows_its_own_entry_alone(rt: HostRuntime) -> R
 fn pointers(rt: HostRuntime) -> Result<(), Fail> {
     let alloc = rt.alloc();
     made(alloc, Ok::<&'static u8, AllocError>(&7), "")?;
+    made(alloc, Ok::<&'static str, AllocError>("abc"), "")?;
+    made(alloc, ArcStr::from_str(alloc, "abc"), "Arc 16\n")?;
+    let text: CowStr<'static> = CowStr::Borrowed("abc");
+    made(alloc, Ok::<CowStr<'static>, AllocError>(text), "Cow 24\n")?;
     counted(alloc, Box::new(alloc, 1u64), "Box;ptr 8\nBox;ptr;u64 8\n")?;
     let three = BoxedSlice::from_slice(alloc, &[1u16, 2, 3]);
     made(alloc, three, "Box;ptr 16\nBox;ptr;u16;data;u16 6\n")?;

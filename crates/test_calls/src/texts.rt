@@ -83,3 +83,34 @@ pub(crate) fn counted<T: Tallied, E: Drop>(
     is_output(&profile_value(alloc, &value)?, want)?;
     is_output(&profile_counted(alloc, &value)?, want)
 }
+
+/// Whether a text has one line of unused room, of this path and these bytes.
+fn is_room(text: &str, path: &str, bytes: usize) -> bool {
+    let mut lines = text
+        .lines()
+        .filter(|line| line.contains(";unused_capacity "));
+    let line = lines.next().unwrap_or("");
+    let Some((found, amount)) = line.split_once(";unused_capacity ") else {
+        return false;
+    };
+    lines.next().is_none() && found == path && amount.parse::<usize>().ok() == Some(bytes)
+}
+
+/// Fails if the room of a value with three items, of so many bytes each, is not what its capacity leaves.
+pub(crate) fn has_room(
+    alloc: Global,
+    root: &dyn Allocative,
+    path: &str,
+    capacity: usize,
+    item: usize,
+) -> Result<(), Fail> {
+    let text = text_of(&output_of(alloc, root)?)?;
+    if is_room(
+        text.as_str(),
+        path,
+        capacity.wrapping_sub(3).wrapping_mul(item),
+    ) {
+        return Ok(());
+    }
+    Err(Fail::new(text.as_str()))
+}

@@ -5,8 +5,8 @@ use crate::forest::Forest;
 use crate::notation::{push_roots, root_of};
 use crate::row::{Row, cut};
 use allocative::{
-    FlameGraphOutput, Part, Refusal, Registry, profile_in_two, profile_roots, size_of_entries,
-    size_of_unique, size_of_unique_allocated_data,
+    FlameGraphBuilder, FlameGraphOutput, Part, Refusal, Registry, profile_in_two, profile_roots,
+    size_of_entries, size_of_unique, size_of_unique_allocated_data,
 };
 use std::alloc::Global;
 use std::fmt::Display;
@@ -34,15 +34,25 @@ fn text_in_two(alloc: Global, left: &[Forest], right: &[Forest]) -> Result<Strin
     profile_in_two(alloc, left, right)?.write()
 }
 
-/// What a root holds, which each call says alike. The last one also counts the byte that the root declares. Any other
-/// answer becomes `Open`, which no row wants.
-fn held_by(root: &Forest) -> Result<usize, Refusal> {
-    let held = size_of_unique_allocated_data(root)?;
-    let whole = held.checked_add(1).ok_or(Refusal::TooLarge);
-    if size_of_entries(|visitor| root.enter(visitor)) == Ok(held) && size_of_unique(root) == whole {
-        return Ok(held);
-    }
-    Err(Refusal::Open)
+/// The refusals of `visit_root` for a root, and then of `finish`.
+fn refusals(alloc: Global, root: &Forest) -> Option<(Refusal, Refusal)> {
+    let mut builder = FlameGraphBuilder::new(alloc).ok()?;
+    let visited = builder.visit_root(root).err()?;
+    Some((visited, builder.finish().err()?))
+}
+
+/// The names of both refusals.
+fn refused(alloc: Global, root: &Forest) -> io::Result<String> {
+    let Some((visited, finished)) = refusals(alloc, root) else {
+        return Ok(String::from_str(alloc, "not refused")?);
+    };
+    Ok(format!(in alloc; "{visited:?}, {finished:?}")?)
+}
+
+/// What the calls for held bytes say of a root, if they say the same.
+fn held_by(root: &Forest) -> Option<Result<usize, Refusal>> {
+    let held = size_of_unique_allocated_data(root);
+    (size_of_entries(|visitor| root.enter(visitor)) == held).then_some(held)
 }
 
 /// What an answer prints, or the name of its refusal.
@@ -58,7 +68,12 @@ fn answer_of(alloc: Global, row: Row, heading: &str) -> io::Result<String> {
     let (mut left, mut right) = (Vec::new(alloc), Vec::new(alloc));
     push_roots(alloc, &mut left, row.roots())?;
     match heading {
-        "held" => printed(alloc, held_by(&root_of(alloc, row.roots())?)),
+        "refused" => refused(alloc, &root_of(alloc, row.roots())?),
+        "held" => match held_by(&root_of(alloc, row.roots())?) {
+            Some(held) => printed(alloc, held),
+            None => Ok(String::from_str(alloc, "the calls differ")?),
+        },
+        "whole" => printed(alloc, size_of_unique(&root_of(alloc, row.roots())?)),
         "sum" => {
             push_roots(alloc, &mut right, row.section("right"))?;
             printed(alloc, text_in_two(alloc, &left, &right))
@@ -81,7 +96,7 @@ pub(crate) fn is_right(rt: &impl Print, alloc: Global, row: Row) -> io::Result<b
         let (heading, lines) = cut(section);
         let warnings = match heading {
             "text" | "reversed" => row.section("warnings"),
-            "refused" | "sum" | "held" => "",
+            "refused" | "sum" | "held" | "whole" => "",
             "right" | "warnings" => continue,
             _ => return Err(ErrorKind::InvalidData.into()),
         };

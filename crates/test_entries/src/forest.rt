@@ -1,19 +1,22 @@
 //! The entries of a root, as a value that shows them.
 #![tactic(auto, using(allocative::proofs::Parts::parts))]
 
-ghost use Rattle.std.specs.Prelude.{codes, Some, true};
+ghost use Rattle.std.specs.Prelude.{codes, true};
+ghost use Rattle.allocative.specs.Layouts.{declared};
 ghost use Rattle.test_entries.specs.Forests.{forest_shows};
 
+use crate::deed::{Deed, Done};
 use allocative::{
-    Allocative, Described, Identity, Inside, Key, Part, Refusal, Shared, Unique, Visitor,
+    Allocative, Described, Identity, Inside, Key, Layout, Part, Refusal, Shared, Unique, Visitor,
 };
 
-/// How an entry is made.
+/// How an entry is made, or what is done in its place.
 #[derive(Clone, Copy)]
 pub(crate) enum EntryKind {
     Inline,
     Unique,
     Shared(Identity),
+    Bad(Deed),
 }
 
 /// Entries in order: the kind, the key and the bytes of the first one, the entries inside it or in its content, and the
@@ -26,35 +29,15 @@ pub(crate) enum Forest {
 
 /// A forest declares one byte, so that its own size can be told from what it holds.
 impl Described for Forest {
-    ghost name = { codes "Forest" };
+    ghost layout = { declared (codes "Forest") 1 1 true };
 
-    ghost align = { 1 };
-
-    ghost needs_drop = { true };
-
-    ghost size = { Some 1 };
-
-    fn name() -> &'static str {
-        "Forest"
-    }
-
-    fn align() -> usize {
-        1
-    }
-
-    fn needs_drop() -> bool {
-        true
-    }
-
-    fn size() -> Option<usize> {
-        Some(1)
+    fn layout() -> Layout {
+        Layout::new("Forest", 1, 1, true)
     }
 }
 
 impl Allocative for Forest {
     ghost may_show = { forest_shows };
-
-    ghost is_strict = { true };
 
     fn visit(&self, visitor: &mut Visitor<'_>) -> Result<(), Refusal> {
         let Forest::Entry(kind, key, size, inside, after) = self else {
@@ -73,6 +56,7 @@ impl Allocative for Forest {
                 };
                 (pointer, after).enter(visitor)
             }
+            EntryKind::Bad(deed) => (Done(deed, key, size, inside), after).enter(visitor),
         }
     }
 }

@@ -5,6 +5,7 @@
 #![tactic(auto)]
 
 mod checks;
+mod deed;
 mod forest;
 mod notation;
 mod row;

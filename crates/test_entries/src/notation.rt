@@ -1,6 +1,7 @@
 //! Reads the roots of a row, as `T 8 {unique ptr 8 {u8 3}, shared p 8 #1 {C 16}}`.
+use crate::deed::Deed;
 use crate::forest::{EntryKind, Forest};
-use allocative::{Identity, Key};
+use allocative::{Identity, Key, Refusal};
 use std::alloc::{AllocError, Global};
 use std::io::{self, ErrorKind};
 
@@ -23,7 +24,17 @@ fn identity_of(word: &str) -> Option<Identity> {
     Some(Identity::new(maker.parse::<u64>().ok()?, number.parse::<u64>().ok()?))
 }
 
-/// The entry of a key and a size.
+/// A refusal by its name.
+fn refusal_of(name: &str) -> Option<Refusal> {
+    match name {
+        "Memory" => Some(Refusal::Memory),
+        "TooLarge" => Some(Refusal::TooLarge),
+        "Open" => Some(Refusal::Open),
+        _ => None,
+    }
+}
+
+/// The entry of a kind, a key and a size.
 fn labelled(depth: u8, kind: EntryKind, label: &'static str) -> Option<Entry> {
     let (key, size) = label.rsplit_once(' ')?;
     Some(Entry {
@@ -34,16 +45,36 @@ fn labelled(depth: u8, kind: EntryKind, label: &'static str) -> Option<Entry> {
     })
 }
 
-/// The entry of `key size`, `unique key size` or `shared key size identity`.
+/// The entry of a text, whose first word may say the kind.
 fn entry_of(depth: u8, text: &'static str) -> Option<Entry> {
-    if let Some(label) = text.strip_prefix("unique ") {
-        return labelled(depth, EntryKind::Unique, label);
+    if text == "hide" {
+        return labelled(depth, EntryKind::Bad(Deed::Hide), "hidden 0");
     }
-    let Some(pointer) = text.strip_prefix("shared ") else {
-        return labelled(depth, EntryKind::Inline, text);
-    };
-    let (label, identity) = pointer.rsplit_once(' ')?;
-    labelled(depth, EntryKind::Shared(identity_of(identity)?), label)
+    let (word, rest) = text.split_once(' ')?;
+    match word {
+        "unique" => labelled(depth, EntryKind::Unique, rest),
+        "shared" => {
+            let (label, identity) = rest.rsplit_once(' ')?;
+            labelled(depth, EntryKind::Shared(identity_of(identity)?), label)
+        }
+        "refuse" => {
+            let deed = Deed::Refuse(refusal_of(rest)?);
+            labelled(depth, EntryKind::Bad(deed), "refused 0")
+        }
+        "answer" => {
+            let (refusal, label) = rest.split_once(' ')?;
+            let deed = Deed::Answer(refusal_of(refusal)?);
+            labelled(depth, EntryKind::Bad(deed), label)
+        }
+        "hold" => labelled(depth, EntryKind::Bad(Deed::Hold), rest),
+        "forget" => labelled(depth, EntryKind::Bad(Deed::Forget), rest),
+        "forget_content" => {
+            let (label, identity) = rest.rsplit_once(' ')?;
+            let deed = Deed::ForgetContent(identity_of(identity)?);
+            labelled(depth, EntryKind::Bad(deed), label)
+        }
+        _ => labelled(depth, EntryKind::Inline, text),
+    }
 }
 
 /// The entries of a line. Those in a brace are one deeper than the entry before it.

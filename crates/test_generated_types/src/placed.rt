@@ -10,41 +10,22 @@ pub struct OfOne {
 // allocative: begin
 ghost use Rattle.std.specs.Prelude.{codes, true};
 ghost use Rattle.allocative.specs.Shows as shows;
+ghost use Rattle.allocative.specs.Layouts.{empty, pad_to_align, ◌with◌};
 
-use allocative::{Described, Part, Record, Refusal, Visitor, Whole};
-
-type OfOneLayout = Record<(u64, ())>;
+use allocative::{Described, Layout, Part, Refusal, Visitor, Whole};
 
 impl Described for OfOne {
-    ghost name = { codes "OfOne" };
+    ghost layout = { pad_to_align (empty (codes "OfOne") with ⟦<u64 as Described>⟧.layout) };
 
-    ghost align = { ⟦<OfOneLayout as Described>⟧.align };
-
-    ghost needs_drop = { ⟦<OfOneLayout as Described>⟧.needs_drop };
-
-    ghost size = { ⟦<OfOneLayout as Described>⟧.size };
-
-    fn name() -> &'static str {
-        "OfOne"
-    }
-
-    fn align() -> usize {
-        <OfOneLayout>::align()
-    }
-
-    fn needs_drop() -> bool {
-        <OfOneLayout>::needs_drop()
-    }
-
-    fn size() -> Option<usize> {
-        <OfOneLayout>::size()
+    fn layout() -> Layout {
+        Layout::empty("OfOne").with(u64::layout()).pad_to_align()
     }
 }
 
 #[tactic(auto, using(allocative::proofs::Parts::parts))]
 impl Allocative for OfOne {
-    ghost may_show = { λ x. shows.Field (codes "OfOne") ⟦<OfOneLayout as Described>⟧.size
-        (shows.Field (codes "number") ⟦<u64 as Described>⟧.size (⟦<u64 as Allocative>⟧.may_show x.number)) };
+    ghost may_show = { λ x. shows.Field (codes "OfOne") ⟦<OfOne as Described>⟧.layout.size
+        (shows.Field (codes "number") ⟦<u64 as Described>⟧.layout.size (⟦<u64 as Allocative>⟧.may_show x.number)) };
 
     ghost is_strict = { true };
 

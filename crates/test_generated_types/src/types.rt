@@ -4,6 +4,7 @@ mod shown;
 
 use std::collections::{BTreeMap, HashMap};
 use std::hash::Hash;
+use std::ops::Range;
 
 /// Fields by number: six that are shown, one that is passed over, and one that is shown by its size.
 #[derive(Drop)]
@@ -74,6 +75,14 @@ pub enum Json {
         first: Option<Box<Json>>,
         rest: Vec<Json>,
     },
+    Part(Range<u64>, Box<Json>),
+}
+
+/// A ring of a fixed length, with a text that is part of the program.
+#[derive(Drop)]
+pub struct Ring<const N: usize> {
+    pub points: [u64; N],
+    pub name: &'static str,
 }
 
 /// A rope of other ropes.

@@ -5,12 +5,13 @@ use allocative_json::{Fault, Report, profile_json, read_roots, report};
 use std::alloc::Global;
 use std::process::Abort;
 
-const FAR_NUMBERS: &[u8] = b"[18446744073709551615,-9223372036854775808,18446744073709551615]";
+pub(crate) const FAR_NUMBERS: &[u8] =
+    b"[18446744073709551615,-9223372036854775808,18446744073709551615]";
 
-const THREE_NUMBERS: &str =
+pub(crate) const THREE_NUMBERS: &str =
     "BTreeSet 16\nBTreeSet;data;key;i128 32\nValue 8\nValue;Array;Vec 16\nValue;Array;Vec;ptr 8\nValue;Array;Vec;ptr;Value 48\nValue;Array;Vec;ptr;Value;Number;Number 48\n";
 
-const SHORT_DATA: &str =
+pub(crate) const SHORT_DATA: &str =
     "Incorrect size declaration for node `BTreeSet;data`, size of self: 8, size of inline children: 32\n";
 
 fn assert_texts(rt: &impl Abort, report: &Report, profile: &str, warnings: &str) {

@@ -12,4 +12,6 @@ mod graphs;
 mod json;
 pub mod names;
 #[cfg(test)]
+mod program;
+#[cfg(test)]
 mod registries;

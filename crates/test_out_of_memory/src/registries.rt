@@ -1,13 +1,16 @@
 //! Registries and whole runs after a refused growth.
+//!
+//! Rows: a number and an option that is not there, registered; a root with one field; a map of one pair.
 #![tactic(auto, using(allocative::proofs::Parts::parts))]
 
+ghost use Rattle.std.specs.Prelude.{codes, Some};
 ghost use Rattle.allocative.specs.Shows as shows;
 
 use crate::assertions::{assert_count, assert_output, assert_refused, assert_text, boxed, made};
 use crate::builders::{assert_visited, new_builder};
 use allocative::{
-    Allocative, IdArc, IdRc, Identity, Part, Refusal, Registry, Visitor, profile_in_two,
-    profile_roots,
+    Allocative, Field, IdArc, IdRc, Identity, Inside, Part, Refusal, Registry, Visitor,
+    profile_in_two, profile_roots,
 };
 use std::alloc::AllocGlobal;
 use std::collections::BTreeMap;
@@ -37,14 +40,29 @@ fn assert_no_root(rt: &impl Abort, registry: &Registry, refusal: Refusal) {
     assert_count(rt, registry.roots().len(), 0);
 }
 
+/// Declares 4 bytes, those of its field.
+#[derive(Drop)]
+struct TestGlobalRoot {
+    x: u32,
+}
+
+impl Allocative for TestGlobalRoot {
+    ghost may_show = { λ r. shows.Inside (codes "TestGlobalRoot") 4
+        (shows.Field (codes "x") (Some 4) (⟦<u32 as Allocative>⟧.may_show r.x)) };
+
+    fn visit(&self, visitor: &mut Visitor<'_>) -> Result<(), Refusal> {
+        Inside("TestGlobalRoot", 4, Field("x", &self.x)).enter(visitor)
+    }
+}
+
 #[test]
 fn global_roots_are_refused(rt: HostRuntime) {
     let mut registry = Registry::new(rt.alloc());
-    match registry.add_root(boxed(&rt, Some(7u32))) {
+    match registry.add_root(boxed(&rt, TestGlobalRoot { x: 7 })) {
         Ok(()) => {
             let mut builder = new_builder(&rt);
             let visited = builder.visit_global_roots(&registry);
-            assert_visited(&rt, builder, visited, "Option 4\nOption;Some;u32 4\n");
+            assert_visited(&rt, builder, visited, "TestGlobalRoot;x;u32 4\n");
         }
         Err(refusal) => assert_no_root(&rt, &registry, refusal),
     }

@@ -9,7 +9,9 @@ import shutil
 import subprocess
 import tempfile
 import unittest
+from unittest import mock
 
+from .. import command
 from ..command import main, read
 
 POINT = "#[derive(Drop)]\npub struct Point {\n    pub x: u32,\n}\n"
@@ -33,6 +35,12 @@ def run(path: str, *words: str) -> tuple[int, str, str]:
     return status, output.getvalue(), told.getvalue()
 
 
+def layout(name: str, *fields: str) -> str:
+    """The lines of a struct's layout in code."""
+    chain = "".join(f".with({field})" for field in fields)
+    return f'    fn layout() -> Layout {{\n        Layout::empty("{name}"){chain}.pad_to_align()\n    }}\n'
+
+
 def spoilt(text: str, chance: random.Random) -> str:
     """A text in which one to three pieces of letters or tokens are removed, doubled, or exchanged."""
     for _ in range(chance.randint(1, 3)):
@@ -49,6 +57,9 @@ def spoilt(text: str, chance: random.Random) -> str:
 
 class CommandTest(unittest.TestCase):
     def setUp(self) -> None:
+        plain = mock.patch.object(command, "formatted", lambda texts: texts)
+        plain.start()
+        self.addCleanup(plain.stop)
         folder = tempfile.TemporaryDirectory()
         self.addCleanup(folder.cleanup)
         self.top = folder.name
@@ -101,9 +112,10 @@ class CommandTest(unittest.TestCase):
         own = "#[derive(Drop)]\nenum B {\n    C,\n    D(u8, u32),\n}\n"
         status, output, told = self.run_it(f"{head}{fields}}}\n{own}")
         self.assertEqual((status, told), (0, ["implement: 10 fields are passed over: 176 bytes, and 2 of a size that only the checker knows"]))
-        layout = output[output.index("type ALayout<T> =") : output.index("impl<")]
-        kinds = "Vec<()>", "HashMap<(), ()>", "Mutex<(Box<()>, u64)>", "Option<(Box<()>, u64)>", "u64", "[B; 3]", "(u8, f32)", "T", "Vec<()>", "(u64, u64)"
-        self.assertEqual([kind for kind in kinds if kind not in layout], [])
+        bytes = "24, 8, true", "48, 8, true", "24, 8, true", "24, 8, true", "8, 8, false", "", "8, 4, false", "", "24, 8, true", "16, 8, false"
+        fields = [f'Layout::new("f{at}", {numbers})' if numbers else kind for at, (numbers, kind) in enumerate(zip(bytes, kinds))]
+        fields[5], fields[7] = "<[B; 3]>::layout()", "T::layout()"
+        self.assertIn(layout("A", *fields), output)
         self.assertIn("impl<T: Described + Drop> Described for A<T>", output)
 
     def test_flags(self) -> None:
@@ -119,7 +131,7 @@ class CommandTest(unittest.TestCase):
         text = head + "    a: HashMap<u8, String, RandomState>,\n    b: LruCache<u8, String>,\n}\n"
         status, output, _ = self.run_it(text, "--counted")
         self.assertEqual(status, 0)
-        self.assertIn("type ALayout = Record<(HashMap<u8, String, RandomState>, (LruCache<u8, String>, ()))>;", output)
+        self.assertIn(layout("A", "<HashMap<u8, String, RandomState>>::layout()", "<LruCache<u8, String>>::layout()"), output)
         self.assertIn("    ghost is_strict = { true };\n\n    fn visit(&self, visitor: &mut Visitor<'_>) -> Result<(), Refusal> {\n        let a", output)
         told = self.run_it(head + "    a: HashMap<u8, u8, Own>,\n}\n")[2]
         self.assertIn("A.a: `Own` makes hashers, and is no type that is described", told[0])
@@ -140,7 +152,7 @@ class CommandTest(unittest.TestCase):
             with self.subTest(kind):
                 status, output, told = self.run_it(f"{head}    a: {kind},\n}}\n", "--counted")
                 self.assertEqual((status, len(told), "A has no tally" in told[0]), (0, 1, True))
-                self.assertIn(f"type ALayout = Record<({kind}, ())>;", output)
+                self.assertIn(layout("A", f"{kind if kind.isalpha() else f'<{kind}>'}::layout()"), output)
                 self.assertIn("    ghost is_strict = { true };\n", output)
                 told = self.run_it(f"{head}    // allocative: skip\n    a: {kind},\n}}\n")[2]
                 self.assertEqual(told, [f"implement: 1 field is passed over: {skipped}"])
@@ -170,7 +182,7 @@ class CommandTest(unittest.TestCase):
         text = "use tokio::sync::Notify;\n#[derive(Drop)]\nstruct A {\n    a: u8,\n    b: Notify,\n    // allocative: skip\n    c: Option<Notify>,\n}\n"
         self.assertEqual([line.split(":")[0] for line in self.run_it(text)[2]], ["5", "7"])
         status, output, told = self.run_it(text, "--skip-unknown")
-        self.assertIn("type ALayout = Record<(u8, ())>;", output)
+        self.assertIn(layout("A", "u8::layout()"), output)
         advice = "is passed over and counts no bytes: write above it `// allocative: size N`, where N is what `size_of"
         what = [f"implement: A.{field} {advice}::<{kind}>()`" for field, kind in (("b", "Notify"), ("c", "Option<Notify>"))]
         self.assertEqual((status, [line.split(" gives")[0] for line in told]), (0, what))
@@ -191,20 +203,31 @@ class CommandTest(unittest.TestCase):
             ("std::cell::Cell<SocketAddr>", 32),
             ("File", 4),
             ("std::sync::Mutex<SocketAddr>", 40),
-            ("&'static str", 16),
+            ("std::borrow::CowSlice<'a, u8>", 24),
             ("parking_lot::Mutex<u16>", 4),
         ):
             with self.subTest(kind):
-                told = self.run_it(f"{head}#[derive(Drop)]\nstruct A {{\n    a: {kind},\n}}\n")[2]
+                told = self.run_it(f"{head}#[derive(Drop)]\nstruct A<'a> {{\n    a: {kind},\n}}\n")[2]
                 self.assertIn(f"write above it `// allocative: size {size}`,", told[0])
         for kind in ("Mutex<(Own, File)>", "Mutex<Option<(u8, File)>>", "Mutex<[File; N]>", "parking_lot::Mutex<HashMap<u8, u8, Own>>"):
             told = self.run_it(f"{head}#[derive(Drop)]\nstruct A {{\n    a: {kind},\n}}\n#[derive(Drop)]\nstruct Own;\n")[2]
             self.assertIn("// allocative: size N`, where N is what `size_of::<", told[0])
 
+    def test_references(self) -> None:
+        for kind, shown in (
+            ("&'a [u8]", 'shows.Inside (codes "a") 16 shows.Nothing'),
+            ("&'a str", 'shows.Inside (codes "a") 16 shows.Nothing'),
+            ("&'a mut (u8, u8)", 'shows.Inside (codes "a") 8 shows.Nothing'),
+            ("&'static str", "(⟦<&'static str as Allocative>⟧.may_show x.a)"),
+        ):
+            status, output, told = self.run_it(f"#[derive(Drop)]\nstruct A<'a> {{\n    a: {kind},\n}}\n")
+            self.assertEqual((status, told, shown in output), (0, [], True))
+
     def test_what_the_checker_refuses_is_refused_first(self) -> None:
         head = "use std::cell::*;\nuse std::collections::*;\ntype Call = fn(u8) -> u8;\n#[derive(Drop)]\nstruct K(u8);\n#[derive(Drop)]\nstruct A<T, U: Ord + Clone> "
         for kind, what in (
-            ("Option<Call>", "A.a: `fn(u8) -> u8` is a function pointer"),
+            ("Option<Call>", "A.a: `fn(u8) -> u8`: the checker states no type"),
+            ("Vec<Box<dyn Fn(u8) -> u8>>", "A.a: `dyn Fn(u8) -> u8`: the checker states no type"),
             ("HashMap<T, u8>", "A.a: `HashMap<T, u8>` asks `T: Eq + Hash`"),
             ("Vec<BTreeMap<(T, u8), u8>>", "asks `T: Ord`"),
             ("HashSet<f64>", "asks `f64: Eq + Hash`"),
@@ -218,8 +241,11 @@ class CommandTest(unittest.TestCase):
                 self.assertEqual((status, output, len(told)), (4, "", 1))
                 self.assertIn(what, told[0])
         self.assertEqual(self.run_it("#[derive(Drop)]\nstruct SmallVec(u8);\n#[derive(Drop)]\nstruct A<T>(SmallVec, T);\n")[0], 0)
-        empty, sized, fixed = "enum A {}", "struct A<T: ?Sized>(Box<T>);", "struct A<const N: usize>([u8; N]);"
-        for text, what in ((sized, "`?Sized`"), (fixed, "a const parameter"), ("struct A { deriving: u8 }", "reserves")):
+        self.put("src/b.rt", "struct Held {\n    call: Option<Box<dyn Fn(u8)>>,\n}\n")
+        told = self.run_it("use crate::b::Held;\n#[derive(Drop)]\nstruct A {\n    // allocative: skip\n    a: Vec<Held>,\n}\n")[2]
+        self.assertIn("A.a: `dyn Fn(u8)`: the checker states no type", told[0])
+        empty, sized = "enum A {}", "struct A<T: ?Sized>(Box<T>);"
+        for text, what in ((sized, "`?Sized`"), ("struct A { deriving: u8 }", "reserves")):
             self.assertIn(what, self.run_it(f"#[derive(Drop)]\n{text}\n")[2][0])
         self.assertIn("no variants", self.run_it(f"#[derive(Drop)]\n{empty}\n", "A")[2][0])
         self.assertEqual(self.run_it(f"{POINT}#[derive(Drop)]\n{empty}\n")[0], 0)
@@ -244,20 +270,20 @@ class CommandTest(unittest.TestCase):
         """A size, or a size and a length, without a comment above the field."""
         head = "use arrayvec::ArrayVec;\nuse bytes::{Bytes, BytesMut};\nuse jiff::{Timestamp, civil::Date as Day};\nuse std::ops::{Range, RangeInclusive};\nuse std::path::PathBuf;\nuse url::Url;\nuse uuid::Uuid;\n"
         for kind, size, counted, shown in (
-            ("jiff::Zoned<'static>", 40, "[Box<()>; 5]", 'shows.Inside (codes "Zoned") 40 shows.Nothing'),
-            ("Option<Timestamp>", 24, "Option<[u64; 2]>", 'shows.Inside (codes "Option") 24 shows.Nothing'),
-            ("Day", 4, "[u16; 2]", 'shows.Inside (codes "Date") 4 shows.Nothing'),
-            ("std::net::SocketAddrV4", 6, "[u16; 3]", 'shows.Inside (codes "SocketAddrV4") 6 shows.Nothing'),
-            ("Range<u32>", 8, "[u32; 2]", 'shows.Inside (codes "Range") 8 shows.Nothing'),
-            ("RangeInclusive<u64>", 24, "(u64, u64, bool)", 'shows.Inside (codes "RangeInclusive") 24 shows.Nothing'),
-            ("ArrayVec<u16, 3>", 12, "(u32, [u16; 3])", 'shows.Inside (codes "ArrayVec") 12 shows.Nothing'),
-            ("Option<ArrayVec<u64, 3>>", 40, "Option<(u32, [u64; 3])>", 'shows.Inside (codes "Option") 40 shows.Nothing'),
-            ("BytesMut", 32, "[Box<()>; 4]", '(shows.Inside (codes "u8") (length x.a.items) shows.Nothing)'),
+            ("jiff::Zoned<'static>", 40, "40, 8, true", 'shows.Inside (codes "Zoned") 40 shows.Nothing'),
+            ("Option<Timestamp>", 24, "24, 8, false", 'shows.Inside (codes "Option") 24 shows.Nothing'),
+            ("Day", 4, "4, 2, false", 'shows.Inside (codes "Date") 4 shows.Nothing'),
+            ("std::net::SocketAddrV4", 6, "6, 2, false", 'shows.Inside (codes "SocketAddrV4") 6 shows.Nothing'),
+            ("Range<u32>", 8, "8, 4, false", 'shows.Inside (codes "Range") 8 shows.Nothing'),
+            ("RangeInclusive<u64>", 24, "24, 8, false", 'shows.Inside (codes "RangeInclusive") 24 shows.Nothing'),
+            ("ArrayVec<u16, 3>", 12, "12, 4, false", 'shows.Inside (codes "ArrayVec") 12 shows.Nothing'),
+            ("Option<ArrayVec<u64, 3>>", 40, "40, 8, false", 'shows.Inside (codes "Option") 40 shows.Nothing'),
+            ("BytesMut", 32, "32, 8, true", '(shows.Inside (codes "u8") (length x.a.items) shows.Nothing)'),
         ):
             with self.subTest(kind):
                 status, output, told = self.run_it(f"{head}#[derive(Drop)]\nstruct A {{\n    a: {kind},\n}}\n")
                 self.assertEqual((status, told), (0, []))
-                self.assertIn(f"type ALayout = Record<({counted}, ())>;", output)
+                self.assertIn(layout("A", f'Layout::new("a", {counted})'), output)
                 self.assertIn(shown, output)
                 self.assertIn(f'let a = Inside("a", {size}, ', output)
         steps = "#[derive(Drop)]\nenum Step {\n    Fetch(Url, Uuid),\n    Again { url: Url, id: Uuid },\n}\n#[derive(Drop)]\nstruct ShownUrl(Url);\n"
@@ -276,10 +302,11 @@ class CommandTest(unittest.TestCase):
             self.assertIn(what, told[0])
 
     def test_layouts_of_enums(self) -> None:
-        four = "Or<Or<(u8, ()), (u16, ())>, Or<(u32, ()), (u64, ())>>"
-        for variants, fields in (("A, B", "()"), ("A(u8), B, C(u8), D(u16), E(u32), F(u64)", four)):
+        four = "u16::layout().or(u32::layout()).or(Layout::empty(\"F\").with(u8::layout()).with(u64::layout()))"
+        for variants, fields in (("A, B", []), ("A(u16), B, C(u16), D(u32), F(u8, u64)", [four])):
             output = self.run_it(f"#[derive(Drop)]\nenum E {{ {variants} }}\n")[1]
-            self.assertIn(f"type ELayout = Record<(u8, {fields})>;", output)
+            self.assertIn(layout("E", "u8::layout()", *fields), output)
+        self.assertIn("or (empty (codes \"F\") with ⟦<u8 as Described>⟧.layout with ⟦<u64 as Described>⟧.layout)", re.sub(r"\s+", " ", output))
 
     def test_recursive_types_and_cycles(self) -> None:
         two = "#[derive(Drop)]\nstruct A {\n    b: Vec<B>,\n}\n#[derive(Drop)]\nstruct B {\n    a: Vec<A>,\n}\n"
@@ -298,7 +325,7 @@ class CommandTest(unittest.TestCase):
         self.assertIn("C: an enum of one variant that has parameters or holds others", self.run_it(f"{both}#[cycle(m)]\n{alone}")[2][0])
         self.run_it(f"{both}#[cycle(m)]\n{three}", "--output", self.crate)
         output = self.get("src/a/shown.rt")
-        self.assertEqual(output.count("vec_in ⟦<BLayout as Described>⟧.size (λ y. child (second (first y))) (out-B x).b"), 3)
+        self.assertEqual(output.count("vec_in ⟦<B as Described>⟧.layout.size (λ y. child (second (first y))) (out-B x).b"), 3)
         self.assertIn("ghost use Rattle.page.specs.declared.a.C.{C-F, out-C};\n", output)
         answers = self.get("proofs/a/shown/+m/Answers.antt")
         goals = re.findall(r"^pub (\S+) :", answers, re.M)
@@ -318,13 +345,13 @@ class CommandTest(unittest.TestCase):
         self.assertEqual((status, told), (0, []))
         output, answers = self.get("src/a/shown.rt"), self.get("proofs/a/shown/BAllocative/+visit/Answers.antt")
         self.assertEqual(output.count("    ghost is_strict = { T.is_strict };\n"), 2)
-        self.assertIn("(vec_in ⟦<ALayout<T> as Described>⟧.size child (out-A T x).b)", output)
-        self.assertIn('opened (out-B T) (λ x. field (codes "B") ⟦<BLayout<T> as Described>⟧.size (elim x [', output)
+        self.assertIn("(vec_in ⟦<A<T> as Described>⟧.layout.size child (out-A T x).b)", output)
+        self.assertIn('opened (out-B T) (λ x. field (codes "B") ⟦<B<T> as Described>⟧.layout.size (elim x [', output)
         self.assertIn('let b = Declared("b", Some(24), Declared("Vec", Some(24), b));', output)
         self.assertIn("e : out-B _ c.args.self.now ≡ B-F.End = ap (out-B _) c.in-End.is", answers)
-        self.assertIn("(means_buffer c.size-in-Many.ensures (c.len.ensures ∙ c.in-Many.a.ok.0) c.capacity.ensures means_same)", answers)
+        self.assertIn("(means_buffer (search rules) (c.len.ensures ∙ c.in-Many.a.ok.0) c.capacity.ensures means_same)", answers)
         keyed = tree.replace("a: T", "a: BTreeMap<T, Box<A<T>>>")
-        self.assertNotIn("Each", self.run_it(f"use std::collections::BTreeMap;\n{keyed.replace('A<T> {', 'A<T: Ord> {')}")[1])
+        self.assertIn("Each", self.run_it(f"use std::collections::BTreeMap;\n{keyed.replace('A<T> {', 'A<T: Ord> {')}")[1])
         for kind, what in (
             ("Vec<A<u8>>", "`A<u8>` holds the type itself in a way that is not written"),
             ("Option<Vec<A<T>>>", "make it a field `Vec<A<T>>`"),
@@ -337,46 +364,11 @@ class CommandTest(unittest.TestCase):
         ):
             self.assertIn(what, self.run_it(text)[2][0])
 
-    def test_a_type_held_by_value_counts_by_its_layout(self) -> None:
-        """`()` counts for a type that holds the written one only behind a pointer."""
-        outer, inner = "#[cycle(m)]\n#[derive(Drop)]\nstruct Outer {\n", "#[cycle(m)]\n#[derive(Drop)]\nstruct Inner {\n    list: Vec<Outer>,\n}\n"
-        head = "use std::collections::*;\nuse crate::other::Inner as Far;\ntype Held = Inner;\nstruct InnerLayout;\n"
-        for field, counted in (
-            ("    a: Inner,\n", "InnerLayoutOf"),
-            ("    a: Held,\n", "InnerLayoutOf"),
-            ("    a: Option<Inner>,\n", "Option<InnerLayoutOf>"),
-            ("    a: Vec<Held>,\n", "Vec<()>"),
-            ("    a: Option<Box<Inner>>,\n", "Option<Box<()>>"),
-            ("    a: HashMap<u8, Inner>,\n", "HashMap<(), ()>"),
-            ("    // allocative: skip\n    a: (self::Inner, u8),\n", "(InnerLayoutOf, u8)"),
-            ("    // allocative: skip\n    a: [Option<Inner>; 2],\n", "[Option<InnerLayoutOf>; 2]"),
-            ("    // allocative: skip\n    a: Rc<Inner>,\n", "Box<()>"),
-        ):
-            output = self.run_it(f"{head}{outer}{field}    n: u64,\n}}\n{inner}", "Outer", "Inner")[1]
-            self.assertIn(f"type OuterLayout = Record<({counted}, (u64, ()))>;\n", output)
-            self.assertIn("type InnerLayoutOf = Record<(Vec<()>, ())>;\n", output)
-        text = f"{head}{outer}    // allocative: skip\n    a: Wrap<Inner>,\n}}\n{inner}#[derive(Drop)]\nstruct Wrap<T>(T);\n"
-        self.assertIn("`Wrap<Inner>` holds the type itself in a way whose size is not known", self.run_it(text)[2][-1])
-
-    def test_large_values(self) -> None:
-        fields = ["u8", *(", ".join([f"B{each}"] * 3) for each in range(6))]
-        types = "".join(f"#[derive(Drop)]\nstruct B{each}({kinds});\n" for each, kinds in enumerate(fields))
-        self.assertIn("B6: it has too many fields in one value", self.run_it(types)[2][0])
-        self.assertEqual(self.run_it(types.replace("(B5, B5, B5)", "(Box<B5>)"))[0], 0)
-
-    def test_large_layouts(self) -> None:
-        kinds = "u8 u16 u32 u64 i8 i16 i32 i64 f32 f64 bool char String usize isize".split()
-        for count, status in ((11, 0), (12, 4)):
-            variants = ", ".join(f"V{each}({', '.join(kinds[each : each + 5])})" for each in range(count))
-            result = self.run_it(f"#[derive(Drop)]\nenum A {{ {variants} }}\n")
-            self.assertEqual(result[0], status)
-        self.assertIn("A: it has too many fields for the checker: put some of them, as those of a variant, into a struct", result[2][0])
-
     def test_paths_of_the_module_itself(self) -> None:
         text = POINT + "#[derive(Drop)]\nstruct A {\n    a: Vec<self::Point>,\n    // allocative: size 8\n    b: super::B,\n}\n"
-        self.assertIn("type ALayout = Record<(Vec<Point>, ([u8; 8], ([String; 0], ())))>;", self.run_it(text)[1])
+        self.assertIn(layout("A", "<Vec<Point>>::layout()", 'Layout::new("b", 8, 8, true)'), self.run_it(text)[1])
         self.run_it("#[derive(Drop)]\nstruct A {\n    a: Vec<self::A>,\n}\n", "--in-place")
-        self.assertIn("type ALayout = Record<(Vec<()>, ())>;", self.get("src/a.rt"))
+        self.assertIn("Layout::empty(\"A\").with(<Vec<self::A>>::layout())", self.get("src/a.rt"))
 
     def files(self) -> dict[str, str]:
         """The text of each file, by its path."""
@@ -421,6 +413,9 @@ class CommandTest(unittest.TestCase):
             self.assertEqual((ran.returncode, ran.stdout, ran.stderr), (0, "", ""))
         self.assertEqual((os.path.exists(self.path(ANSWERS)), self.get("src/a.rt").splitlines()[2]), (True, "mod shown;"))
         self.assertEqual(self.get("../../crates.txt"), "page: thiserror allocative\nother: page\n")
+        self.put("../../crates.txt", "other: page\n")
+        self.assertEqual(run(self.path("src/a.rt"), "--counted", "--output", self.crate, "--add-lines"), (0, "", ""))
+        self.assertEqual(self.get("../../crates.txt"), "other: page\npage: allocative allocative_tally\n")
         shutil.copy(script, self.path("copied"))
         ran = subprocess.run(["./copied", "src/a.rt"], cwd=self.crate, capture_output=True, text=True)
         self.assertEqual((ran.returncode, ran.stderr.startswith("implement: run bin/implement by its path")), (3, True))

@@ -26,6 +26,7 @@ class ShapesTest(unittest.TestCase):
             "((u8))": ("path", "u8"),
             "[ u8; N + 1 ]": ("array", "[u8; N + 1]"),
             "&'a mut T": ("reference", "&'a mut T"),
+            "&'a [T]": ("reference", "&'a [T]"),
             "SmallVec<u64, 2>": ("path", "SmallVec<u64, 2>"),
             "Box<dyn Fn(u8) -> u8>": ("path", "Box<dyn Fn(u8) -> u8>"),
             "fn(u8) -> u8": ("other", "fn(u8) -> u8"),
@@ -50,9 +51,14 @@ class ShapesTest(unittest.TestCase):
         self.assertEqual(read("struct C;").types["C"].members, [])
 
     def test_directives_in_other_places(self) -> None:
-        for text in ("struct A { a: f64, // allocative: skip\nb: u8 }", "struct A { a: f64 // allocative: skip\n}", "enum A { B,\n// allocative: skip\nC(u8) }"):
+        for text in ("struct A { a: f64, // allocative: skip\nb: u8 }", "struct A { a: f64 // allocative: skip\n}", "enum A { B,\n// allocative: skip\nC(u8, u8) }"):
             with self.subTest(text):
                 self.assertEqual(len(read(text).faults), 1)
+
+    def test_a_directive_above_a_variant_of_one_unnamed_field(self) -> None:
+        for above in ("// allocative: size 8\n#[x]\n", "#[x]\n// allocative: size 8\n"):
+            found = read(f"enum A {{ B,\n{above}C(u8), D }}")
+            self.assertEqual(([each.size for each in found.types["A"].members], found.faults), ([8], []))
 
     def test_what_is_passed_over(self) -> None:
         text = "macro_rules! m { ($a:ident) => { struct X; } }\nm! { struct Y { } }\nfn f() -> u8 ensures { struct } { struct Z; 1 }\n#[cfg(test)] struct W; mod n { struct V; } struct U;"

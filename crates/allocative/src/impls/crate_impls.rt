@@ -25,8 +25,8 @@ use smallvec::SmallVec;
 use std::hash::{BuildHasher, Hash};
 
 impl<L: Allocative + Described, R: Allocative + Described> Allocative for Either<L, R> {
-    ghost may_show = { λ e. shows.Field (codes "Either") ⟦<Either<L, R> as Described>⟧.size
-        (either_inside L.size L.may_show R.size R.may_show e) };
+    ghost may_show = { λ e. shows.Field (codes "Either") ⟦<Either<L, R> as Described>⟧.layout.size
+        (either_inside L.layout.size L.may_show R.layout.size R.may_show e) };
 
     ghost is_strict = { L.is_strict && R.is_strict };
 
@@ -55,8 +55,9 @@ impl<
 > Allocative for IndexMap<K, V, S> {
     ghost use Rattle.indexmap.specs.IndexMap.{spare};
 
-    ghost may_show = { λ m. shows.Field (codes "IndexMap") ⟦<IndexMap<K, V, S> as Described>⟧.size
-        (index_map_inside K.size K.may_show V.size V.may_show ⟦<(K, V) as Described>⟧.size m.entries (spare m)) };
+    ghost may_show = { λ m. shows.Field (codes "IndexMap") ⟦<IndexMap<K, V, S> as Described>⟧.layout.size
+        (index_map_inside K.layout.size K.may_show V.layout.size V.may_show ⟦<(K, V) as Described>⟧.layout.size
+        m.entries (spare m)) };
 
     ghost is_strict = { K.is_strict && V.is_strict };
 
@@ -74,8 +75,8 @@ impl<T: Allocative + Described + Eq + Hash, S: BuildHasher + Described + Drop> A
     for IndexSet<T, S> {
     ghost use Rattle.indexmap.specs.IndexSet.{spare};
 
-    ghost may_show = { λ s. shows.Field (codes "IndexSet") ⟦<IndexSet<T, S> as Described>⟧.size
-        (index_set_inside T.size T.may_show s.keys (spare s)) };
+    ghost may_show = { λ s. shows.Field (codes "IndexSet") ⟦<IndexSet<T, S> as Described>⟧.layout.size
+        (index_set_inside T.layout.size T.may_show s.keys (spare s)) };
 
     ghost is_strict = { T.is_strict };
 
@@ -95,8 +96,8 @@ impl<
     V: Allocative + Described,
     S: BuildHasher + Described + Drop,
 > Allocative for LruCache<K, V, S> {
-    ghost may_show = { λ c. shows.Field (codes "LruCache") ⟦<LruCache<K, V, S> as Described>⟧.size
-        (lru_cache_inside K.size K.may_show V.size V.may_show c.entries) };
+    ghost may_show = { λ c. shows.Field (codes "LruCache") ⟦<LruCache<K, V, S> as Described>⟧.layout.size
+        (lru_cache_inside K.layout.size K.may_show V.layout.size V.may_show c.entries) };
 
     ghost is_strict = { K.is_strict && V.is_strict };
 
@@ -124,7 +125,8 @@ impl<T: Allocative> Allocative for OnceBox<T> {
 pub(crate) struct Values<'a, T>(pub(crate) &'a Slab<T>);
 
 impl<'a, T: Allocative + Described> Part for Values<'a, T> {
-    ghost may_show = { λ s. shows.slice_shows T.name T.size T.needs_drop T.may_show (values s.0.now) };
+    ghost may_show = { λ s. shows.slice_shows T.layout.name T.layout.size T.layout.needs_drop T.may_show
+        (values s.0.now) };
 
     ghost is_strict = { T.is_strict };
 
@@ -138,7 +140,8 @@ impl<'a, T: Allocative + Described> Part for Values<'a, T> {
 }
 
 impl<T: Allocative + Described> Allocative for Slab<T> {
-    ghost may_show = { λ s. shows.Inside (codes "Slab") 40 (slab_inside T.name T.size T.needs_drop T.may_show s) };
+    ghost may_show = { λ s. shows.Inside (codes "Slab") 40 (slab_inside T.layout.name T.layout.size T.layout.needs_drop
+        T.may_show s) };
 
     ghost is_strict = { T.is_strict };
 
@@ -154,8 +157,8 @@ impl<T: Allocative + Described> Allocative for Slab<T> {
 }
 
 impl<T: Allocative + Described, const N: usize> Allocative for SmallVec<T, N> {
-    ghost may_show = { λ v. shows.Field (codes "SmallVec") ⟦<SmallVec<T, N> as Described>⟧.size
-        (small_vec_inside N T.size T.may_show v) };
+    ghost may_show = { λ v. shows.Field (codes "SmallVec") ⟦<SmallVec<T, N> as Described>⟧.layout.size
+        (small_vec_inside N T.layout.size T.may_show v) };
 
     ghost is_strict = { T.is_strict };
 

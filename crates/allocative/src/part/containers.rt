@@ -26,7 +26,7 @@ use std::hash::{BuildHasher, Hash};
 pub struct Items<V>(pub V);
 
 impl<'a, T: Allocative + Described> Part for Items<&'a [T]> {
-    ghost may_show = { λ s. shows.slice_shows T.name T.size T.needs_drop T.may_show s.0.now };
+    ghost may_show = { λ s. shows.slice_shows T.layout.name T.layout.size T.layout.needs_drop T.may_show s.0.now };
 
     ghost is_strict = { T.is_strict };
 
@@ -59,7 +59,7 @@ impl<'a, T: Allocative> Part for Each<&'a Vec<T>> {
 pub struct TwoSlices<V>(pub V, pub V);
 
 impl<'a, T: Allocative + Described> Part for TwoSlices<&'a [T]> {
-    ghost may_show = { λ s. cut_shows T.name T.size T.needs_drop T.may_show (s.0.now ++ s.1.now) };
+    ghost may_show = { λ s. cut_shows T.layout.name T.layout.size T.layout.needs_drop T.may_show (s.0.now ++ s.1.now) };
 
     ghost is_strict = { T.is_strict };
 
@@ -78,7 +78,7 @@ impl<'a, T: Allocative + Described> Part for TwoSlices<&'a [T]> {
 pub struct FieldEach<K, V>(pub K, pub V);
 
 impl<'a, K: IntoKey, T: Allocative + Described> Part for FieldEach<K, &'a [T]> {
-    ghost may_show = { λ s. shows.each_shows (field_of (K.key s.0) T.size T.may_show) s.1.now };
+    ghost may_show = { λ s. shows.each_shows (field_of (K.key s.0) T.layout.size T.may_show) s.1.now };
 
     ghost is_strict = { T.is_strict };
 
@@ -88,7 +88,7 @@ impl<'a, K: IntoKey, T: Allocative + Described> Part for FieldEach<K, &'a [T]> {
 }
 
 impl<'a, K: IntoKey, T: Allocative + Described> Part for FieldEach<K, &'a LinkedList<T>> {
-    ghost may_show = { λ s. shows.each_shows (field_of (K.key s.0) T.size T.may_show) s.1.now };
+    ghost may_show = { λ s. shows.each_shows (field_of (K.key s.0) T.layout.size T.may_show) s.1.now };
 
     ghost is_strict = { T.is_strict };
 
@@ -98,7 +98,7 @@ impl<'a, K: IntoKey, T: Allocative + Described> Part for FieldEach<K, &'a Linked
 }
 
 impl<'a, K: IntoKey, T: Allocative + Described + Ord> Part for FieldEach<K, &'a BTreeSet<T>> {
-    ghost may_show = { λ s. shows.each_shows (field_of (K.key s.0) T.size T.may_show) s.1.now.keys };
+    ghost may_show = { λ s. shows.each_shows (field_of (K.key s.0) T.layout.size T.may_show) s.1.now.keys };
 
     ghost is_strict = { T.is_strict };
 
@@ -109,7 +109,7 @@ impl<'a, K: IntoKey, T: Allocative + Described + Ord> Part for FieldEach<K, &'a 
 
 impl<'a, K: IntoKey, T: Allocative + Described + Eq + Hash, S: BuildHasher> Part
     for FieldEach<K, &'a HashSet<T, S>> {
-    ghost may_show = { λ s. in_any_order (field_of (K.key s.0) T.size T.may_show) s.1.now.keys };
+    ghost may_show = { λ s. in_any_order (field_of (K.key s.0) T.layout.size T.may_show) s.1.now.keys };
 
     ghost is_strict = { T.is_strict };
 
@@ -120,7 +120,7 @@ impl<'a, K: IntoKey, T: Allocative + Described + Eq + Hash, S: BuildHasher> Part
 
 impl<'a, K: IntoKey, T: Allocative + Described + Eq + Hash, S: BuildHasher> Part
     for FieldEach<K, &'a IndexSet<T, S>> {
-    ghost may_show = { λ s. shows.each_shows (field_of (K.key s.0) T.size T.may_show) s.1.now.keys };
+    ghost may_show = { λ s. shows.each_shows (field_of (K.key s.0) T.layout.size T.may_show) s.1.now.keys };
 
     ghost is_strict = { T.is_strict };
 
@@ -141,7 +141,8 @@ pub struct Pairs<V>(pub V);
 
 impl<'a, K: Allocative + Described + Ord, V: Allocative + Described> Part
     for Pairs<&'a BTreeMap<K, V>> {
-    ghost may_show = { λ m. shows.each_shows (pair_shows K.size K.may_show V.size V.may_show) m.0.now.entries };
+    ghost may_show = { λ m. shows.each_shows (pair_shows K.layout.size K.may_show V.layout.size V.may_show)
+        m.0.now.entries };
 
     ghost is_strict = { K.is_strict && V.is_strict };
 
@@ -152,7 +153,8 @@ impl<'a, K: Allocative + Described + Ord, V: Allocative + Described> Part
 
 impl<'a, K: Allocative + Described + Eq + Hash, V: Allocative + Described, S: BuildHasher> Part
     for Pairs<&'a HashMap<K, V, S>> {
-    ghost may_show = { λ m. in_any_order (pair_shows K.size K.may_show V.size V.may_show) m.0.now.entries };
+    ghost may_show = { λ m. in_any_order (pair_shows K.layout.size K.may_show V.layout.size V.may_show)
+        m.0.now.entries };
 
     ghost is_strict = { K.is_strict && V.is_strict };
 
@@ -163,7 +165,8 @@ impl<'a, K: Allocative + Described + Eq + Hash, V: Allocative + Described, S: Bu
 
 impl<'a, K: Allocative + Described + Eq + Hash, V: Allocative + Described, S: BuildHasher> Part
     for Pairs<&'a IndexMap<K, V, S>> {
-    ghost may_show = { λ m. shows.each_shows (pair_shows K.size K.may_show V.size V.may_show) m.0.now.entries };
+    ghost may_show = { λ m. shows.each_shows (pair_shows K.layout.size K.may_show V.layout.size V.may_show)
+        m.0.now.entries };
 
     ghost is_strict = { K.is_strict && V.is_strict };
 
@@ -174,7 +177,8 @@ impl<'a, K: Allocative + Described + Eq + Hash, V: Allocative + Described, S: Bu
 
 impl<'a, K: Allocative + Described + Eq + Hash, V: Allocative + Described, S: BuildHasher> Part
     for Pairs<&'a LruCache<K, V, S>> {
-    ghost may_show = { λ m. shows.each_shows (pair_shows K.size K.may_show V.size V.may_show) m.0.now.entries };
+    ghost may_show = { λ m. shows.each_shows (pair_shows K.layout.size K.may_show V.layout.size V.may_show)
+        m.0.now.entries };
 
     ghost is_strict = { K.is_strict && V.is_strict };
 

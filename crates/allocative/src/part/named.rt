@@ -18,7 +18,7 @@ use crate::{Allocative, Described, Field, Key, Part, Refusal, Visitor};
 pub struct Named<T>(pub Key, pub T);
 
 impl<T: Allocative + Described> Allocative for Named<T> {
-    ghost may_show = { λ named. shows.Field named.0 T.size (T.may_show named.1) };
+    ghost may_show = { λ named. shows.Field named.0 T.layout.size (T.may_show named.1) };
 
     ghost is_strict = { T.is_strict };
 
@@ -38,7 +38,7 @@ impl<T: Allocative + Described> Allocative for Named<T> {
 pub struct NamedRef<'a, T>(pub Key, pub &'a T);
 
 impl<'a, T: Allocative + Described> Allocative for NamedRef<'a, T> {
-    ghost may_show = { λ named. shows.Field named.0 T.size (T.may_show named.1.now) };
+    ghost may_show = { λ named. shows.Field named.0 T.layout.size (T.may_show named.1.now) };
 
     ghost is_strict = { T.is_strict };
 

@@ -6,7 +6,7 @@ ghost use Rattle.allocative_graph.specs.Graph.{text, graph, total};
 ghost use Rattle.allocative_graph.specs.Collector.{Going, OfGraph, no_entries};
 ghost use Rattle.allocative_graph.specs.Visits.{VisitsRoot, Settles, Ends, IsProfile};
 ghost use Rattle.allocative.specs.Strict.{RootFailsOnlyIfFull};
-ghost use Rattle.allocative.specs.RefusedVisits.{RefusesVisit};
+ghost use Rattle.allocative.specs.Kinds.{as_graph};
 ghost use Rattle.allocative.specs.Roots.{LendsBuilt, LendsRoot};
 ghost use Rattle.allocative.specs.Visited.{OpensRootAt};
 ghost use Rattle.std.specs.Borrow.{sem};
@@ -34,12 +34,13 @@ pub struct FlameGraphBuilder {
 impl Model for FlameGraphBuilder {
     ghost use Rattle.allocative_graph.specs.Collector.{State};
     ghost use Rattle.allocative_graph.specs.Representation.Codes.{state_code};
+    ghost use Rattle.allocative.specs.Kinds.{as_graph};
 
     ghost Value = { State };
 
     ghost coded = { state_code };
 
-    ghost view = { λ b. b.collector };
+    ghost view = { λ b. as_graph b.collector };
 }
 
 impl FlameGraphBuilder {
@@ -53,11 +54,13 @@ impl FlameGraphBuilder {
         })
     }
 
-    // A mutable borrow of the collector.
+    // A mutable borrow of the collector. That of a sum fails with `Open` first.
     fn lend(&mut self) -> &mut Collector
         ensures* lent { sem 𝓛 (LendsBuilt self.entry result) }
         ensures now { self.old ≡ result.now }
+        ensures graph { as_graph result.now ≡ result.now }
     {
+        self.collector.refuse_sum();
         &mut self.collector
     }
 
@@ -89,8 +92,8 @@ impl FlameGraphBuilder {
         ensures visits_root { VisitsRoot (may_show root.now) self.old result self.new }
         ensures only_if_full { RootFailsOnlyIfFull (Allocative-dyn root.now).is_strict
             (may_show root.now) self.old result self.new }
-        ensures answer { IfErr result (RefusesVisit (may_show root.now) (effect root.now) self.old) }
     {
+        self.collector.refuse_sum();
         self.collector.visit_object(root)
     }
 
@@ -100,21 +103,29 @@ impl FlameGraphBuilder {
         ensures visits_root { VisitsRoot (T.may_show root.now) self.old result self.new }
         ensures only_if_full { RootFailsOnlyIfFull T.is_strict (T.may_show root.now)
             self.old result self.new }
-        ensures answer { IfErr result
-            (RefusesVisit (T.may_show root.now) (T.effect root.now) self.old) }
     {
+        self.collector.refuse_sum();
         self.collector.visit_value(root)
+    }
+
+    /// `Ok` if the builder has not failed and has no open visitor, otherwise its first cause, or `Open`.
+    pub(crate) fn check(&mut self) -> Result<(), Refusal>
+        ensures settles { Settles self.new result }
+        ensures same { self.new ≡ self.old }
+    {
+        self.collector.refuse_sum();
+        self.collector.check()
     }
 
     /// The graph and the warnings of all that was entered. The total of the graph is at most `isize::MAX`.
     ///
-    /// A builder that has failed returns its first cause, and one with an open visitor returns `Open`. So does one whose
-    /// collector was exchanged for that of a sum, which no call here does. Otherwise the only error is that memory runs
-    /// out.
-    pub fn finish(self) -> Result<FlameGraphOutput, Refusal>
+    /// A builder that has failed returns its first cause, and one with an open visitor returns `Open`. Otherwise the
+    /// only error is that memory runs out.
+    pub fn finish(mut self) -> Result<FlameGraphOutput, Refusal>
         ensures ends { Ends IsProfile self result }
         ensures total { IfOk result (λ o. total o.graph < 2 ^ 63) }
     {
+        self.collector.refuse_sum();
         self.collector.finish()
     }
 

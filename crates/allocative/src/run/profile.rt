@@ -6,7 +6,6 @@ ghost use Rattle.allocative_graph.specs.Graph.{total};
 ghost use Rattle.allocative_graph.specs.Shows.{each_shows};
 ghost use Rattle.allocative_graph.specs.Visits.{VisitsRoot, IsProfileOf};
 ghost use Rattle.allocative.specs.Strict.{MayRefuseProfile, RootFailsOnlyIfFull};
-ghost use Rattle.allocative.specs.RefusedVisits.{RefusesVisit, RefusesVisits, RefusesProfile};
 
 use crate::{Allocative, FlameGraphBuilder, FlameGraphOutput, Refusal};
 use std::alloc::Global;
@@ -21,9 +20,8 @@ impl FlameGraphBuilder {
             self.old result self.new }
         ensures only_if_full { RootFailsOnlyIfFull T.is_strict (each_shows T.may_show roots.now)
             self.old result self.new }
-        ensures answer { IfErr result (RefusesVisits T.may_show T.effect roots.now self.old) }
     {
-        self.collector.check()?;
+        self.check()?;
         for root in roots {
             self.visit_value(root)?;
         }
@@ -39,7 +37,7 @@ impl FlameGraphBuilder {
 ///
 /// It fails with `Memory` if memory runs out, with the first cause of the value's own visit, or with `Open` if that
 /// leaked a visitor. For a value of a strict type it fails only with `Memory`, or with `TooLarge` if a flame graph
-/// cannot take all that the value may show.
+/// cannot take all that the value may show; for other types no clause says which refusal it is.
 ///
 /// ```
 /// let output = profile_value(alloc, &Some(7u32))?;
@@ -48,8 +46,6 @@ impl FlameGraphBuilder {
 pub fn profile_value<T: Allocative>(alloc: Global, root: &T) -> Result<FlameGraphOutput, Refusal>
     ensures profile { IfOk result (IsProfileOf (T.may_show root.now)) }
     ensures refused { IfErr result (MayRefuseProfile T.is_strict (T.may_show root.now)) }
-    ensures answer { IfErr result
-        (RefusesProfile (RefusesVisit (T.may_show root.now) (T.effect root.now))) }
     ensures total { IfOk result (λ o. total o.graph < 2 ^ 63) }
 {
     let mut builder = FlameGraphBuilder::new(alloc)?;
@@ -71,8 +67,6 @@ pub fn profile_values<T: Allocative>(
     ensures profile { IfOk result (IsProfileOf (each_shows T.may_show roots.now)) }
     ensures refused { IfErr result
         (MayRefuseProfile T.is_strict (each_shows T.may_show roots.now)) }
-    ensures answer { IfErr result
-        (RefusesProfile (RefusesVisits T.may_show T.effect roots.now)) }
     ensures total { IfOk result (λ o. total o.graph < 2 ^ 63) }
 {
     let mut builder = FlameGraphBuilder::new(alloc)?;

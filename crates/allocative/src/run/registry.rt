@@ -6,7 +6,6 @@ ghost use Rattle.allocative_graph.specs.Shows.{each_shows};
 ghost use Rattle.allocative.specs.Roots.{roots_of, are_strict};
 ghost use Rattle.allocative_graph.specs.Visits.{VisitsRoot, IsProfileOf};
 ghost use Rattle.allocative.specs.Strict.{MayRefuseProfile, RootFailsOnlyIfFull};
-ghost use Rattle.allocative.specs.RefusedVisits.{RefusesVisits, RefusesProfile};
 
 use crate::{Allocative, FlameGraphBuilder, FlameGraphOutput, Refusal};
 use std::alloc::Global;
@@ -76,10 +75,8 @@ impl FlameGraphBuilder {
             self.old result self.new }
         ensures only_if_full { RootFailsOnlyIfFull (are_strict Allocative-box registry.now)
             (each_shows may_show (roots_of registry.now)) self.old result self.new }
-        ensures answer { IfErr result
-            (RefusesVisits may_show effect (roots_of registry.now) self.old) }
     {
-        self.collector.check()?;
+        self.check()?;
         let roots = registry.roots();
         for root in roots {
             self.visit_root(root.as_ref())?;
@@ -97,13 +94,12 @@ impl FlameGraphBuilder {
 ///
 /// It fails with `Memory` if memory runs out, or with the error of the first root that fails: the first cause of its
 /// own visit, or `Open` if that leaked a visitor. If the types of all roots are strict, it fails only with `Memory`, or
-/// with `TooLarge` if a flame graph cannot take all that the roots may show together.
+/// with `TooLarge` if a flame graph cannot take all that the roots may show together; otherwise no clause says which
+/// refusal it is.
 pub fn profile_roots(registry: &Registry) -> Result<FlameGraphOutput, Refusal>
     ensures profile { IfOk result (IsProfileOf (each_shows may_show (roots_of registry.now))) }
     ensures refused { IfErr result (MayRefuseProfile (are_strict Allocative-box registry.now)
         (each_shows may_show (roots_of registry.now))) }
-    ensures answer { IfErr result
-        (RefusesProfile (RefusesVisits may_show effect (roots_of registry.now))) }
 {
     let mut builder = FlameGraphBuilder::new(*registry.roots.allocator())?;
     builder.visit_global_roots(registry)?;

@@ -1,12 +1,15 @@
-//! The bytes that values hold on the heap, and those that they own.
+//! The bytes that values hold on the heap, those that they own, and those of all that they show.
+#![tactic(auto, using(crate::proofs::Roots::running))]
 
-ghost use Rattle.std.specs.Prelude.{IfOk, IfErr};
+ghost use Rattle.std.specs.Prelude.{◌<◌, ◌^◌, IfOk, IfErr};
 ghost use Rattle.allocative.specs.Closures.{KeepsVisitor, CalledAtRoot, AnswersSum};
-ghost use Rattle.allocative.specs.SizeOf.{IsSizeOfHeld, IsSizeOfUnique, MayRefuseHeld, MayRefuseSize, AnswersSize, AnswersVisit, IsSizeOfOwned, MayRefuseOwned, AnswersOwned};
+ghost use Rattle.allocative.specs.SizeOf.{IsSizeOfHeld, IsSizeOfUnique, MayRefuseHeld, MayRefuseSize, AnswersSize, AnswersVisit, IsSizeOfOwned, MayRefuseOwned, AnswersOwned, IsSizeOfShown, RefusesShown};
+ghost use Rattle.allocative.specs.Strict.{MayRefuseProfile};
 
 use crate::visitor::collector::Collector;
 use crate::{Allocative, Described, Refusal, Visitor};
 use allocative_graph::restore::Restore;
+use std::alloc::Global;
 
 /// The bytes that the root holds on the heap: the sum of the inline entries whose direct parent is a unique entry, with
 /// nothing below a shared entry.
@@ -41,9 +44,9 @@ pub fn size_of_unique_allocated_data(root: &dyn Allocative) -> Result<usize, Ref
 /// assert_eq!(rt; size_of_unique(&number)?, 12); // a pointer of 8 bytes, and 4 on the heap
 /// ```
 pub fn size_of_unique<T: Allocative + Described>(root: &T) -> Result<usize, Refusal>
-    ensures held { IfOk result (IsSizeOfUnique T.size (T.may_show root.now)) }
-    ensures refused { IfErr result (MayRefuseSize T.is_strict T.size (T.may_show root.now)) }
-    ensures answer { AnswersVisit (T.may_show root.now) (T.effect root.now) (AnswersSize T.size)
+    ensures held { IfOk result (IsSizeOfUnique T.layout.size (T.may_show root.now)) }
+    ensures refused { IfErr result (MayRefuseSize T.is_strict T.layout.size (T.may_show root.now)) }
+    ensures answer { AnswersVisit (T.may_show root.now) (T.effect root.now) (AnswersSize T.layout.size)
         result }
 {
     let mut collector = Collector::of_sum(Restore::Held(false));
@@ -82,6 +85,25 @@ pub fn size_of_owned<T: Allocative>(root: &T) -> Result<usize, Refusal>
     Ok(collector.sum())
 }
 
+/// The bytes of all that the value shows: the total of the graph that `profile_value` makes of it. What a shared
+/// pointer points to counts once for each value that is measured. The memory of the graph is given back before it
+/// returns.
+///
+/// It fails with `Memory` if memory runs out, with the first cause of the visit, or with `Open` if that leaked a
+/// visitor. For a value of a strict type it fails only with `Memory`, or with `TooLarge` if a flame graph cannot take
+/// all that the value may show.
+pub fn size_of_shown<T: Allocative>(alloc: Global, root: &T) -> Result<usize, Refusal>
+    ensures shown { IfOk result (IsSizeOfShown (T.may_show root.now)) }
+    ensures refused { IfErr result (MayRefuseProfile T.is_strict (T.may_show root.now)) }
+    ensures answer { IfErr result (RefusesShown (T.may_show root.now) (T.effect root.now)) }
+    ensures fits { IfOk result (λ bytes. bytes < 2 ^ 63) }
+{
+    let mut collector = Collector::of_graph(alloc)?;
+    collector.visit_value(root)?;
+    let profile = collector.finish()?;
+    Ok(profile.flamegraph().total_size())
+}
+
 /// The bytes that the closure's entries hold on the heap, as `size_of_unique_allocated_data` counts those of a value.
 ///
 /// The closure enters what it likes at a root visitor, as the parts of a value that one asks for, and hands the
@@ -95,15 +117,15 @@ pub fn size_of_owned<T: Allocative>(root: &T) -> Result<usize, Refusal>
 /// assert_eq!(rt; held, 4); // the number on the heap
 /// ```
 pub fn size_of_entries<F: FnOnce(&mut Visitor<'_>) -> Result<(), Refusal>>(
-    enter: F,
+    visit: F,
 ) -> Result<usize, Refusal>
-    requires callable { F.IsAlwaysCallable enter }
-    requires keeps { KeepsVisitor F.FnOnce enter }
-    ensures { CalledAtRoot F.FnOnce enter result }
+    requires callable { F.IsAlwaysCallable visit }
+    requires keeps { KeepsVisitor F.FnOnce visit }
+    ensures { CalledAtRoot F.FnOnce visit result }
 {
     let mut collector = Collector::of_sum(Restore::Held(false));
     let mut visitor = collector.root_visitor()?;
-    let _ = visitor.call(enter);
+    let _ = visitor.call(visit);
     visitor.exit();
     collector.check()?;
     Ok(collector.sum())

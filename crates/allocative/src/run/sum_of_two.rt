@@ -4,7 +4,7 @@
 ghost use Rattle.std.specs.Prelude.{IfOk, IfErr};
 ghost use Rattle.allocative_graph.specs.Shows.{each_shows};
 ghost use Rattle.allocative_graph.specs.Visits.{IsSumOfTwo};
-ghost use Rattle.allocative.specs.RefusedVisits.{RefusesInTwo};
+ghost use Rattle.allocative.specs.Strict.{RefusesInTwo};
 
 use crate::{Allocative, Described, FlameGraph, Refusal, profile_values};
 use std::alloc::Global;
@@ -32,7 +32,7 @@ pub fn profile_in_two<T: Allocative + Described>(
     ensures sum { IfOk result
         (IsSumOfTwo (each_shows T.may_show left.now) (each_shows T.may_show right.now)) }
     ensures refused { IfErr result
-        (RefusesInTwo T.is_strict T.may_show T.effect left.now right.now) }
+        (RefusesInTwo T.is_strict (each_shows T.may_show left.now) (each_shows T.may_show right.now)) }
 {
     let mut sum = profile_values(alloc, left)?.into_flamegraph();
     let more = profile_values(alloc, right)?.into_flamegraph();

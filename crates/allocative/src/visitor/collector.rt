@@ -5,7 +5,7 @@ ghost use Rattle.std.specs.Prelude.{◌≡◌, ◌<◌, ◌^◌, false, IfOk, If
 ghost use Rattle.allocative_graph.specs.Graph.{total};
 ghost use Rattle.allocative_graph.specs.Collector.{Going, OfGraph, OfSum, no_entries, nothing_summed, failed_with};
 ghost use Rattle.allocative_graph.specs.Visits.{HasFailed, OpensEntry, ClosesEntry, OpensShared, OpensRoot, Settles, Ends, IsProfile};
-ghost use Rattle.allocative.specs.Kinds.{IsSum};
+ghost use Rattle.allocative.specs.Kinds.{IsSum, as_graph};
 ghost use Rattle.allocative.specs.Making.{Makes, Done, one};
 
 use crate::{Allocative, FlameGraphOutput, Identity, Key, Refusal, Visitor};
@@ -73,6 +73,15 @@ impl Collector {
         }
         self.kind = Kind::Failed(refusal);
         refusal
+    }
+
+    /// Fails with `Open` if the collector is that of a sum.
+    pub(crate) fn refuse_sum(&mut self)
+        ensures { self.new ≡ as_graph self.old }
+    {
+        if let Kind::Sum(_) = &self.kind {
+            self.kind = Kind::Failed(Refusal::Open);
+        }
     }
 
     /// The first cause if the collector has failed, otherwise `Ok`.
@@ -202,8 +211,9 @@ impl Collector {
     }
 
     /// The graph and the warnings of all that was entered. It returns the first cause if the collector has failed,
-    /// `Open` if a visitor is open or the collector is that of a sum, and otherwise fails only with `Memory`.
+    /// `Open` if a visitor is open, and otherwise fails only with `Memory`. The collector is not that of a sum.
     pub(crate) fn finish(&self) -> Result<FlameGraphOutput, Refusal>
+        requires { as_graph self.now ≡ self.now }
         ensures ends { Ends IsProfile self.now result }
         ensures total { IfOk result (λ o. total o.graph < 2 ^ 63) }
     {
@@ -228,10 +238,9 @@ impl Collector {
 impl Collector {
     ghost use Rattle.std.specs.Borrow.{sem};
     ghost use Rattle.std.specs.Prelude.{Err};
-    ghost use Rattle.allocative_graph.specs.Visits.{RefusesEntry, VisitsRoot};
+    ghost use Rattle.allocative_graph.specs.Visits.{RefusesEntry};
     ghost use Rattle.allocative.specs.Lending.{LendsEntered, OpensEntryAt, LendsBegun};
-    ghost use Rattle.allocative.specs.Strict.{RootFailsOnlyIfFull};
-    ghost use Rattle.allocative.specs.Visited.{OpensRootAt, VisitsRootWithEffect};
+    ghost use Rattle.allocative.specs.Visited.{OpensRootAt, VisitsByRoot};
 
     /// Enters inline with a declared size: one more entry of that size under the key, and a visitor at it. It
     /// returns `TooLarge` if there is no size; the other errors are those of `by_hand::enter`.
@@ -269,30 +278,24 @@ impl Collector {
     }
 
     /// Visits an object by a root visitor. What the visit returns is not looked at: the collector keeps the first
-    /// cause. A collector that is closed refuses an object of a strict type only if it must.
+    /// cause.
     pub(crate) fn visit_object(&mut self, root: &dyn Allocative) -> Result<(), Refusal>
-        ensures visits_root { VisitsRoot (may_show root.now) self.old result self.new }
-        ensures only_if_full { RootFailsOnlyIfFull (Allocative-dyn root.now).is_strict
-            (may_show root.now) self.old result self.new }
-        ensures visited { VisitsRootWithEffect (may_show root.now) (effect root.now)
-            self.old self.new result }
+        ensures { VisitsByRoot (Allocative-dyn root.now).is_strict (may_show root.now)
+            (effect root.now) self.old self.new result }
     {
         let mut visitor = self.root_visitor()?;
-        let _told = visitor.visit_object(root);
+        let _told = root.visit(&mut visitor);
         visitor.exit();
         self.check()
     }
 
     /// Visits a value of a known type by a root visitor, with no trait object.
     pub(crate) fn visit_value<T: Allocative>(&mut self, root: &T) -> Result<(), Refusal>
-        ensures visits_root { VisitsRoot (T.may_show root.now) self.old result self.new }
-        ensures only_if_full { RootFailsOnlyIfFull T.is_strict (T.may_show root.now)
-            self.old result self.new }
-        ensures visited { VisitsRootWithEffect (T.may_show root.now) (T.effect root.now)
+        ensures { VisitsByRoot T.is_strict (T.may_show root.now) (T.effect root.now)
             self.old self.new result }
     {
         let mut visitor = self.root_visitor()?;
-        let _told = visitor.visit_value(root);
+        let _told = root.visit(&mut visitor);
         visitor.exit();
         self.check()
     }

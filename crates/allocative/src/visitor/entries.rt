@@ -14,8 +14,8 @@ impl Visitor<'_> {
     /// other errors are those of `enter`.
     #[inline(always)]
     pub fn visit_simple_sized<T: Described>(&mut self) -> Result<(), Refusal>
-        ensures entered { Entered true (Field T.name T.size Nothing) self.old self.new result }
-        ensures plan { MakesPlan (one T.name T.size) self.old self.new result }
+        ensures entered { Entered true (Field T.layout.name T.layout.size Nothing) self.old self.new result }
+        ensures plan { MakesPlan (one T.layout.name T.layout.size) self.old self.new result }
     {
         self.visit_sized(Key::for_type_name::<T>(), T::size())
     }
@@ -48,9 +48,9 @@ impl Visitor<'_> {
         name: Key,
         field: &T,
     ) -> Result<(), Refusal>
-        ensures entered { Entered T.is_strict (Field name T.size (T.may_show field.now))
+        ensures entered { Entered T.is_strict (Field name T.layout.size (T.may_show field.now))
             self.old self.new result }
-        ensures first { MakesFirst name T.size self.old self.new result }
+        ensures first { MakesFirst name T.layout.size self.old self.new result }
     {
         self.visit_inside(name, T::size(), field)
     }
@@ -80,13 +80,13 @@ impl Visitor<'_> {
     /// first cause.
     pub(crate) fn call<F: FnOnce(&mut Visitor<'_>) -> Result<(), Refusal>>(
         &mut self,
-        enter: F,
+        visit: F,
     ) -> Result<(), Refusal>
-        requires callable { F.IsAlwaysCallable enter }
-        requires keeps { KeepsVisitor F.FnOnce enter }
-        ensures { CalledAt F.FnOnce enter self.old self.new result }
+        requires callable { F.IsAlwaysCallable visit }
+        requires keeps { KeepsVisitor F.FnOnce visit }
+        ensures { CalledAt F.FnOnce visit self.old self.new result }
     {
-        if let Err(refusal) = enter(self) {
+        if let Err(refusal) = visit(self) {
             return Err(self.refuse(refusal));
         }
         Ok(())

@@ -75,7 +75,7 @@ impl<'a, T: Allocative + Described> EnterItem<&'a T> for FieldUnder {
 
     ghost seen = { deref };
 
-    ghost may_show = { λ f. field_of f.0 T.size T.may_show };
+    ghost may_show = { λ f. field_of f.0 T.layout.size T.may_show };
 
     ghost is_strict = { T.is_strict };
 
@@ -95,7 +95,7 @@ impl<'a, K: Allocative + Described, V: Allocative + Described> EnterItem<(&'a K,
 
     ghost seen = { deref_pair };
 
-    ghost may_show = { λ _. pair_shows K.size K.may_show V.size V.may_show };
+    ghost may_show = { λ _. pair_shows K.layout.size K.may_show V.layout.size V.may_show };
 
     ghost is_strict = { K.is_strict && V.is_strict };
 
@@ -144,12 +144,12 @@ impl Visitor<'_> {
         requires can { I.can_next items }
         requires ends { IsFinite (I.remaining items) }
         ensures entered { EntersRun I.next_gives items deref
-            (slice_shows T.name T.size T.needs_drop T.may_show) self.old self.new result }
-        ensures only_if_full { RefusesCounted T.is_strict T.size I.next_gives items deref
-            (slice_shows T.name T.size T.needs_drop T.may_show) self.old self.new result }
+            (slice_shows T.layout.name T.layout.size T.layout.needs_drop T.may_show) self.old self.new result }
+        ensures only_if_full { RefusesCounted T.is_strict T.layout.size I.next_gives items deref
+            (slice_shows T.layout.name T.layout.size T.layout.needs_drop T.may_show) self.old self.new result }
         ensures kept { KeepsFailure self.old self.new result }
-        ensures plan { MakesPlanRun I.next_gives items T.name T.size
-            (are_shown_each T.needs_drop T.size) self.old self.new result }
+        ensures plan { MakesPlanRun I.next_gives items T.layout.name T.layout.size
+            (are_shown_each T.layout.needs_drop T.layout.size) self.old self.new result }
     {
         if are_shown_each::<T>() {
             return self.visit_run(Itself, items);
@@ -190,7 +190,7 @@ impl Visitor<'_> {
         requires can { I.can_next entries }
         requires ends { IsFinite (I.remaining entries) }
         ensures { EntersData (K.is_strict && V.is_strict) I.next_gives entries deref_pair
-            (pair_shows K.size K.may_show V.size V.may_show) self.old self.new result }
+            (pair_shows K.layout.size K.may_show V.layout.size V.may_show) self.old self.new result }
     {
         self.visit_run_in_data(KeyAndValue, entries)
     }
@@ -205,7 +205,7 @@ impl Visitor<'_> {
         requires can { I.can_next entries }
         requires ends { IsFinite (I.remaining entries) }
         ensures { EntersData K.is_strict I.next_gives entries deref
-            (field_of (codes "key") K.size K.may_show) self.old self.new result }
+            (field_of (codes "key") K.layout.size K.may_show) self.old self.new result }
     {
         self.visit_run_in_data(FieldUnder(Key::new("key")), entries)
     }

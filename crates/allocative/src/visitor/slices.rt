@@ -15,14 +15,15 @@ use crate::{Allocative, Described, Key, Refusal, Visitor};
 /// The bytes of `count` items. `None` if an item has no size, if there is no count, or
 /// if the bytes do not fit.
 pub(crate) fn bytes_of<T: Described>(count: Option<usize>) -> Option<usize>
-    ensures { result ≡ size_product T.size count }
+    ensures { result ≡ size_product T.layout.size count }
 {
     T::size()?.checked_mul(count?)
 }
 
 /// Whether the items of a slice are shown one by one: if they need a drop and have a size other than 0.
-pub(crate) fn are_shown_each<T: Described>() -> bool
-    ensures { result ≡ are_shown_each T.needs_drop T.size }
+#[inline(always)]
+pub fn are_shown_each<T: Described>() -> bool
+    ensures { result ≡ are_shown_each T.layout.needs_drop T.layout.size }
 {
     T::needs_drop() && !matches!(&T::size(), None | Some(0))
 }
@@ -43,9 +44,9 @@ impl Visitor<'_> {
         name: Key,
         count: Option<usize>,
     ) -> Result<(), Refusal>
-        ensures entered { Entered true (Field name (size_product T.size count) Nothing)
+        ensures entered { Entered true (Field name (size_product T.layout.size count) Nothing)
             self.old self.new result }
-        ensures plan { MakesPlan (one name (size_product T.size count)) self.old self.new result }
+        ensures plan { MakesPlan (one name (size_product T.layout.size count)) self.old self.new result }
     {
         self.visit_sized(name, bytes_of::<T>(count))
     }
@@ -53,16 +54,16 @@ impl Visitor<'_> {
     /// One inline entry of the bytes of `count` unused places. It is `TooLarge` if `bytes_of` returns
     /// `None`.
     pub(crate) fn visit_unused<T: Described>(&mut self, count: usize) -> Result<(), Refusal>
-        ensures entered { Entered true (bytes_shown (codes "unused_capacity") T.size count)
+        ensures entered { Entered true (bytes_shown (codes "unused_capacity") T.layout.size count)
             self.old self.new result }
         ensures plan { MakesPlan
-            (one (codes "unused_capacity") (size_product T.size (Some count))) self.old self.new result }
+            (one (codes "unused_capacity") (size_product T.layout.size (Some count))) self.old self.new result }
     {
         self.visit_total_bytes::<T>(Key::new("unused_capacity"), Some(count))
     }
 
-    /// What each item shows, in order, with no entry of its own. It returns the first error of an item, and enters nothing
-    /// after it.
+    /// What each item shows, in order, with no entry of its own. It returns the first error of an item, and enters
+    /// nothing after it.
     #[inline(always)]
     pub fn visit_each<T: Allocative>(&mut self, items: &[T]) -> Result<(), Refusal>
         ensures entered { Entered T.is_strict (each_shows T.may_show items.now)
@@ -80,10 +81,12 @@ impl Visitor<'_> {
     /// or the bytes do not fit; its other errors are those of `enter`.
     pub fn visit_slice<T: Allocative + Described>(&mut self, items: &[T]) -> Result<(), Refusal>
         ensures entered { Entered T.is_strict
-            (slice_shows T.name T.size T.needs_drop T.may_show items.now) self.old self.new result }
+            (slice_shows T.layout.name T.layout.size T.layout.needs_drop T.may_show items.now) self.old self.new
+            result }
         ensures kept { KeepsFailure self.old self.new result }
-        ensures plan { VisitsNone T.needs_drop T.size items.now
-            → MakesPlan (slice_plan T.name T.size T.needs_drop items.now) self.old self.new result }
+        ensures plan { VisitsNone T.layout.needs_drop T.layout.size items.now
+            → MakesPlan (slice_plan T.layout.name T.layout.size T.layout.needs_drop items.now) self.old self.new
+            result }
     {
         if are_shown_each::<T>() {
             return self.visit_each(items);
@@ -97,7 +100,7 @@ impl Visitor<'_> {
         name: Key,
         items: &[T],
     ) -> Result<(), Refusal>
-        ensures entered { Entered T.is_strict (each_shows (field_of name T.size T.may_show) items.now)
+        ensures entered { Entered T.is_strict (each_shows (field_of name T.layout.size T.may_show) items.now)
             self.old self.new result }
         ensures plan { length items.now ≡ 0 → MakesPlan Done self.old self.new result }
     {
@@ -110,12 +113,12 @@ impl Visitor<'_> {
     /// A collector that has failed returns its first cause. The entry is `TooLarge` if the item has no size,
     /// even with no items, or if the bytes do not fit; its other errors are those of `enter`.
     pub fn visit_slice_of<T: Allocative + Described>(&mut self, items: &[T]) -> Result<(), Refusal>
-        ensures entered { Entered T.is_strict (slice_of T.name T.size T.may_show items.now)
+        ensures entered { Entered T.is_strict (slice_of T.layout.name T.layout.size T.may_show items.now)
             self.old self.new result }
-        ensures first { MakesFirst T.name (size_product T.size (Some (length items.now)))
+        ensures first { MakesFirst T.layout.name (size_product T.layout.size (Some (length items.now)))
             self.old self.new result }
         ensures plan { length items.now ≡ 0
-            → MakesPlan (one T.name (size_product T.size (Some 0))) self.old self.new result }
+            → MakesPlan (one T.layout.name (size_product T.layout.size (Some 0))) self.old self.new result }
     {
         let bytes = bytes_of::<T>(Some(items.len()));
         let outer = self
@@ -134,10 +137,12 @@ impl Visitor<'_> {
     ) -> Result<(), Refusal>
         requires { length items.now ≤ capacity }
         ensures entered { Entered T.is_strict
-            (Both (slice_shows T.name T.size T.needs_drop T.may_show items.now)
-            (bytes_shown (codes "unused_capacity") T.size (capacity - length items.now))) self.old self.new result }
-        ensures plan { VisitsNone T.needs_drop T.size items.now
-            → MakesPlan (room_plan T.name T.size T.needs_drop items.now capacity) self.old self.new result }
+            (Both (slice_shows T.layout.name T.layout.size T.layout.needs_drop T.may_show items.now)
+            (bytes_shown (codes "unused_capacity") T.layout.size (capacity - length items.now))) self.old self.new
+            result }
+        ensures plan { VisitsNone T.layout.needs_drop T.layout.size items.now
+            → MakesPlan (room_plan T.layout.name T.layout.size T.layout.needs_drop items.now capacity) self.old
+            self.new result }
     {
         self.visit_slice(items)?;
         self.visit_unused::<T>(capacity - items.len())
@@ -156,11 +161,13 @@ impl Visitor<'_> {
     ) -> Result<(), Refusal>
         requires { length items.now ≤ capacity }
         ensures entered { Entered T.is_strict
-            (vec_body T.name T.size T.needs_drop T.may_show items.now capacity) self.old self.new result }
-        ensures first { MakesFirst (codes "capacity") (size_product T.size (Some capacity))
+            (vec_body T.layout.name T.layout.size T.layout.needs_drop T.may_show items.now capacity) self.old self.new
+            result }
+        ensures first { MakesFirst (codes "capacity") (size_product T.layout.size (Some capacity))
             self.old self.new result }
-        ensures plan { VisitsNone T.needs_drop T.size items.now
-            → MakesPlan (vec_plan T.name T.size T.needs_drop items.now capacity) self.old self.new result }
+        ensures plan { VisitsNone T.layout.needs_drop T.layout.size items.now
+            → MakesPlan (vec_plan T.layout.name T.layout.size T.layout.needs_drop items.now capacity) self.old self.new
+            result }
     {
         let bytes = bytes_of::<T>(Some(capacity));
         let outer = self

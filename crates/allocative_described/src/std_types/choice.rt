@@ -1,88 +1,59 @@
-//! Types that are one of several: `Option`, `Result`, and `Infallible`, which is none.
+//! Types that are one of several: `Option`, `Result`, `Bound`, `Ordering`, and `Infallible`, which is none.
 
-ghost use Rattle.std.specs.Prelude.{Some, false, codes, max, ◌||◌};
-ghost use Rattle.allocative_described.specs.Sizes.{size_sum, size_max, size_up};
+ghost use Rattle.std.specs.Prelude.{codes, false};
+ghost use Rattle.allocative_described.specs.Layouts.{declared, ◌with◌, ◌or◌, pad_to_align};
 
-use crate::described::{Described, size_max, size_sum, size_up};
+use crate::described::Described;
+use crate::layout::Layout;
+use std::cmp::Ordering;
 use std::convert::Infallible;
+use std::ops::Bound;
 
 // A byte for the tag, then the part.
 impl<T: Described> Described for Option<T> {
-    ghost name = { codes "Option" };
+    ghost layout = { pad_to_align (declared (codes "Option") 1 1 false with T.layout) };
 
-    ghost align = { T.align };
-
-    ghost needs_drop = { T.needs_drop };
-
-    ghost size = { size_up (size_sum (Some 1) T.size) T.align };
-
-    fn name() -> &'static str {
-        "Option"
-    }
-
-    fn align() -> usize {
-        T::align()
-    }
-
-    fn needs_drop() -> bool {
-        T::needs_drop()
-    }
-
-    fn size() -> Option<usize> {
-        size_up(size_sum(Some(1), T::size()), T::align())
+    fn layout() -> Layout {
+        Layout::new("Option", 1, 1, false)
+            .with(T::layout())
+            .pad_to_align()
     }
 }
 
 // A byte for the tag, then room for either part.
 impl<T: Described, E: Described> Described for Result<T, E> {
-    ghost name = { codes "Result" };
+    ghost layout = { pad_to_align (declared (codes "Result") 1 1 false with (T.layout or E.layout)) };
 
-    ghost align = { max T.align E.align };
-
-    ghost needs_drop = { T.needs_drop || E.needs_drop };
-
-    ghost size = { size_up (size_sum (Some 1) (size_max T.size E.size)) (max T.align E.align) };
-
-    fn name() -> &'static str {
-        "Result"
+    fn layout() -> Layout {
+        Layout::new("Result", 1, 1, false)
+            .with(T::layout().or(E::layout()))
+            .pad_to_align()
     }
+}
 
-    fn align() -> usize {
-        T::align().max(E::align())
+// A byte for the tag, then the part.
+impl<T: Described> Described for Bound<T> {
+    ghost layout = { pad_to_align (declared (codes "Bound") 1 1 false with T.layout) };
+
+    fn layout() -> Layout {
+        Layout::new("Bound", 1, 1, false)
+            .with(T::layout())
+            .pad_to_align()
     }
+}
 
-    fn needs_drop() -> bool {
-        T::needs_drop() || E::needs_drop()
-    }
+impl Described for Ordering {
+    ghost layout = { declared (codes "Ordering") 1 1 false };
 
-    fn size() -> Option<usize> {
-        let greater = size_max(T::size(), E::size());
-        size_up(size_sum(Some(1), greater), Self::align())
+    fn layout() -> Layout {
+        Layout::new("Ordering", 1, 1, false)
     }
 }
 
 impl Described for Infallible {
-    ghost name = { codes "Infallible" };
+    ghost layout = { declared (codes "Infallible") 0 1 false };
 
-    ghost align = { 1 };
-
-    ghost needs_drop = { false };
-
-    ghost size = { Some 0 };
-
-    fn name() -> &'static str {
-        "Infallible"
-    }
-
-    fn align() -> usize {
-        1
-    }
-
-    fn needs_drop() -> bool {
-        false
-    }
-
-    fn size() -> Option<usize> {
-        Some(0)
+    fn layout() -> Layout {
+        Layout::new("Infallible", 0, 1, false)
     }
 }

@@ -1,57 +1,67 @@
-//! Boxes and references.
+//! Boxes, references, and texts that are shared or borrowed. `BoxedSlice`, `BoxedStr`, `ArcStr` and `CowStr` are Rust's
+//! `Box<[T]>`, `Box<str>`, `Arc<str>` and `Cow<str>`. A pointer to a slice or a text has a length of 8 bytes more.
 
-ghost use Rattle.std.specs.Prelude.{Some, true, false, codes};
+ghost use Rattle.std.specs.Prelude.{codes, true, false};
+ghost use Rattle.allocative_described.specs.Layouts.{declared};
 
 use crate::described::Described;
+use crate::layout::Layout;
+use std::borrow::CowStr;
+use std::boxed::{BoxedSlice, BoxedStr};
+use std::sync::ArcStr;
 
 impl<T> Described for Box<T> {
-    ghost name = { codes "Box" };
+    ghost layout = { declared (codes "Box") 8 8 true };
 
-    ghost align = { 8 };
-
-    ghost needs_drop = { true };
-
-    ghost size = { Some 8 };
-
-    fn name() -> &'static str {
-        "Box"
+    fn layout() -> Layout {
+        Layout::new("Box", 8, 8, true)
     }
+}
 
-    fn align() -> usize {
-        8
+impl<T> Described for BoxedSlice<T> {
+    ghost layout = { declared (codes "Box") 16 8 true };
+
+    fn layout() -> Layout {
+        Layout::new("Box", 16, 8, true)
     }
+}
 
-    fn needs_drop() -> bool {
-        true
+impl Described for BoxedStr {
+    ghost layout = { declared (codes "Box") 16 8 true };
+
+    fn layout() -> Layout {
+        Layout::new("Box", 16, 8, true)
     }
+}
 
-    fn size() -> Option<usize> {
-        Some(8)
+impl Described for ArcStr {
+    ghost layout = { declared (codes "Arc") 16 8 true };
+
+    fn layout() -> Layout {
+        Layout::new("Arc", 16, 8, true)
+    }
+}
+
+impl Described for CowStr<'static> {
+    ghost layout = { declared (codes "Cow") 24 8 true };
+
+    fn layout() -> Layout {
+        Layout::new("Cow", 24, 8, true)
+    }
+}
+
+impl Described for &'static str {
+    ghost layout = { declared (codes "&") 16 8 false };
+
+    fn layout() -> Layout {
+        Layout::new("&", 16, 8, false)
     }
 }
 
 impl<T> Described for &'static T {
-    ghost name = { codes "&" };
+    ghost layout = { declared (codes "&") 8 8 false };
 
-    ghost align = { 8 };
-
-    ghost needs_drop = { false };
-
-    ghost size = { Some 8 };
-
-    fn name() -> &'static str {
-        "&"
-    }
-
-    fn align() -> usize {
-        8
-    }
-
-    fn needs_drop() -> bool {
-        false
-    }
-
-    fn size() -> Option<usize> {
-        Some(8)
+    fn layout() -> Layout {
+        Layout::new("&", 8, 8, false)
     }
 }

@@ -1,712 +1,228 @@
 //! Numbers, `char`, `bool`, numbers that are not zero, and `()`: each number is as large as its alignment, a number
 //! that is not zero is as large as the number, and nothing has a drop.
 
-ghost use Rattle.std.specs.Prelude.{Some, false, codes};
+ghost use Rattle.std.specs.Prelude.{codes, false};
+ghost use Rattle.allocative_described.specs.Layouts.{declared};
 
 use crate::described::Described;
+use crate::layout::Layout;
 use std::num::{
     NonZeroI8, NonZeroI16, NonZeroI32, NonZeroI64, NonZeroIsize, NonZeroU8, NonZeroU16, NonZeroU32,
     NonZeroU64, NonZeroUsize,
 };
 
 impl Described for u8 {
-    ghost name = { codes "u8" };
+    ghost layout = { declared (codes "u8") 1 1 false };
 
-    ghost align = { 1 };
-
-    ghost needs_drop = { false };
-
-    ghost size = { Some 1 };
-
-    fn name() -> &'static str {
-        "u8"
-    }
-
-    fn align() -> usize {
-        1
-    }
-
-    fn needs_drop() -> bool {
-        false
-    }
-
-    fn size() -> Option<usize> {
-        Some(1)
+    fn layout() -> Layout {
+        Layout::new("u8", 1, 1, false)
     }
 }
 
 impl Described for u16 {
-    ghost name = { codes "u16" };
+    ghost layout = { declared (codes "u16") 2 2 false };
 
-    ghost align = { 2 };
-
-    ghost needs_drop = { false };
-
-    ghost size = { Some 2 };
-
-    fn name() -> &'static str {
-        "u16"
-    }
-
-    fn align() -> usize {
-        2
-    }
-
-    fn needs_drop() -> bool {
-        false
-    }
-
-    fn size() -> Option<usize> {
-        Some(2)
+    fn layout() -> Layout {
+        Layout::new("u16", 2, 2, false)
     }
 }
 
 impl Described for u32 {
-    ghost name = { codes "u32" };
+    ghost layout = { declared (codes "u32") 4 4 false };
 
-    ghost align = { 4 };
-
-    ghost needs_drop = { false };
-
-    ghost size = { Some 4 };
-
-    fn name() -> &'static str {
-        "u32"
-    }
-
-    fn align() -> usize {
-        4
-    }
-
-    fn needs_drop() -> bool {
-        false
-    }
-
-    fn size() -> Option<usize> {
-        Some(4)
+    fn layout() -> Layout {
+        Layout::new("u32", 4, 4, false)
     }
 }
 
 impl Described for u64 {
-    ghost name = { codes "u64" };
+    ghost layout = { declared (codes "u64") 8 8 false };
 
-    ghost align = { 8 };
-
-    ghost needs_drop = { false };
-
-    ghost size = { Some 8 };
-
-    fn name() -> &'static str {
-        "u64"
-    }
-
-    fn align() -> usize {
-        8
-    }
-
-    fn needs_drop() -> bool {
-        false
-    }
-
-    fn size() -> Option<usize> {
-        Some(8)
+    fn layout() -> Layout {
+        Layout::new("u64", 8, 8, false)
     }
 }
 
 impl Described for u128 {
-    ghost name = { codes "u128" };
+    ghost layout = { declared (codes "u128") 16 16 false };
 
-    ghost align = { 16 };
-
-    ghost needs_drop = { false };
-
-    ghost size = { Some 16 };
-
-    fn name() -> &'static str {
-        "u128"
-    }
-
-    fn align() -> usize {
-        16
-    }
-
-    fn needs_drop() -> bool {
-        false
-    }
-
-    fn size() -> Option<usize> {
-        Some(16)
+    fn layout() -> Layout {
+        Layout::new("u128", 16, 16, false)
     }
 }
 
 impl Described for usize {
-    ghost name = { codes "usize" };
+    ghost layout = { declared (codes "usize") 8 8 false };
 
-    ghost align = { 8 };
-
-    ghost needs_drop = { false };
-
-    ghost size = { Some 8 };
-
-    fn name() -> &'static str {
-        "usize"
-    }
-
-    fn align() -> usize {
-        8
-    }
-
-    fn needs_drop() -> bool {
-        false
-    }
-
-    fn size() -> Option<usize> {
-        Some(8)
+    fn layout() -> Layout {
+        Layout::new("usize", 8, 8, false)
     }
 }
 
 impl Described for i8 {
-    ghost name = { codes "i8" };
+    ghost layout = { declared (codes "i8") 1 1 false };
 
-    ghost align = { 1 };
-
-    ghost needs_drop = { false };
-
-    ghost size = { Some 1 };
-
-    fn name() -> &'static str {
-        "i8"
-    }
-
-    fn align() -> usize {
-        1
-    }
-
-    fn needs_drop() -> bool {
-        false
-    }
-
-    fn size() -> Option<usize> {
-        Some(1)
+    fn layout() -> Layout {
+        Layout::new("i8", 1, 1, false)
     }
 }
 
 impl Described for i16 {
-    ghost name = { codes "i16" };
+    ghost layout = { declared (codes "i16") 2 2 false };
 
-    ghost align = { 2 };
-
-    ghost needs_drop = { false };
-
-    ghost size = { Some 2 };
-
-    fn name() -> &'static str {
-        "i16"
-    }
-
-    fn align() -> usize {
-        2
-    }
-
-    fn needs_drop() -> bool {
-        false
-    }
-
-    fn size() -> Option<usize> {
-        Some(2)
+    fn layout() -> Layout {
+        Layout::new("i16", 2, 2, false)
     }
 }
 
 impl Described for i32 {
-    ghost name = { codes "i32" };
+    ghost layout = { declared (codes "i32") 4 4 false };
 
-    ghost align = { 4 };
-
-    ghost needs_drop = { false };
-
-    ghost size = { Some 4 };
-
-    fn name() -> &'static str {
-        "i32"
-    }
-
-    fn align() -> usize {
-        4
-    }
-
-    fn needs_drop() -> bool {
-        false
-    }
-
-    fn size() -> Option<usize> {
-        Some(4)
+    fn layout() -> Layout {
+        Layout::new("i32", 4, 4, false)
     }
 }
 
 impl Described for i64 {
-    ghost name = { codes "i64" };
+    ghost layout = { declared (codes "i64") 8 8 false };
 
-    ghost align = { 8 };
-
-    ghost needs_drop = { false };
-
-    ghost size = { Some 8 };
-
-    fn name() -> &'static str {
-        "i64"
-    }
-
-    fn align() -> usize {
-        8
-    }
-
-    fn needs_drop() -> bool {
-        false
-    }
-
-    fn size() -> Option<usize> {
-        Some(8)
+    fn layout() -> Layout {
+        Layout::new("i64", 8, 8, false)
     }
 }
 
 impl Described for i128 {
-    ghost name = { codes "i128" };
+    ghost layout = { declared (codes "i128") 16 16 false };
 
-    ghost align = { 16 };
-
-    ghost needs_drop = { false };
-
-    ghost size = { Some 16 };
-
-    fn name() -> &'static str {
-        "i128"
-    }
-
-    fn align() -> usize {
-        16
-    }
-
-    fn needs_drop() -> bool {
-        false
-    }
-
-    fn size() -> Option<usize> {
-        Some(16)
+    fn layout() -> Layout {
+        Layout::new("i128", 16, 16, false)
     }
 }
 
 impl Described for isize {
-    ghost name = { codes "isize" };
+    ghost layout = { declared (codes "isize") 8 8 false };
 
-    ghost align = { 8 };
-
-    ghost needs_drop = { false };
-
-    ghost size = { Some 8 };
-
-    fn name() -> &'static str {
-        "isize"
-    }
-
-    fn align() -> usize {
-        8
-    }
-
-    fn needs_drop() -> bool {
-        false
-    }
-
-    fn size() -> Option<usize> {
-        Some(8)
+    fn layout() -> Layout {
+        Layout::new("isize", 8, 8, false)
     }
 }
 
 impl Described for f32 {
-    ghost name = { codes "f32" };
+    ghost layout = { declared (codes "f32") 4 4 false };
 
-    ghost align = { 4 };
-
-    ghost needs_drop = { false };
-
-    ghost size = { Some 4 };
-
-    fn name() -> &'static str {
-        "f32"
-    }
-
-    fn align() -> usize {
-        4
-    }
-
-    fn needs_drop() -> bool {
-        false
-    }
-
-    fn size() -> Option<usize> {
-        Some(4)
+    fn layout() -> Layout {
+        Layout::new("f32", 4, 4, false)
     }
 }
 
 impl Described for f64 {
-    ghost name = { codes "f64" };
+    ghost layout = { declared (codes "f64") 8 8 false };
 
-    ghost align = { 8 };
-
-    ghost needs_drop = { false };
-
-    ghost size = { Some 8 };
-
-    fn name() -> &'static str {
-        "f64"
-    }
-
-    fn align() -> usize {
-        8
-    }
-
-    fn needs_drop() -> bool {
-        false
-    }
-
-    fn size() -> Option<usize> {
-        Some(8)
+    fn layout() -> Layout {
+        Layout::new("f64", 8, 8, false)
     }
 }
 
 impl Described for char {
-    ghost name = { codes "char" };
+    ghost layout = { declared (codes "char") 4 4 false };
 
-    ghost align = { 4 };
-
-    ghost needs_drop = { false };
-
-    ghost size = { Some 4 };
-
-    fn name() -> &'static str {
-        "char"
-    }
-
-    fn align() -> usize {
-        4
-    }
-
-    fn needs_drop() -> bool {
-        false
-    }
-
-    fn size() -> Option<usize> {
-        Some(4)
+    fn layout() -> Layout {
+        Layout::new("char", 4, 4, false)
     }
 }
 
 impl Described for bool {
-    ghost name = { codes "bool" };
+    ghost layout = { declared (codes "bool") 1 1 false };
 
-    ghost align = { 1 };
-
-    ghost needs_drop = { false };
-
-    ghost size = { Some 1 };
-
-    fn name() -> &'static str {
-        "bool"
-    }
-
-    fn align() -> usize {
-        1
-    }
-
-    fn needs_drop() -> bool {
-        false
-    }
-
-    fn size() -> Option<usize> {
-        Some(1)
+    fn layout() -> Layout {
+        Layout::new("bool", 1, 1, false)
     }
 }
 
 impl Described for NonZeroU8 {
-    ghost name = { codes "NonZeroU8" };
+    ghost layout = { declared (codes "NonZeroU8") 1 1 false };
 
-    ghost align = { 1 };
-
-    ghost needs_drop = { false };
-
-    ghost size = { Some 1 };
-
-    fn name() -> &'static str {
-        "NonZeroU8"
-    }
-
-    fn align() -> usize {
-        1
-    }
-
-    fn needs_drop() -> bool {
-        false
-    }
-
-    fn size() -> Option<usize> {
-        Some(1)
+    fn layout() -> Layout {
+        Layout::new("NonZeroU8", 1, 1, false)
     }
 }
 
 impl Described for NonZeroU16 {
-    ghost name = { codes "NonZeroU16" };
+    ghost layout = { declared (codes "NonZeroU16") 2 2 false };
 
-    ghost align = { 2 };
-
-    ghost needs_drop = { false };
-
-    ghost size = { Some 2 };
-
-    fn name() -> &'static str {
-        "NonZeroU16"
-    }
-
-    fn align() -> usize {
-        2
-    }
-
-    fn needs_drop() -> bool {
-        false
-    }
-
-    fn size() -> Option<usize> {
-        Some(2)
+    fn layout() -> Layout {
+        Layout::new("NonZeroU16", 2, 2, false)
     }
 }
 
 impl Described for NonZeroU32 {
-    ghost name = { codes "NonZeroU32" };
+    ghost layout = { declared (codes "NonZeroU32") 4 4 false };
 
-    ghost align = { 4 };
-
-    ghost needs_drop = { false };
-
-    ghost size = { Some 4 };
-
-    fn name() -> &'static str {
-        "NonZeroU32"
-    }
-
-    fn align() -> usize {
-        4
-    }
-
-    fn needs_drop() -> bool {
-        false
-    }
-
-    fn size() -> Option<usize> {
-        Some(4)
+    fn layout() -> Layout {
+        Layout::new("NonZeroU32", 4, 4, false)
     }
 }
 
 impl Described for NonZeroU64 {
-    ghost name = { codes "NonZeroU64" };
+    ghost layout = { declared (codes "NonZeroU64") 8 8 false };
 
-    ghost align = { 8 };
-
-    ghost needs_drop = { false };
-
-    ghost size = { Some 8 };
-
-    fn name() -> &'static str {
-        "NonZeroU64"
-    }
-
-    fn align() -> usize {
-        8
-    }
-
-    fn needs_drop() -> bool {
-        false
-    }
-
-    fn size() -> Option<usize> {
-        Some(8)
+    fn layout() -> Layout {
+        Layout::new("NonZeroU64", 8, 8, false)
     }
 }
 
 impl Described for NonZeroUsize {
-    ghost name = { codes "NonZeroUsize" };
+    ghost layout = { declared (codes "NonZeroUsize") 8 8 false };
 
-    ghost align = { 8 };
-
-    ghost needs_drop = { false };
-
-    ghost size = { Some 8 };
-
-    fn name() -> &'static str {
-        "NonZeroUsize"
-    }
-
-    fn align() -> usize {
-        8
-    }
-
-    fn needs_drop() -> bool {
-        false
-    }
-
-    fn size() -> Option<usize> {
-        Some(8)
+    fn layout() -> Layout {
+        Layout::new("NonZeroUsize", 8, 8, false)
     }
 }
 
 impl Described for NonZeroI8 {
-    ghost name = { codes "NonZeroI8" };
+    ghost layout = { declared (codes "NonZeroI8") 1 1 false };
 
-    ghost align = { 1 };
-
-    ghost needs_drop = { false };
-
-    ghost size = { Some 1 };
-
-    fn name() -> &'static str {
-        "NonZeroI8"
-    }
-
-    fn align() -> usize {
-        1
-    }
-
-    fn needs_drop() -> bool {
-        false
-    }
-
-    fn size() -> Option<usize> {
-        Some(1)
+    fn layout() -> Layout {
+        Layout::new("NonZeroI8", 1, 1, false)
     }
 }
 
 impl Described for NonZeroI16 {
-    ghost name = { codes "NonZeroI16" };
+    ghost layout = { declared (codes "NonZeroI16") 2 2 false };
 
-    ghost align = { 2 };
-
-    ghost needs_drop = { false };
-
-    ghost size = { Some 2 };
-
-    fn name() -> &'static str {
-        "NonZeroI16"
-    }
-
-    fn align() -> usize {
-        2
-    }
-
-    fn needs_drop() -> bool {
-        false
-    }
-
-    fn size() -> Option<usize> {
-        Some(2)
+    fn layout() -> Layout {
+        Layout::new("NonZeroI16", 2, 2, false)
     }
 }
 
 impl Described for NonZeroI32 {
-    ghost name = { codes "NonZeroI32" };
+    ghost layout = { declared (codes "NonZeroI32") 4 4 false };
 
-    ghost align = { 4 };
-
-    ghost needs_drop = { false };
-
-    ghost size = { Some 4 };
-
-    fn name() -> &'static str {
-        "NonZeroI32"
-    }
-
-    fn align() -> usize {
-        4
-    }
-
-    fn needs_drop() -> bool {
-        false
-    }
-
-    fn size() -> Option<usize> {
-        Some(4)
+    fn layout() -> Layout {
+        Layout::new("NonZeroI32", 4, 4, false)
     }
 }
 
 impl Described for NonZeroI64 {
-    ghost name = { codes "NonZeroI64" };
+    ghost layout = { declared (codes "NonZeroI64") 8 8 false };
 
-    ghost align = { 8 };
-
-    ghost needs_drop = { false };
-
-    ghost size = { Some 8 };
-
-    fn name() -> &'static str {
-        "NonZeroI64"
-    }
-
-    fn align() -> usize {
-        8
-    }
-
-    fn needs_drop() -> bool {
-        false
-    }
-
-    fn size() -> Option<usize> {
-        Some(8)
+    fn layout() -> Layout {
+        Layout::new("NonZeroI64", 8, 8, false)
     }
 }
 
 impl Described for NonZeroIsize {
-    ghost name = { codes "NonZeroIsize" };
+    ghost layout = { declared (codes "NonZeroIsize") 8 8 false };
 
-    ghost align = { 8 };
-
-    ghost needs_drop = { false };
-
-    ghost size = { Some 8 };
-
-    fn name() -> &'static str {
-        "NonZeroIsize"
-    }
-
-    fn align() -> usize {
-        8
-    }
-
-    fn needs_drop() -> bool {
-        false
-    }
-
-    fn size() -> Option<usize> {
-        Some(8)
+    fn layout() -> Layout {
+        Layout::new("NonZeroIsize", 8, 8, false)
     }
 }
 
 impl Described for () {
-    ghost name = { codes "()" };
+    ghost layout = { declared (codes "()") 0 1 false };
 
-    ghost align = { 1 };
-
-    ghost needs_drop = { false };
-
-    ghost size = { Some 0 };
-
-    fn name() -> &'static str {
-        "()"
-    }
-
-    fn align() -> usize {
-        1
-    }
-
-    fn needs_drop() -> bool {
-        false
-    }
-
-    fn size() -> Option<usize> {
-        Some(0)
+    fn layout() -> Layout {
+        Layout::new("()", 0, 1, false)
     }
 }

@@ -1,185 +1,152 @@
 //! Tuples and arrays: their parts one after another, those of a tuple rounded up to its alignment.
 
-ghost use Rattle.std.specs.Prelude.{Some, codes, max, ◌||◌};
-ghost use Rattle.allocative_described.specs.Sizes.{size_sum, size_product, size_up};
+ghost use Rattle.std.specs.Prelude.{Some, codes};
+ghost use Rattle.allocative_described.specs.Layouts.{declaration, empty, ◌with◌, pad_to_align};
+ghost use Rattle.allocative_described.specs.Sizes.{size_product};
 
-use crate::described::{Described, size_product, size_sum, size_up};
+use crate::described::Described;
+use crate::layout::{Layout, size_product};
 
 impl<A: Described> Described for (A,) {
-    ghost name = { codes "tuple1" };
+    ghost layout = { pad_to_align (empty (codes "tuple1") with A.layout) };
 
-    ghost align = { A.align };
-
-    ghost needs_drop = { A.needs_drop };
-
-    ghost size = { size_up A.size A.align };
-
-    fn name() -> &'static str {
-        "tuple1"
-    }
-
-    fn align() -> usize {
-        A::align()
-    }
-
-    fn needs_drop() -> bool {
-        A::needs_drop()
-    }
-
-    fn size() -> Option<usize> {
-        size_up(A::size(), Self::align())
+    fn layout() -> Layout {
+        Layout::empty("tuple1").with(A::layout()).pad_to_align()
     }
 }
 
 impl<A: Described, B: Described> Described for (A, B) {
-    ghost name = { codes "tuple2" };
+    ghost layout = { pad_to_align (empty (codes "tuple2") with A.layout with B.layout) };
 
-    ghost align = { max A.align B.align };
-
-    ghost needs_drop = { A.needs_drop || B.needs_drop };
-
-    ghost size = { size_up (size_sum A.size B.size) (max A.align B.align) };
-
-    fn name() -> &'static str {
-        "tuple2"
-    }
-
-    fn align() -> usize {
-        A::align().max(B::align())
-    }
-
-    fn needs_drop() -> bool {
-        A::needs_drop() || B::needs_drop()
-    }
-
-    fn size() -> Option<usize> {
-        let sum = size_sum(A::size(), B::size());
-        size_up(sum, Self::align())
+    fn layout() -> Layout {
+        Layout::empty("tuple2")
+            .with(A::layout())
+            .with(B::layout())
+            .pad_to_align()
     }
 }
 
 impl<A: Described, B: Described, C: Described> Described for (A, B, C) {
-    ghost name = { codes "tuple3" };
+    ghost layout = { pad_to_align (empty (codes "tuple3") with A.layout with B.layout with C.layout) };
 
-    ghost align = { max (max A.align B.align) C.align };
-
-    ghost needs_drop = { A.needs_drop || B.needs_drop || C.needs_drop };
-
-    ghost size = { size_up
-        (size_sum (size_sum A.size B.size) C.size)
-        (max (max A.align B.align) C.align) };
-
-    fn name() -> &'static str {
-        "tuple3"
-    }
-
-    fn align() -> usize {
-        A::align().max(B::align()).max(C::align())
-    }
-
-    fn needs_drop() -> bool {
-        A::needs_drop() || B::needs_drop() || C::needs_drop()
-    }
-
-    fn size() -> Option<usize> {
-        let sum = size_sum(A::size(), B::size());
-        let sum = size_sum(sum, C::size());
-        size_up(sum, Self::align())
+    fn layout() -> Layout {
+        Layout::empty("tuple3")
+            .with(A::layout())
+            .with(B::layout())
+            .with(C::layout())
+            .pad_to_align()
     }
 }
 
 impl<A: Described, B: Described, C: Described, D: Described> Described for (A, B, C, D) {
-    ghost name = { codes "tuple4" };
+    ghost layout = { pad_to_align (empty (codes "tuple4") with A.layout with B.layout with C.layout with D.layout) };
 
-    ghost align = { max (max (max A.align B.align) C.align) D.align };
-
-    ghost needs_drop = { A.needs_drop || B.needs_drop || C.needs_drop || D.needs_drop };
-
-    ghost size = { size_up
-        (size_sum (size_sum (size_sum A.size B.size) C.size) D.size)
-        (max (max (max A.align B.align) C.align) D.align) };
-
-    fn name() -> &'static str {
-        "tuple4"
-    }
-
-    fn align() -> usize {
-        A::align().max(B::align()).max(C::align()).max(D::align())
-    }
-
-    fn needs_drop() -> bool {
-        A::needs_drop() || B::needs_drop() || C::needs_drop() || D::needs_drop()
-    }
-
-    fn size() -> Option<usize> {
-        let sum = size_sum(A::size(), B::size());
-        let sum = size_sum(sum, C::size());
-        let sum = size_sum(sum, D::size());
-        size_up(sum, Self::align())
+    fn layout() -> Layout {
+        Layout::empty("tuple4")
+            .with(A::layout())
+            .with(B::layout())
+            .with(C::layout())
+            .with(D::layout())
+            .pad_to_align()
     }
 }
 
 impl<A: Described, B: Described, C: Described, D: Described, E: Described> Described
     for (A, B, C, D, E) {
-    ghost name = { codes "tuple5" };
+    ghost layout = { pad_to_align (empty (codes "tuple5") with A.layout with B.layout with C.layout with D.layout
+        with E.layout) };
 
-    ghost align = { max (max (max (max A.align B.align) C.align) D.align) E.align };
-
-    ghost needs_drop = { A.needs_drop || B.needs_drop || C.needs_drop || D.needs_drop
-        || E.needs_drop };
-
-    ghost size = { size_up
-        (size_sum (size_sum (size_sum (size_sum A.size B.size) C.size) D.size) E.size)
-        (max (max (max (max A.align B.align) C.align) D.align) E.align) };
-
-    fn name() -> &'static str {
-        "tuple5"
+    fn layout() -> Layout {
+        Layout::empty("tuple5")
+            .with(A::layout())
+            .with(B::layout())
+            .with(C::layout())
+            .with(D::layout())
+            .with(E::layout())
+            .pad_to_align()
     }
+}
 
-    fn align() -> usize {
-        A::align()
-            .max(B::align())
-            .max(C::align())
-            .max(D::align())
-            .max(E::align())
+impl<A: Described, B: Described, C: Described, D: Described, E: Described, F: Described> Described
+    for (A, B, C, D, E, F) {
+    ghost layout = { pad_to_align (empty (codes "tuple6") with A.layout with B.layout with C.layout with D.layout
+        with E.layout with F.layout) };
+
+    fn layout() -> Layout {
+        Layout::empty("tuple6")
+            .with(A::layout())
+            .with(B::layout())
+            .with(C::layout())
+            .with(D::layout())
+            .with(E::layout())
+            .with(F::layout())
+            .pad_to_align()
     }
+}
 
-    fn needs_drop() -> bool {
-        A::needs_drop() || B::needs_drop() || C::needs_drop() || D::needs_drop() || E::needs_drop()
+impl<
+    A: Described,
+    B: Described,
+    C: Described,
+    D: Described,
+    E: Described,
+    F: Described,
+    G: Described,
+> Described for (A, B, C, D, E, F, G) {
+    ghost layout = { pad_to_align (empty (codes "tuple7") with A.layout with B.layout with C.layout with D.layout
+        with E.layout with F.layout with G.layout) };
+
+    fn layout() -> Layout {
+        Layout::empty("tuple7")
+            .with(A::layout())
+            .with(B::layout())
+            .with(C::layout())
+            .with(D::layout())
+            .with(E::layout())
+            .with(F::layout())
+            .with(G::layout())
+            .pad_to_align()
     }
+}
 
-    fn size() -> Option<usize> {
-        let sum = size_sum(A::size(), B::size());
-        let sum = size_sum(sum, C::size());
-        let sum = size_sum(sum, D::size());
-        let sum = size_sum(sum, E::size());
-        size_up(sum, Self::align())
+impl<
+    A: Described,
+    B: Described,
+    C: Described,
+    D: Described,
+    E: Described,
+    F: Described,
+    G: Described,
+    H: Described,
+> Described for (A, B, C, D, E, F, G, H) {
+    ghost layout = { pad_to_align (empty (codes "tuple8") with A.layout with B.layout with C.layout with D.layout
+        with E.layout with F.layout with G.layout with H.layout) };
+
+    fn layout() -> Layout {
+        Layout::empty("tuple8")
+            .with(A::layout())
+            .with(B::layout())
+            .with(C::layout())
+            .with(D::layout())
+            .with(E::layout())
+            .with(F::layout())
+            .with(G::layout())
+            .with(H::layout())
+            .pad_to_align()
     }
 }
 
 // N items, one after another.
 impl<T: Described, const N: usize> Described for [T; N] {
-    ghost name = { codes "array" };
+    ghost layout = { declaration (codes "array") (size_product (Some N) T.layout.size) T.layout.align
+        T.layout.needs_drop };
 
-    ghost align = { T.align };
-
-    ghost needs_drop = { T.needs_drop };
-
-    ghost size = { size_product (Some N) T.size };
-
-    fn name() -> &'static str {
-        "array"
-    }
-
-    fn align() -> usize {
-        T::align()
-    }
-
-    fn needs_drop() -> bool {
-        T::needs_drop()
-    }
-
-    fn size() -> Option<usize> {
-        size_product(Some(N), T::size())
+    fn layout() -> Layout {
+        let item = T::layout();
+        Layout {
+            name: "array",
+            size: size_product(Some(N), item.size),
+            ..item
+        }
     }
 }

@@ -1,35 +1,18 @@
 //! What a flame graph declares about itself, and the number of its paths.
 ghost use Rattle.std.specs.Prelude.{◌^◌, ◌<◌, Some, true, codes};
+ghost use Rattle.allocative_described.specs.Layouts.{declared};
 ghost use Rattle.std.specs.FinMap.{len};
 ghost use Rattle.std.specs.Option.{SomeIff};
 
 use crate::flamegraph::FlameGraph;
-use allocative_described::Described;
+use allocative_described::{Described, Layout};
 
 // The node of the root: its children, the sum of their bytes, and its own bytes.
 impl Described for FlameGraph {
-    ghost name = { codes "FlameGraph" };
+    ghost layout = { declared (codes "FlameGraph") 40 8 true };
 
-    ghost align = { 8 };
-
-    ghost needs_drop = { true };
-
-    ghost size = { Some 40 };
-
-    fn name() -> &'static str {
-        "FlameGraph"
-    }
-
-    fn align() -> usize {
-        8
-    }
-
-    fn needs_drop() -> bool {
-        true
-    }
-
-    fn size() -> Option<usize> {
-        Some(40)
+    fn layout() -> Layout {
+        Layout::new("FlameGraph", 40, 8, true)
     }
 }
 

@@ -1,9 +1,10 @@
 //! Values shared between threads.
 ghost use Rattle.std.specs.Prelude.{◌≡◌, IfOk, IfErr, Some, true, codes};
+ghost use Rattle.allocative_described.specs.Layouts.{declared};
 
 use super::Identity;
 use crate::refusal::Refusal;
-use allocative_described::Described;
+use allocative_described::{Described, Layout};
 use std::alloc::{AllocError, Global};
 use std::marker::Model;
 use std::sync::Arc;
@@ -62,27 +63,9 @@ impl<T: Drop> Clone for IdArc<T> {
 }
 
 impl<T: Drop> Described for IdArc<T> {
-    ghost name = { codes "Arc" };
+    ghost layout = { declared (codes "Arc") 8 8 true };
 
-    ghost align = { 8 };
-
-    ghost needs_drop = { true };
-
-    ghost size = { Some 8 };
-
-    fn name() -> &'static str {
-        "Arc"
-    }
-
-    fn align() -> usize {
-        8
-    }
-
-    fn needs_drop() -> bool {
-        true
-    }
-
-    fn size() -> Option<usize> {
-        Some(8)
+    fn layout() -> Layout {
+        Layout::new("Arc", 8, 8, true)
     }
 }

@@ -1,9 +1,10 @@
 //! Values shared within one thread.
 ghost use Rattle.std.specs.Prelude.{◌≡◌, IfOk, IfErr, Some, true, codes};
+ghost use Rattle.allocative_described.specs.Layouts.{declared};
 
 use super::Identity;
 use crate::refusal::Refusal;
-use allocative_described::Described;
+use allocative_described::{Described, Layout};
 use std::alloc::{AllocError, Global};
 use std::marker::Model;
 use std::rc::Rc;
@@ -62,27 +63,9 @@ impl<T: Drop> Clone for IdRc<T> {
 }
 
 impl<T: Drop> Described for IdRc<T> {
-    ghost name = { codes "Rc" };
+    ghost layout = { declared (codes "Rc") 8 8 true };
 
-    ghost align = { 8 };
-
-    ghost needs_drop = { true };
-
-    ghost size = { Some 8 };
-
-    fn name() -> &'static str {
-        "Rc"
-    }
-
-    fn align() -> usize {
-        8
-    }
-
-    fn needs_drop() -> bool {
-        true
-    }
-
-    fn size() -> Option<usize> {
-        Some(8)
+    fn layout() -> Layout {
+        Layout::new("Rc", 8, 8, true)
     }
 }

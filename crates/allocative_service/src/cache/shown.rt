@@ -2,45 +2,30 @@
 #![tactic(auto, using(allocative::proofs::Parts::parts))]
 
 ghost use Rattle.std.specs.Prelude.{codes, ◌&&◌};
+ghost use Rattle.allocative.specs.Layouts.{empty, ◌with◌, pad_to_align};
 ghost use Rattle.allocative.specs.Shows as shows;
 ghost use Rattle.allocative.specs.PackShows.{lru_cache_inside};
 
 use crate::cache::{BoundedCache, Kept};
-use allocative::{Allocative, Described, Field, Part, Record, Refusal, Visitor, Whole};
+use allocative::{Allocative, Described, Field, Layout, Part, Refusal, Visitor, Whole};
 use lru::LruCache;
 use std::hash::{BuildHasher, Hash};
 
-type KeptLayout<V> = Record<(V, (usize, ()))>;
-
 impl<V: Allocative + Described> Described for Kept<V> {
-    ghost name = { codes "Kept" };
+    ghost layout = { pad_to_align (empty (codes "Kept") with ⟦<V as Described>⟧.layout
+        with ⟦<usize as Described>⟧.layout) };
 
-    ghost align = { ⟦<KeptLayout<V> as Described>⟧.align };
-
-    ghost needs_drop = { ⟦<KeptLayout<V> as Described>⟧.needs_drop };
-
-    ghost size = { ⟦<KeptLayout<V> as Described>⟧.size };
-
-    fn name() -> &'static str {
-        "Kept"
-    }
-
-    fn align() -> usize {
-        <KeptLayout<V>>::align()
-    }
-
-    fn needs_drop() -> bool {
-        <KeptLayout<V>>::needs_drop()
-    }
-
-    fn size() -> Option<usize> {
-        <KeptLayout<V>>::size()
+    fn layout() -> Layout {
+        Layout::empty("Kept")
+            .with(V::layout())
+            .with(usize::layout())
+            .pad_to_align()
     }
 }
 
 impl<V: Allocative + Described> Allocative for Kept<V> {
-    ghost may_show = { λ k. shows.Field (codes "Kept") ⟦<KeptLayout<V> as Described>⟧.size
-        (shows.Field (codes "value") V.size (V.may_show k.value)) };
+    ghost may_show = { λ k. shows.Field (codes "Kept") ⟦<Kept<V> as Described>⟧.layout.size
+        (shows.Field (codes "value") V.layout.size (V.may_show k.value)) };
 
     ghost is_strict = { V.is_strict };
 
@@ -51,32 +36,19 @@ impl<V: Allocative + Described> Allocative for Kept<V> {
 }
 
 // The measure is a byte, and the allocator has no size.
-type CacheLayout<K, V, S> = Record<(u8, (LruCache<K, Kept<V>, S>, (usize, (usize, ()))))>;
-
 impl<K: Eq + Hash, V: Allocative + Described, S: BuildHasher + Described> Described
     for BoundedCache<K, V, S> {
-    ghost name = { codes "BoundedCache" };
+    ghost layout = { pad_to_align (empty (codes "BoundedCache") with ⟦<u8 as Described>⟧.layout
+        with ⟦<LruCache<K, Kept<V>, S> as Described>⟧.layout with ⟦<usize as Described>⟧.layout
+        with ⟦<usize as Described>⟧.layout) };
 
-    ghost align = { ⟦<CacheLayout<K, V, S> as Described>⟧.align };
-
-    ghost needs_drop = { ⟦<CacheLayout<K, V, S> as Described>⟧.needs_drop };
-
-    ghost size = { ⟦<CacheLayout<K, V, S> as Described>⟧.size };
-
-    fn name() -> &'static str {
-        "BoundedCache"
-    }
-
-    fn align() -> usize {
-        <CacheLayout<K, V, S>>::align()
-    }
-
-    fn needs_drop() -> bool {
-        <CacheLayout<K, V, S>>::needs_drop()
-    }
-
-    fn size() -> Option<usize> {
-        <CacheLayout<K, V, S>>::size()
+    fn layout() -> Layout {
+        Layout::empty("BoundedCache")
+            .with(u8::layout())
+            .with(<LruCache<K, Kept<V>, S>>::layout())
+            .with(usize::layout())
+            .with(usize::layout())
+            .pad_to_align()
     }
 }
 
@@ -85,10 +57,10 @@ impl<
     V: Allocative + Described,
     S: BuildHasher + Described + Drop,
 > Allocative for BoundedCache<K, V, S> {
-    ghost may_show = { λ c. shows.Field (codes "BoundedCache") ⟦<CacheLayout<K, V, S> as Described>⟧.size
-        (shows.Field (codes "entries") ⟦<LruCache<K, Kept<V>, S> as Described>⟧.size
-        (shows.Field (codes "LruCache") ⟦<LruCache<K, Kept<V>, S> as Described>⟧.size
-        (lru_cache_inside K.size K.may_show ⟦<Kept<V> as Described>⟧.size ⟦<Kept<V> as Allocative>⟧.may_show
+    ghost may_show = { λ c. shows.Field (codes "BoundedCache") ⟦<BoundedCache<K, V, S> as Described>⟧.layout.size
+        (shows.Field (codes "entries") ⟦<LruCache<K, Kept<V>, S> as Described>⟧.layout.size
+        (shows.Field (codes "LruCache") ⟦<LruCache<K, Kept<V>, S> as Described>⟧.layout.size
+        (lru_cache_inside K.layout.size K.may_show ⟦<Kept<V> as Described>⟧.layout.size ⟦<Kept<V> as Allocative>⟧.may_show
         c.entries))) };
 
     ghost is_strict = { K.is_strict && V.is_strict };

@@ -1,7 +1,7 @@
 //! The differences between two profiles, path by path.
 ghost use Rattle.std.specs.Prelude.{◌≡◌, ◌+◌, ◌-◌, ◌↔◌, cond, filter, IfOk, IsErrOf};
 ghost use Rattle.allocative.specs.Graph.{ExceedWord};
-ghost use Rattle.allocative_service.specs.Changes.{change_data, data_of, kind_of, growth, rank, shrinkage, changes_of, is_grown, GrewMost, HasEach, IsByGrowth};
+ghost use Rattle.allocative_service.specs.Changes.{change_data, data_of, growth, rank, shrinkage, changes_of, is_grown, GrewMost, HasEach, IsByGrowth};
 
 use crate::history::walk::push_changes;
 use allocative::{FlameGraph, Refusal};
@@ -18,35 +18,7 @@ pub struct Change {
     pub later: usize,
 }
 
-/// How a path changed.
-#[derive(Clone, Copy, Debug, PartialEq, Eq)]
-pub enum ChangeKind {
-    /// It had no bytes before.
-    Came,
-    /// It had bytes, and has none after.
-    Went,
-    /// It had bytes, and has more after.
-    Grew,
-    /// It has bytes, and had at least as many before. In a change of a history it had more.
-    Shrank,
-}
-
 impl Change {
-    /// The kind of the change.
-    pub fn kind(&self) -> ChangeKind
-        ensures { result ≡ kind_of (change_data self.now) }
-    {
-        if self.earlier == 0 {
-            ChangeKind::Came
-        } else if self.later == 0 {
-            ChangeKind::Went
-        } else if self.earlier < self.later {
-            ChangeKind::Grew
-        } else {
-            ChangeKind::Shrank
-        }
-    }
-
     /// A copy of the change. The only error is that memory runs out.
     pub fn copy(&self) -> Result<Change, AllocError>
         ensures { IfOk result (λ change. change_data change ≡ change_data self.now) }

@@ -2,43 +2,28 @@
 #![tactic(auto, using(allocative::proofs::Parts::parts))]
 
 ghost use Rattle.std.specs.Prelude.{codes, true};
+ghost use Rattle.allocative.specs.Layouts.{empty, ◌with◌, pad_to_align};
 ghost use Rattle.allocative.specs.Shows as shows;
 
 use crate::history::History;
-use allocative::{Allocative, Described, Field, FlameGraph, Part, Record, Refusal, Visitor, Whole};
+use allocative::{Allocative, Described, Field, FlameGraph, Layout, Part, Refusal, Visitor, Whole};
 use std::collections::VecDeque;
 
-type HistoryLayout = Record<(VecDeque<FlameGraph>, (usize, ()))>;
-
 impl Described for History {
-    ghost name = { codes "History" };
+    ghost layout = { pad_to_align (empty (codes "History") with ⟦<VecDeque<FlameGraph> as Described>⟧.layout
+        with ⟦<usize as Described>⟧.layout) };
 
-    ghost align = { ⟦<HistoryLayout as Described>⟧.align };
-
-    ghost needs_drop = { ⟦<HistoryLayout as Described>⟧.needs_drop };
-
-    ghost size = { ⟦<HistoryLayout as Described>⟧.size };
-
-    fn name() -> &'static str {
-        "History"
-    }
-
-    fn align() -> usize {
-        <HistoryLayout>::align()
-    }
-
-    fn needs_drop() -> bool {
-        <HistoryLayout>::needs_drop()
-    }
-
-    fn size() -> Option<usize> {
-        <HistoryLayout>::size()
+    fn layout() -> Layout {
+        Layout::empty("History")
+            .with(<VecDeque<FlameGraph>>::layout())
+            .with(usize::layout())
+            .pad_to_align()
     }
 }
 
 impl Allocative for History {
-    ghost may_show = { λ h. shows.Field (codes "History") ⟦<HistoryLayout as Described>⟧.size
-        (shows.Field (codes "profiles") ⟦<VecDeque<FlameGraph> as Described>⟧.size
+    ghost may_show = { λ h. shows.Field (codes "History") ⟦<History as Described>⟧.layout.size
+        (shows.Field (codes "profiles") ⟦<VecDeque<FlameGraph> as Described>⟧.layout.size
         (⟦<VecDeque<FlameGraph> as Allocative>⟧.may_show h.profiles)) };
 
     ghost is_strict = { true };

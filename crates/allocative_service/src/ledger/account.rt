@@ -1,7 +1,7 @@
 //! The bytes of one tenant's entries, and their limit.
-ghost use Rattle.std.specs.Prelude.{◌≡◌, ℕ, ◌+◌, ◌-◌, ◌^◌, ◌<◌, ◌≤◌, ◌↔◌, [], Some, None, Ok, MatchOption, IsSome, IsTrue, IfOk, IfErr, IfNone, OnOk, OnErr, unwrap_or};
+ghost use Rattle.std.specs.Prelude.{◌≡◌, ℕ, ◌+◌, ◌-◌, ◌^◌, ◌<◌, ◌≤◌, ◌↔◌, [], Some, None, Ok, MatchOption, IsTrue, IfOk, IfErr, IfNone, OnOk, OnErr, unwrap_or};
 ghost use Rattle.allocative_service.specs.AccountData.{IsLargest, IsSummed, bytes_at, most_of, new_account, sum_of, with_limit, with_peak_reset, with_soft_limit, without, Puts};
-ghost use Rattle.allocative_service.specs.Rejected.{HasRoom, RejectsAdded, RejectsBy, RejectsChange, RejectsLimit, RejectsNew, RejectsRoom};
+ghost use Rattle.allocative_service.specs.Rejected.{HasRoom, RejectsBy, RejectsLimit};
 
 use crate::ledger::budget::Budget;
 use crate::ledger::rejection::Rejection;
@@ -150,73 +150,6 @@ impl Account {
             }
         }
         largest
-    }
-
-    /// Checks that the number has no entry. The error is `Taken` exactly if it has one.
-    pub fn check_free(&self, number: u64) -> Result<(), Rejection>
-        ensures free { OnOk result (bytes_at number self.now ≡ None) }
-        ensures taken { IfErr result
-            (λ r. (r ≡ Rejection.Taken number) × IsSome (bytes_at number self.now)) }
-    {
-        if self.entries.contains_key(&number) {
-            return Err(Rejection::Taken { number });
-        }
-        Ok(())
-    }
-
-    /// The bytes of the entry under the number. The error is `NotThere` exactly if it has none.
-    pub fn entry(&self, number: u64) -> Result<usize, Rejection>
-        ensures found { IfOk result (λ bytes. bytes_at number self.now ≡ Some bytes) }
-        ensures part { IfOk result (λ bytes. bytes ≤ sum_of self.now.entries) }
-        ensures missing { IfErr result
-            (λ r. (r ≡ Rejection.NotThere number) × (bytes_at number self.now ≡ None)) }
-        ensures within { sum_of self.now.entries ≤ most_of self.now }
-    {
-        match self.entries.get(&number) {
-            Some(bytes) => Ok(*bytes),
-            None => Err(Rejection::NotThere { number }),
-        }
-    }
-
-    /// Adds an entry with these bytes under a number that has none. It returns the bytes of all entries together.
-    ///
-    /// It returns an error
-    /// - `Taken` if the number has an entry,
-    /// - otherwise `TooLarge` if the bytes of all entries together do not fit a word,
-    /// - otherwise `OverBudget` if they exceed the limit,
-    /// - otherwise `NotKept` if memory runs out.
-    ///
-    /// After an error the account is unchanged.
-    pub fn enter(&mut self, number: u64, bytes: usize) -> Result<usize, Rejection>
-        ensures entered { IfOk result (Puts number bytes None self.old self.new) }
-        ensures within { IfOk result (λ total. total ≤ self.old.limit) }
-        ensures rejected { IfErr result
-            (RejectsNew number (RejectsAdded (sum_of self.old.entries) (2 ^ 64 - 1) bytes) self.old) }
-        ensures unchanged { OnErr result (self.new ≡ self.old) }
-    {
-        self.put_with(number, self.bytes, Some(usize::MAX), |had| match had {
-            None => Ok(bytes),
-            Some(_) => Err(Rejection::Taken { number }),
-        })
-    }
-
-    /// Replaces the bytes of the entry under a number. It returns the bytes of all entries together.
-    ///
-    /// The error is `NotThere` if the number has no entry, and otherwise `TooLarge` or `OverBudget` as for `enter`. After
-    /// an error the account is unchanged.
-    pub fn change(&mut self, number: u64, bytes: usize) -> Result<usize, Rejection>
-        ensures changed { IfOk result
-            (λ total. (had : ℕ) × Puts number bytes (Some had) self.old self.new total) }
-        ensures within { IfOk result (λ total. total ≤ self.old.limit) }
-        ensures rejected { IfErr result
-            (RejectsChange number (λ had h. RejectsRoom (sum_of h.entries) (Some (2 ^ 64 - 1)) (sum_of h.entries) h.limit
-            had bytes) self.old) }
-        ensures unchanged { OnErr result (self.new ≡ self.old) }
-    {
-        self.put_with(number, self.bytes, Some(usize::MAX), |had| match had {
-            None => Err(Rejection::NotThere { number }),
-            Some(_) => Ok(bytes),
-        })
     }
 
     /// Stores under the number the bytes that `bytes_of` makes of those that it has, if there is room. It returns the

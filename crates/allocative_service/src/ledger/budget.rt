@@ -77,9 +77,9 @@ impl Budget {
         value: &T,
     ) -> Result<usize, Rejection>
         ensures admitted { IfOk result
-            (λ bytes. Declares measure T.size (T.may_show value.now) bytes × (bytes ≤ self.now.limit)) }
+            (λ bytes. Declares measure T.layout.size (T.may_show value.now) bytes × (bytes ≤ self.now.limit)) }
         ensures rejected { IfErr result
-            (RejectsValue measure T.is_strict T.size (T.may_show value.now) self.now.limit) }
+            (RejectsValue measure T.is_strict T.layout.size (T.may_show value.now) self.now.limit) }
     {
         self.check(measure.size_of(alloc, value)?)
     }

@@ -2,53 +2,38 @@
 #![tactic(auto, using(allocative::proofs::Parts::parts))]
 
 ghost use Rattle.std.specs.Prelude.{codes, true};
+ghost use Rattle.allocative.specs.Layouts.{empty, ◌with◌, pad_to_align};
 ghost use Rattle.allocative.specs.Runs.{pair_shows};
 ghost use Rattle.allocative.specs.Shows as shows;
 
 use crate::ledger::{Account, Ledger};
-use allocative::{Allocative, Described, Field, Part, Record, Refusal, Visitor, Whole};
+use allocative::{Allocative, Described, Field, Layout, Part, Refusal, Visitor, Whole};
 use std::collections::BTreeMap;
 
 // The budget is a word.
-type AccountLayout = Record<
-    (
-        BTreeMap<u64, usize>,
-        (usize, (usize, (usize, (usize, (usize, ()))))),
-    ),
->;
-
 impl Described for Account {
-    ghost name = { codes "Account" };
+    ghost layout = { pad_to_align (empty (codes "Account") with ⟦<BTreeMap<u64, usize> as Described>⟧.layout
+        with ⟦<usize as Described>⟧.layout with ⟦<usize as Described>⟧.layout with ⟦<usize as Described>⟧.layout
+        with ⟦<usize as Described>⟧.layout with ⟦<usize as Described>⟧.layout) };
 
-    ghost align = { ⟦<AccountLayout as Described>⟧.align };
-
-    ghost needs_drop = { ⟦<AccountLayout as Described>⟧.needs_drop };
-
-    ghost size = { ⟦<AccountLayout as Described>⟧.size };
-
-    fn name() -> &'static str {
-        "Account"
-    }
-
-    fn align() -> usize {
-        <AccountLayout>::align()
-    }
-
-    fn needs_drop() -> bool {
-        <AccountLayout>::needs_drop()
-    }
-
-    fn size() -> Option<usize> {
-        <AccountLayout>::size()
+    fn layout() -> Layout {
+        Layout::empty("Account")
+            .with(<BTreeMap<u64, usize>>::layout())
+            .with(usize::layout())
+            .with(usize::layout())
+            .with(usize::layout())
+            .with(usize::layout())
+            .with(usize::layout())
+            .pad_to_align()
     }
 }
 
 impl Allocative for Account {
-    ghost may_show = { λ a. shows.Field (codes "Account") ⟦<AccountLayout as Described>⟧.size
-        (shows.Field (codes "entries") ⟦<BTreeMap<u64, usize> as Described>⟧.size
-        (shows.Field (codes "BTreeMap") ⟦<BTreeMap<u64, usize> as Described>⟧.size (shows.Inside (codes "data") 8
-        (shows.each_shows (pair_shows ⟦<u64 as Described>⟧.size ⟦<u64 as Allocative>⟧.may_show
-        ⟦<usize as Described>⟧.size ⟦<usize as Allocative>⟧.may_show) a.entries)))) };
+    ghost may_show = { λ a. shows.Field (codes "Account") ⟦<Account as Described>⟧.layout.size
+        (shows.Field (codes "entries") ⟦<BTreeMap<u64, usize> as Described>⟧.layout.size
+        (shows.Field (codes "BTreeMap") ⟦<BTreeMap<u64, usize> as Described>⟧.layout.size (shows.Inside (codes "data") 8
+        (shows.each_shows (pair_shows ⟦<u64 as Described>⟧.layout.size ⟦<u64 as Allocative>⟧.may_show
+        ⟦<usize as Described>⟧.layout.size ⟦<usize as Allocative>⟧.may_show) a.entries)))) };
 
     ghost is_strict = { true };
 
@@ -59,42 +44,25 @@ impl Allocative for Account {
 }
 
 // The measure is a byte, and the allocator has no size.
-type LedgerLayout = Record<
-    (
-        u8,
-        (BTreeMap<String, Account>, (usize, (usize, (usize, ())))),
-    ),
->;
-
 impl Described for Ledger {
-    ghost name = { codes "Ledger" };
+    ghost layout = { pad_to_align (empty (codes "Ledger") with ⟦<u8 as Described>⟧.layout
+        with ⟦<BTreeMap<String, Account> as Described>⟧.layout with ⟦<usize as Described>⟧.layout
+        with ⟦<usize as Described>⟧.layout with ⟦<usize as Described>⟧.layout) };
 
-    ghost align = { ⟦<LedgerLayout as Described>⟧.align };
-
-    ghost needs_drop = { ⟦<LedgerLayout as Described>⟧.needs_drop };
-
-    ghost size = { ⟦<LedgerLayout as Described>⟧.size };
-
-    fn name() -> &'static str {
-        "Ledger"
-    }
-
-    fn align() -> usize {
-        <LedgerLayout>::align()
-    }
-
-    fn needs_drop() -> bool {
-        <LedgerLayout>::needs_drop()
-    }
-
-    fn size() -> Option<usize> {
-        <LedgerLayout>::size()
+    fn layout() -> Layout {
+        Layout::empty("Ledger")
+            .with(u8::layout())
+            .with(<BTreeMap<String, Account>>::layout())
+            .with(usize::layout())
+            .with(usize::layout())
+            .with(usize::layout())
+            .pad_to_align()
     }
 }
 
 impl Allocative for Ledger {
-    ghost may_show = { λ l. shows.Field (codes "Ledger") ⟦<LedgerLayout as Described>⟧.size
-        (shows.Field (codes "accounts") ⟦<BTreeMap<String, Account> as Described>⟧.size
+    ghost may_show = { λ l. shows.Field (codes "Ledger") ⟦<Ledger as Described>⟧.layout.size
+        (shows.Field (codes "accounts") ⟦<BTreeMap<String, Account> as Described>⟧.layout.size
         (⟦<BTreeMap<String, Account> as Allocative>⟧.may_show l.accounts)) };
 
     ghost is_strict = { true };

@@ -3,43 +3,29 @@
 
 ghost use Rattle.std.specs.Prelude.{codes, true};
 ghost use Rattle.allocative.specs.Shows as shows;
+ghost use Rattle.allocative.specs.Layouts.{empty, pad_to_align, ◌with◌};
 
 use super::*;
-use allocative::{Allocative, Described, Field, Part, Record, Refusal, Visitor, Whole};
-
-type NoteLayout = Record<(String, (u64, (String, ())))>;
+use allocative::{Allocative, Described, Field, Layout, Part, Refusal, Visitor, Whole};
 
 impl Described for Note {
-    ghost name = { codes "Note" };
+    ghost layout = { pad_to_align (empty (codes "Note") with ⟦<String as Described>⟧.layout
+        with ⟦<u64 as Described>⟧.layout with ⟦<String as Described>⟧.layout) };
 
-    ghost align = { ⟦<NoteLayout as Described>⟧.align };
-
-    ghost needs_drop = { ⟦<NoteLayout as Described>⟧.needs_drop };
-
-    ghost size = { ⟦<NoteLayout as Described>⟧.size };
-
-    fn name() -> &'static str {
-        "Note"
-    }
-
-    fn align() -> usize {
-        <NoteLayout>::align()
-    }
-
-    fn needs_drop() -> bool {
-        <NoteLayout>::needs_drop()
-    }
-
-    fn size() -> Option<usize> {
-        <NoteLayout>::size()
+    fn layout() -> Layout {
+        Layout::empty("Note")
+            .with(String::layout())
+            .with(u64::layout())
+            .with(String::layout())
+            .pad_to_align()
     }
 }
 
 impl Allocative for Note {
-    ghost may_show = { λ x. shows.Field (codes "Note") ⟦<NoteLayout as Described>⟧.size (shows.Both
-        (shows.Field (codes "tenant") ⟦<String as Described>⟧.size (⟦<String as Allocative>⟧.may_show x.tenant)) (shows.Both
-        (shows.Field (codes "key") ⟦<u64 as Described>⟧.size (⟦<u64 as Allocative>⟧.may_show x.key))
-        (shows.Field (codes "text") ⟦<String as Described>⟧.size (⟦<String as Allocative>⟧.may_show x.text)))) };
+    ghost may_show = { λ x. shows.Field (codes "Note") ⟦<Note as Described>⟧.layout.size (shows.Both
+        (shows.Field (codes "tenant") ⟦<String as Described>⟧.layout.size (⟦<String as Allocative>⟧.may_show x.tenant)) (shows.Both
+        (shows.Field (codes "key") ⟦<u64 as Described>⟧.layout.size (⟦<u64 as Allocative>⟧.may_show x.key))
+        (shows.Field (codes "text") ⟦<String as Described>⟧.layout.size (⟦<String as Allocative>⟧.may_show x.text)))) };
 
     ghost is_strict = { true };
 
@@ -51,40 +37,27 @@ impl Allocative for Note {
     }
 }
 
-type OrderLayout = Record<(String, (u64, (IdRc<Vec<String>>, (Vec<usize>, ()))))>;
-
 impl Described for Order {
-    ghost name = { codes "Order" };
+    ghost layout = { pad_to_align (empty (codes "Order") with ⟦<String as Described>⟧.layout
+        with ⟦<u64 as Described>⟧.layout with ⟦<IdRc<Vec<String>> as Described>⟧.layout
+        with ⟦<Vec<usize> as Described>⟧.layout) };
 
-    ghost align = { ⟦<OrderLayout as Described>⟧.align };
-
-    ghost needs_drop = { ⟦<OrderLayout as Described>⟧.needs_drop };
-
-    ghost size = { ⟦<OrderLayout as Described>⟧.size };
-
-    fn name() -> &'static str {
-        "Order"
-    }
-
-    fn align() -> usize {
-        <OrderLayout>::align()
-    }
-
-    fn needs_drop() -> bool {
-        <OrderLayout>::needs_drop()
-    }
-
-    fn size() -> Option<usize> {
-        <OrderLayout>::size()
+    fn layout() -> Layout {
+        Layout::empty("Order")
+            .with(String::layout())
+            .with(u64::layout())
+            .with(<IdRc<Vec<String>>>::layout())
+            .with(<Vec<usize>>::layout())
+            .pad_to_align()
     }
 }
 
 impl Allocative for Order {
-    ghost may_show = { λ x. shows.Field (codes "Order") ⟦<OrderLayout as Described>⟧.size (shows.Both
-        (shows.Field (codes "tenant") ⟦<String as Described>⟧.size (⟦<String as Allocative>⟧.may_show x.tenant)) (shows.Both
-        (shows.Field (codes "key") ⟦<u64 as Described>⟧.size (⟦<u64 as Allocative>⟧.may_show x.key)) (shows.Both
-        (shows.Field (codes "catalogue") ⟦<IdRc<Vec<String>> as Described>⟧.size (⟦<IdRc<Vec<String>> as Allocative>⟧.may_show x.catalogue))
-        (shows.Field (codes "items") ⟦<Vec<usize> as Described>⟧.size (⟦<Vec<usize> as Allocative>⟧.may_show x.items))))) };
+    ghost may_show = { λ x. shows.Field (codes "Order") ⟦<Order as Described>⟧.layout.size (shows.Both
+        (shows.Field (codes "tenant") ⟦<String as Described>⟧.layout.size (⟦<String as Allocative>⟧.may_show x.tenant)) (shows.Both
+        (shows.Field (codes "key") ⟦<u64 as Described>⟧.layout.size (⟦<u64 as Allocative>⟧.may_show x.key)) (shows.Both
+        (shows.Field (codes "catalogue") ⟦<IdRc<Vec<String>> as Described>⟧.layout.size (⟦<IdRc<Vec<String>> as Allocative>⟧.may_show x.catalogue))
+        (shows.Field (codes "items") ⟦<Vec<usize> as Described>⟧.layout.size (⟦<Vec<usize> as Allocative>⟧.may_show x.items))))) };
 
     ghost is_strict = { true };
 
@@ -97,39 +70,24 @@ impl Allocative for Order {
     }
 }
 
-type HeldLayout = Record<(IdRc<Vec<String>>, (Vec<Note>, (Vec<Order>, ())))>;
-
 impl Described for Held {
-    ghost name = { codes "Held" };
+    ghost layout = { pad_to_align (empty (codes "Held") with ⟦<IdRc<Vec<String>> as Described>⟧.layout
+        with ⟦<Vec<Note> as Described>⟧.layout with ⟦<Vec<Order> as Described>⟧.layout) };
 
-    ghost align = { ⟦<HeldLayout as Described>⟧.align };
-
-    ghost needs_drop = { ⟦<HeldLayout as Described>⟧.needs_drop };
-
-    ghost size = { ⟦<HeldLayout as Described>⟧.size };
-
-    fn name() -> &'static str {
-        "Held"
-    }
-
-    fn align() -> usize {
-        <HeldLayout>::align()
-    }
-
-    fn needs_drop() -> bool {
-        <HeldLayout>::needs_drop()
-    }
-
-    fn size() -> Option<usize> {
-        <HeldLayout>::size()
+    fn layout() -> Layout {
+        Layout::empty("Held")
+            .with(<IdRc<Vec<String>>>::layout())
+            .with(<Vec<Note>>::layout())
+            .with(<Vec<Order>>::layout())
+            .pad_to_align()
     }
 }
 
 impl Allocative for Held {
-    ghost may_show = { λ x. shows.Field (codes "Held") ⟦<HeldLayout as Described>⟧.size (shows.Both
-        (shows.Field (codes "catalogue") ⟦<IdRc<Vec<String>> as Described>⟧.size (⟦<IdRc<Vec<String>> as Allocative>⟧.may_show x.catalogue)) (shows.Both
-        (shows.Field (codes "notes") ⟦<Vec<Note> as Described>⟧.size (⟦<Vec<Note> as Allocative>⟧.may_show x.notes))
-        (shows.Field (codes "orders") ⟦<Vec<Order> as Described>⟧.size (⟦<Vec<Order> as Allocative>⟧.may_show x.orders)))) };
+    ghost may_show = { λ x. shows.Field (codes "Held") ⟦<Held as Described>⟧.layout.size (shows.Both
+        (shows.Field (codes "catalogue") ⟦<IdRc<Vec<String>> as Described>⟧.layout.size (⟦<IdRc<Vec<String>> as Allocative>⟧.may_show x.catalogue)) (shows.Both
+        (shows.Field (codes "notes") ⟦<Vec<Note> as Described>⟧.layout.size (⟦<Vec<Note> as Allocative>⟧.may_show x.notes))
+        (shows.Field (codes "orders") ⟦<Vec<Order> as Described>⟧.layout.size (⟦<Vec<Order> as Allocative>⟧.may_show x.orders)))) };
 
     ghost is_strict = { true };
 

@@ -3,43 +3,29 @@
 
 ghost use Rattle.std.specs.Prelude.{codes, true};
 ghost use Rattle.allocative.specs.Shows as shows;
+ghost use Rattle.allocative.specs.Layouts.{empty, pad_to_align, ◌with◌};
 
 use super::*;
-use allocative::{Allocative, Described, Field, Part, Record, Refusal, Visitor, Whole};
-
-type OrderLayout = Record<(u64, (String, (Vec<u32>, ())))>;
+use allocative::{Allocative, Described, Field, Layout, Part, Refusal, Visitor, Whole};
 
 impl Described for Order {
-    ghost name = { codes "Order" };
+    ghost layout = { pad_to_align (empty (codes "Order") with ⟦<u64 as Described>⟧.layout
+        with ⟦<String as Described>⟧.layout with ⟦<Vec<u32> as Described>⟧.layout) };
 
-    ghost align = { ⟦<OrderLayout as Described>⟧.align };
-
-    ghost needs_drop = { ⟦<OrderLayout as Described>⟧.needs_drop };
-
-    ghost size = { ⟦<OrderLayout as Described>⟧.size };
-
-    fn name() -> &'static str {
-        "Order"
-    }
-
-    fn align() -> usize {
-        <OrderLayout>::align()
-    }
-
-    fn needs_drop() -> bool {
-        <OrderLayout>::needs_drop()
-    }
-
-    fn size() -> Option<usize> {
-        <OrderLayout>::size()
+    fn layout() -> Layout {
+        Layout::empty("Order")
+            .with(u64::layout())
+            .with(String::layout())
+            .with(<Vec<u32>>::layout())
+            .pad_to_align()
     }
 }
 
 impl Allocative for Order {
-    ghost may_show = { λ x. shows.Field (codes "Order") ⟦<OrderLayout as Described>⟧.size (shows.Both
-        (shows.Field (codes "number") ⟦<u64 as Described>⟧.size (⟦<u64 as Allocative>⟧.may_show x.number)) (shows.Both
-        (shows.Field (codes "name") ⟦<String as Described>⟧.size (⟦<String as Allocative>⟧.may_show x.name))
-        (shows.Field (codes "marks") ⟦<Vec<u32> as Described>⟧.size (⟦<Vec<u32> as Allocative>⟧.may_show x.marks)))) };
+    ghost may_show = { λ x. shows.Field (codes "Order") ⟦<Order as Described>⟧.layout.size (shows.Both
+        (shows.Field (codes "number") ⟦<u64 as Described>⟧.layout.size (⟦<u64 as Allocative>⟧.may_show x.number)) (shows.Both
+        (shows.Field (codes "name") ⟦<String as Described>⟧.layout.size (⟦<String as Allocative>⟧.may_show x.name))
+        (shows.Field (codes "marks") ⟦<Vec<u32> as Described>⟧.layout.size (⟦<Vec<u32> as Allocative>⟧.may_show x.marks)))) };
 
     ghost is_strict = { true };
 

@@ -1,15 +1,14 @@
 //! What the types of `received` show. `bin/implement` of `allocative` wrote it.
 #![tactic(auto, using(allocative::proofs::Parts::parts))]
 
-ghost use Rattle.std.specs.Prelude.{codes, length, true};
+ghost use Rattle.std.specs.Prelude.{codes, false, length, true};
 ghost use Rattle.allocative.specs.Shows as shows;
+ghost use Rattle.allocative.specs.Layouts.{declared, empty, pad_to_align, ◌with◌};
 ghost use Rattle.url.specs.Parts.{serialize};
 ghost use Rattle.std.specs.Path.{path_buf_bytes};
 
 use super::*;
-use allocative::{
-    Allocative, And, Described, Inside, Part, Record, Refusal, Unique, Visitor, Whole,
-};
+use allocative::{Allocative, Described, Inside, Layout, Part, Refusal, Unique, Visitor, Whole};
 
 /// A `Url` as it is shown: its size, and the bytes of its buffer.
 #[derive(Drop)]
@@ -56,47 +55,26 @@ impl<'a> Part for ShownPathBuf<'a> {
     }
 }
 
-type ReceivedLayout = Record<
-    And<
-        (
-            [u8; 16],
-            (
-                [Box<()>; 11],
-                ([Box<()>; 4], ([u32; 8], ([Box<()>; 3], ()))),
-            ),
-        ),
-        (Option<[u8; 16]>, ()),
-    >,
->;
-
 impl Described for Received {
-    ghost name = { codes "Received" };
+    ghost layout = { pad_to_align (empty (codes "Received") with declared (codes "id") 16 1 false
+        with declared (codes "callback") 88 8 true with declared (codes "body") 32 8 true
+        with declared (codes "peer") 32 4 false with declared (codes "file") 24 8 true
+        with declared (codes "tried") 17 1 false) };
 
-    ghost align = { ⟦<ReceivedLayout as Described>⟧.align };
-
-    ghost needs_drop = { ⟦<ReceivedLayout as Described>⟧.needs_drop };
-
-    ghost size = { ⟦<ReceivedLayout as Described>⟧.size };
-
-    fn name() -> &'static str {
-        "Received"
-    }
-
-    fn align() -> usize {
-        <ReceivedLayout>::align()
-    }
-
-    fn needs_drop() -> bool {
-        <ReceivedLayout>::needs_drop()
-    }
-
-    fn size() -> Option<usize> {
-        <ReceivedLayout>::size()
+    fn layout() -> Layout {
+        Layout::empty("Received")
+            .with(Layout::new("id", 16, 1, false))
+            .with(Layout::new("callback", 88, 8, true))
+            .with(Layout::new("body", 32, 8, true))
+            .with(Layout::new("peer", 32, 4, false))
+            .with(Layout::new("file", 24, 8, true))
+            .with(Layout::new("tried", 17, 1, false))
+            .pad_to_align()
     }
 }
 
 impl Allocative for Received {
-    ghost may_show = { λ x. shows.Field (codes "Received") ⟦<ReceivedLayout as Described>⟧.size (shows.Both
+    ghost may_show = { λ x. shows.Field (codes "Received") ⟦<Received as Described>⟧.layout.size (shows.Both
         (shows.Both
         (shows.Inside (codes "id") 16 (shows.Inside (codes "Uuid") 16 shows.Nothing)) (shows.Both
         (shows.Inside (codes "callback") 88 (shows.Inside (codes "Url") 88 (shows.Unique (codes "ptr") 8 (shows.Inside (codes "u8") (length (serialize x.callback)) shows.Nothing)))) (shows.Both

@@ -1,8 +1,9 @@
 //! What the types of `types` show. `bin/implement` of `allocative` wrote it.
 #![tactic(auto, using(allocative::proofs::Parts::parts))]
 
-ghost use Rattle.std.specs.Prelude.{Some, codes, true, ◌&&◌};
+ghost use Rattle.std.specs.Prelude.{Some, codes, false, true, ◌&&◌};
 ghost use Rattle.allocative.specs.Shows as shows;
+ghost use Rattle.allocative.specs.Layouts.{declared, empty, pad_to_align, ◌or◌, ◌with◌};
 ghost use Rattle.allocative.specs.Levels.{both, both_levels, box_of, btree_map_of, child, field, first, hash_map_of, opened, option_in, pair_in, plain, recursive, second, vec_in};
 ghost use Rattle.allocative_tally.specs.Whole.{is_whole, starting};
 ghost use Rattle.allocative_tally.specs.Shapes.{Beside, NoEntry, entries};
@@ -13,25 +14,19 @@ ghost use Rattle.test_generated_types.specs.declared.types.Rope.{Rope-F, out-Rop
 
 use super::*;
 use allocative::{
-    Allocative, And, Declared, Described, Field, Fixed, Inside, Or, Part, Record, Refusal, Visitor,
-    Whole,
+    Allocative, Declared, Described, Field, Inside, Layout, Part, Refusal, Visitor, Whole,
 };
 use allocative_tally::field::{CountedField, FieldMany, OwnTally, SizedMany, count_own};
 use allocative_tally::tally::{CountError, Entries, Tallied, added, declared};
-use std::marker::PhantomData;
-
-type FoundLayout<const N: usize> = Record<
-    And<(u8, (u8, (u8, ([u32; N], (BTreeMap<u64, Vec<Event>>, ()))))), (f64, ((u64, u64), ()))>,
->;
 
 impl<'a, const N: usize> Allocative for Found<'a, N> {
-    ghost may_show = { λ x. shows.Field (codes "Found") ⟦<FoundLayout<N> as Described>⟧.size (shows.Both
+    ghost may_show = { λ x. shows.Field (codes "Found") (pad_to_align (empty (codes "Found") with ⟦<u8 as Described>⟧.layout with ⟦<u8 as Described>⟧.layout with ⟦<u8 as Described>⟧.layout with ⟦<[u32; N] as Described>⟧.layout with ⟦<BTreeMap<u64, Vec<Event>> as Described>⟧.layout with declared (codes "part5") 8 8 false with declared (codes "part6") 16 8 false)).size (shows.Both
         (shows.Both
-        (shows.Field (codes "0") ⟦<u8 as Described>⟧.size (⟦<u8 as Allocative>⟧.may_show x.0)) (shows.Both
-        (shows.Field (codes "1") ⟦<u8 as Described>⟧.size (⟦<u8 as Allocative>⟧.may_show x.1)) (shows.Both
-        (shows.Field (codes "2") ⟦<u8 as Described>⟧.size (⟦<u8 as Allocative>⟧.may_show x.2)) (shows.Both
-        (shows.Field (codes "3") ⟦<[u32; N] as Described>⟧.size (⟦<[u32; N] as Allocative>⟧.may_show x.3))
-        (shows.Field (codes "4") ⟦<BTreeMap<u64, Vec<Event>> as Described>⟧.size (⟦<BTreeMap<u64, Vec<Event>> as Allocative>⟧.may_show x.4))))))
+        (shows.Field (codes "0") ⟦<u8 as Described>⟧.layout.size (⟦<u8 as Allocative>⟧.may_show x.0)) (shows.Both
+        (shows.Field (codes "1") ⟦<u8 as Described>⟧.layout.size (⟦<u8 as Allocative>⟧.may_show x.1)) (shows.Both
+        (shows.Field (codes "2") ⟦<u8 as Described>⟧.layout.size (⟦<u8 as Allocative>⟧.may_show x.2)) (shows.Both
+        (shows.Field (codes "3") ⟦<[u32; N] as Described>⟧.layout.size (⟦<[u32; N] as Allocative>⟧.may_show x.3))
+        (shows.Field (codes "4") ⟦<BTreeMap<u64, Vec<Event>> as Described>⟧.layout.size (⟦<BTreeMap<u64, Vec<Event>> as Allocative>⟧.may_show x.4))))))
         (shows.Inside (codes "5") 8 shows.Nothing)) };
 
     ghost is_strict = { true };
@@ -43,38 +38,36 @@ impl<'a, const N: usize> Allocative for Found<'a, N> {
         let d = Field("3", &self.3);
         let e = CountedField("4", &self.4);
         let f = Inside("5", 8, ());
-        Declared("Found", <FoundLayout<N>>::size(), ((a, b, c, d, e), f)).enter(visitor)
+        Declared(
+            "Found",
+            Layout::empty("Found")
+                .with(u8::layout())
+                .with(u8::layout())
+                .with(u8::layout())
+                .with(<[u32; N]>::layout())
+                .with(<BTreeMap<u64, Vec<Event>>>::layout())
+                .with(Layout::new("part5", 8, 8, false))
+                .with(Layout::new("part6", 16, 8, false))
+                .pad_to_align()
+                .size(),
+            ((a, b, c, d, e), f),
+        )
+        .enter(visitor)
     }
 }
-
-type TableLayout<K, V> = Record<(HashMap<K, V>, (V, ()))>;
 
 impl<K: Allocative + Described, V: Allocative + Described> Described for Table<K, V>
 where
     K: Eq + Hash,
 {
-    ghost name = { codes "Table" };
+    ghost layout = { pad_to_align (empty (codes "Table") with ⟦<HashMap<K, V> as Described>⟧.layout
+        with ⟦<V as Described>⟧.layout) };
 
-    ghost align = { ⟦<TableLayout<K, V> as Described>⟧.align };
-
-    ghost needs_drop = { ⟦<TableLayout<K, V> as Described>⟧.needs_drop };
-
-    ghost size = { ⟦<TableLayout<K, V> as Described>⟧.size };
-
-    fn name() -> &'static str {
-        "Table"
-    }
-
-    fn align() -> usize {
-        <TableLayout<K, V>>::align()
-    }
-
-    fn needs_drop() -> bool {
-        <TableLayout<K, V>>::needs_drop()
-    }
-
-    fn size() -> Option<usize> {
-        <TableLayout<K, V>>::size()
+    fn layout() -> Layout {
+        Layout::empty("Table")
+            .with(<HashMap<K, V>>::layout())
+            .with(V::layout())
+            .pad_to_align()
     }
 }
 
@@ -82,9 +75,9 @@ impl<K: Allocative + Described, V: Allocative + Described> Allocative for Table<
 where
     K: Eq + Hash,
 {
-    ghost may_show = { λ x. shows.Field (codes "Table") ⟦<TableLayout<K, V> as Described>⟧.size (shows.Both
-        (shows.Field (codes "values") ⟦<HashMap<K, V> as Described>⟧.size (⟦<HashMap<K, V> as Allocative>⟧.may_show x.values))
-        (shows.Field (codes "last") ⟦<V as Described>⟧.size (⟦<V as Allocative>⟧.may_show x.last))) };
+    ghost may_show = { λ x. shows.Field (codes "Table") ⟦<Table<K, V> as Described>⟧.layout.size (shows.Both
+        (shows.Field (codes "values") ⟦<HashMap<K, V> as Described>⟧.layout.size (⟦<HashMap<K, V> as Allocative>⟧.may_show x.values))
+        (shows.Field (codes "last") ⟦<V as Described>⟧.layout.size (⟦<V as Allocative>⟧.may_show x.last))) };
 
     ghost is_strict = { ⟦<HashMap<K, V> as Allocative>⟧.is_strict && (⟦<V as Allocative>⟧.is_strict) };
 
@@ -108,16 +101,16 @@ where
 {
     type Tally = TableTally<<HashMap<K, V> as Tallied>::Tally, <V as Tallied>::Tally>;
 
-    ghost shape = { λ t n. entries (codes "Table") ⟦<Table<K, V> as Described>⟧.size n
-        (Beside (entries (codes "values") ⟦<HashMap<K, V> as Described>⟧.size n (⟦<HashMap<K, V> as Tallied>⟧.shape t.values n))
-        (entries (codes "last") ⟦<V as Described>⟧.size n (⟦<V as Tallied>⟧.shape t.last n))) };
+    ghost shape = { λ t n. entries (codes "Table") ⟦<Table<K, V> as Described>⟧.layout.size n
+        (Beside (entries (codes "values") ⟦<HashMap<K, V> as Described>⟧.layout.size n (⟦<HashMap<K, V> as Tallied>⟧.shape t.values n))
+        (entries (codes "last") ⟦<V as Described>⟧.layout.size n (⟦<V as Tallied>⟧.shape t.last n))) };
 
     ghost whole = { is_whole (Prim.search starting) };
 
     fn show(tally: &Self::Tally, count: usize, visitor: &mut Visitor<'_>) -> Result<(), Refusal> {
         let values = FieldMany::<HashMap<K, V>>("values", &tally.values, count);
         let last = FieldMany::<V>("last", &tally.last, count);
-        SizedMany::<Table<K, V>, _, _>("Table", count, (values, last), PhantomData).enter(visitor)
+        SizedMany("Table", <Table<K, V>>::size(), count, (values, last)).enter(visitor)
     }
 
     #[inline(always)]
@@ -129,43 +122,30 @@ where
     }
 }
 
-type PlacedLayout<T> = Record<(u8, (T, (f64, ())))>;
-
-type PlacedSomewhereFields<T> = Record<(T, (f64, ()))>;
-
 impl<T: Allocative + Described> Described for Placed<T> {
-    ghost name = { codes "Placed" };
+    ghost layout = { pad_to_align (empty (codes "Placed") with ⟦<u8 as Described>⟧.layout
+        with (empty (codes "Somewhere") with ⟦<T as Described>⟧.layout
+        with declared (codes "part1") 8 8 false)) };
 
-    ghost align = { ⟦<PlacedLayout<T> as Described>⟧.align };
-
-    ghost needs_drop = { ⟦<PlacedLayout<T> as Described>⟧.needs_drop };
-
-    ghost size = { ⟦<PlacedLayout<T> as Described>⟧.size };
-
-    fn name() -> &'static str {
-        "Placed"
-    }
-
-    fn align() -> usize {
-        <PlacedLayout<T>>::align()
-    }
-
-    fn needs_drop() -> bool {
-        <PlacedLayout<T>>::needs_drop()
-    }
-
-    fn size() -> Option<usize> {
-        <PlacedLayout<T>>::size()
+    fn layout() -> Layout {
+        Layout::empty("Placed")
+            .with(u8::layout())
+            .with(
+                Layout::empty("Somewhere")
+                    .with(T::layout())
+                    .with(Layout::new("part1", 8, 8, false)),
+            )
+            .pad_to_align()
     }
 }
 
 impl<T: Allocative + Described> Allocative for Placed<T> {
     ghost use Rattle.test_generated_types.specs.declared.types.Placed.TheVariants.{Nowhere, Somewhere};
 
-    ghost may_show = { λ x. shows.Field (codes "Placed") ⟦<PlacedLayout<T> as Described>⟧.size (elim x [
+    ghost may_show = { λ x. shows.Field (codes "Placed") ⟦<Placed<T> as Described>⟧.layout.size (elim x [
       | Nowhere ↦ shows.Nothing
-      | Somewhere a b ↦ shows.Field (codes "Somewhere") ⟦<PlacedSomewhereFields<T> as Described>⟧.size
-          (shows.Field (codes "0") ⟦<T as Described>⟧.size (⟦<T as Allocative>⟧.may_show a))
+      | Somewhere a b ↦ shows.Field (codes "Somewhere") (pad_to_align (empty (codes "Somewhere") with ⟦<T as Described>⟧.layout with declared (codes "part1") 8 8 false)).size
+          (shows.Field (codes "0") ⟦<T as Described>⟧.layout.size (⟦<T as Allocative>⟧.may_show a))
     ]) };
 
     ghost is_strict = { T.is_strict };
@@ -175,59 +155,73 @@ impl<T: Allocative + Described> Allocative for Placed<T> {
             Placed::Nowhere => Whole(self, ()).enter(visitor),
             Placed::Somewhere(a, _) => {
                 let a = Field("0", a);
-                let inside = Declared("Somewhere", <PlacedSomewhereFields<T>>::size(), a);
+                let inside = Declared(
+                    "Somewhere",
+                    Layout::empty("Somewhere")
+                        .with(T::layout())
+                        .with(Layout::new("part1", 8, 8, false))
+                        .pad_to_align()
+                        .size(),
+                    a,
+                );
                 Whole(self, inside).enter(visitor)
             }
         }
     }
 }
 
-type EventLayout = Record<
-    (
-        u8,
-        Or<(String, ()), Or<(u64, ()), ((u64, u64), (f64, (u64, (Vec<u64>, ()))))>>,
-    ),
->;
+/// The fields of the variant `Sale` of `Event`.
+struct EventSaleFields;
 
-type EventSaleFields = Record<((u64, u64), (f64, (u64, (Vec<u64>, ()))))>;
+impl Described for EventSaleFields {
+    ghost layout = { pad_to_align (empty (codes "Sale") with declared (codes "place") 16 8 false
+        with declared (codes "weight") 8 8 false with ⟦<u64 as Described>⟧.layout
+        with ⟦<Vec<u64> as Described>⟧.layout) };
+
+    fn layout() -> Layout {
+        Layout::empty("Sale")
+            .with(Layout::new("place", 16, 8, false))
+            .with(Layout::new("weight", 8, 8, false))
+            .with(u64::layout())
+            .with(<Vec<u64>>::layout())
+            .pad_to_align()
+    }
+}
 
 impl Described for Event {
-    ghost name = { codes "Event" };
+    ghost layout = { pad_to_align (empty (codes "Event") with ⟦<u8 as Described>⟧.layout
+        with (⟦<String as Described>⟧.layout or declared (codes "part0") 8 8 false
+        or (empty (codes "Sale") with declared (codes "place") 16 8 false
+        with declared (codes "weight") 8 8 false with ⟦<u64 as Described>⟧.layout
+        with ⟦<Vec<u64> as Described>⟧.layout))) };
 
-    ghost align = { ⟦<EventLayout as Described>⟧.align };
-
-    ghost needs_drop = { ⟦<EventLayout as Described>⟧.needs_drop };
-
-    ghost size = { ⟦<EventLayout as Described>⟧.size };
-
-    fn name() -> &'static str {
-        "Event"
-    }
-
-    fn align() -> usize {
-        <EventLayout>::align()
-    }
-
-    fn needs_drop() -> bool {
-        <EventLayout>::needs_drop()
-    }
-
-    fn size() -> Option<usize> {
-        <EventLayout>::size()
+    fn layout() -> Layout {
+        Layout::empty("Event")
+            .with(u8::layout())
+            .with(
+                String::layout().or(Layout::new("part0", 8, 8, false)).or(
+                    Layout::empty("Sale")
+                        .with(Layout::new("place", 16, 8, false))
+                        .with(Layout::new("weight", 8, 8, false))
+                        .with(u64::layout())
+                        .with(<Vec<u64>>::layout()),
+                ),
+            )
+            .pad_to_align()
     }
 }
 
 impl Allocative for Event {
     ghost use Rattle.test_generated_types.specs.declared.types.Event.TheVariants.{Quiet, Note, Marked, Sale};
 
-    ghost may_show = { λ x. shows.Field (codes "Event") ⟦<EventLayout as Described>⟧.size (elim x [
+    ghost may_show = { λ x. shows.Field (codes "Event") ⟦<Event as Described>⟧.layout.size (elim x [
       | Quiet ↦ shows.Nothing
-      | Note a ↦ shows.Field (codes "Note") ⟦<String as Described>⟧.size (⟦<String as Allocative>⟧.may_show a)
+      | Note a ↦ shows.Field (codes "Note") ⟦<String as Described>⟧.layout.size (⟦<String as Allocative>⟧.may_show a)
       | Marked a ↦ shows.Inside (codes "Marked") 8 shows.Nothing
-      | Sale a b c d ↦ shows.Field (codes "Sale") ⟦<EventSaleFields as Described>⟧.size (shows.Both
+      | Sale a b c d ↦ shows.Field (codes "Sale") ⟦<EventSaleFields as Described>⟧.layout.size (shows.Both
           (shows.Inside (codes "place") 16 shows.Nothing) (shows.Both
-          (shows.Field (codes "shelf") ⟦<u64 as Described>⟧.size (⟦<u64 as Allocative>⟧.may_show c))
-          (shows.Field (codes "prices") ⟦<Vec<u64> as Described>⟧.size (⟦<Vec<u64> as Allocative>⟧.may_show d))))
+          (shows.Field (codes "shelf") ⟦<u64 as Described>⟧.layout.size (⟦<u64 as Allocative>⟧.may_show c))
+          (shows.Field (codes "prices") ⟦<Vec<u64> as Described>⟧.layout.size (⟦<Vec<u64> as Allocative>⟧.may_show d))))
     ]) };
 
     ghost is_strict = { true };
@@ -267,36 +261,41 @@ pub struct EventTally {
 impl Tallied for Event {
     type Tally = EventTally;
 
-    ghost shape = { λ t n. entries (codes "Event") ⟦<Event as Described>⟧.size n
-        (Beside (entries (codes "Note") ⟦<String as Described>⟧.size t.note_value.count (⟦<String as Tallied>⟧.shape t.note_value.values t.note_value.count))
+    ghost shape = { λ t n. entries (codes "Event") ⟦<Event as Described>⟧.layout.size n
+        (Beside (entries (codes "Note") ⟦<String as Described>⟧.layout.size t.note_value.count (⟦<String as Tallied>⟧.shape t.note_value.values t.note_value.count))
         (Beside (entries (codes "Marked") (Some 8) t.marked_value
         NoEntry)
-        (entries (codes "Sale") ⟦<EventSaleFields as Described>⟧.size t.sale_count
+        (entries (codes "Sale") ⟦<EventSaleFields as Described>⟧.layout.size t.sale_count
         (Beside (entries (codes "place") (Some 16) t.sale_count
         NoEntry)
-        (Beside (entries (codes "shelf") ⟦<u64 as Described>⟧.size t.sale_count (⟦<u64 as Tallied>⟧.shape t.sale_shelf t.sale_count))
-        (entries (codes "prices") ⟦<Vec<u64> as Described>⟧.size t.sale_count (⟦<Vec<u64> as Tallied>⟧.shape t.sale_prices t.sale_count))))))) };
+        (Beside (entries (codes "shelf") ⟦<u64 as Described>⟧.layout.size t.sale_count (⟦<u64 as Tallied>⟧.shape t.sale_shelf t.sale_count))
+        (entries (codes "prices") ⟦<Vec<u64> as Described>⟧.layout.size t.sale_count (⟦<Vec<u64> as Tallied>⟧.shape t.sale_prices t.sale_count))))))) };
 
     ghost whole = { is_whole (Prim.search starting) };
 
     fn show(tally: &Self::Tally, count: usize, visitor: &mut Visitor<'_>) -> Result<(), Refusal> {
-        let a = FieldMany::<String>("Note", &tally.note_value.values, tally.note_value.count);
-        let b = SizedMany::<Fixed<8, 1, false>, _, _>(
-            "Marked",
-            tally.marked_value,
-            (),
-            PhantomData,
+        let note_value = FieldMany::<String>(
+            "Note",
+            &tally.note_value.values,
+            tally.note_value.count,
         );
-        let d = SizedMany::<Fixed<16, 1, false>, _, _>("place", tally.sale_count, (), PhantomData);
-        let e = FieldMany::<u64>("shelf", &tally.sale_shelf, tally.sale_count);
-        let f = FieldMany::<Vec<u64>>("prices", &tally.sale_prices, tally.sale_count);
-        let c = SizedMany::<EventSaleFields, _, _>(
+        let marked_value = SizedMany("Marked", Some(8), tally.marked_value, ());
+        let sale_place = SizedMany("place", Some(16), tally.sale_count, ());
+        let sale_shelf = FieldMany::<u64>("shelf", &tally.sale_shelf, tally.sale_count);
+        let sale_prices = FieldMany::<Vec<u64>>("prices", &tally.sale_prices, tally.sale_count);
+        let sale_count = SizedMany(
             "Sale",
+            <EventSaleFields>::size(),
             tally.sale_count,
-            (d, (e, f)),
-            PhantomData,
+            (sale_place, (sale_shelf, sale_prices)),
         );
-        SizedMany::<Event, _, _>("Event", count, (a, (b, c)), PhantomData).enter(visitor)
+        SizedMany(
+            "Event",
+            <Event>::size(),
+            count,
+            (note_value, (marked_value, sale_count)),
+        )
+        .enter(visitor)
     }
 
     #[inline(always)]
@@ -320,42 +319,37 @@ impl Tallied for Event {
     }
 }
 
-type CartLayout = Record<(u8, (Vec<String>, ()))>;
+/// The fields of the variant `BoughtItems` of `Cart`.
+struct CartBoughtItemsFields;
 
-type CartBoughtItemsFields = Record<(Vec<String>, ())>;
+impl Described for CartBoughtItemsFields {
+    ghost layout = { pad_to_align (empty (codes "BoughtItems") with ⟦<Vec<String> as Described>⟧.layout) };
+
+    fn layout() -> Layout {
+        Layout::empty("BoughtItems")
+            .with(<Vec<String>>::layout())
+            .pad_to_align()
+    }
+}
 
 impl Described for Cart {
-    ghost name = { codes "Cart" };
+    ghost layout = { pad_to_align (empty (codes "Cart") with ⟦<u8 as Described>⟧.layout
+        with ⟦<Vec<String> as Described>⟧.layout) };
 
-    ghost align = { ⟦<CartLayout as Described>⟧.align };
-
-    ghost needs_drop = { ⟦<CartLayout as Described>⟧.needs_drop };
-
-    ghost size = { ⟦<CartLayout as Described>⟧.size };
-
-    fn name() -> &'static str {
-        "Cart"
-    }
-
-    fn align() -> usize {
-        <CartLayout>::align()
-    }
-
-    fn needs_drop() -> bool {
-        <CartLayout>::needs_drop()
-    }
-
-    fn size() -> Option<usize> {
-        <CartLayout>::size()
+    fn layout() -> Layout {
+        Layout::empty("Cart")
+            .with(u8::layout())
+            .with(<Vec<String>>::layout())
+            .pad_to_align()
     }
 }
 
 impl Allocative for Cart {
     ghost use Rattle.test_generated_types.specs.declared.types.Cart.TheVariants.{BoughtItems};
 
-    ghost may_show = { λ x. shows.Field (codes "Cart") ⟦<CartLayout as Described>⟧.size (elim x [
-      | BoughtItems a ↦ shows.Field (codes "BoughtItems") ⟦<CartBoughtItemsFields as Described>⟧.size
-          (shows.Field (codes "names") ⟦<Vec<String> as Described>⟧.size (⟦<Vec<String> as Allocative>⟧.may_show a))
+    ghost may_show = { λ x. shows.Field (codes "Cart") ⟦<Cart as Described>⟧.layout.size (elim x [
+      | BoughtItems a ↦ shows.Field (codes "BoughtItems") ⟦<CartBoughtItemsFields as Described>⟧.layout.size
+          (shows.Field (codes "names") ⟦<Vec<String> as Described>⟧.layout.size (⟦<Vec<String> as Allocative>⟧.may_show a))
     ]) };
 
     ghost is_strict = { true };
@@ -381,9 +375,9 @@ pub struct CartTally {
 impl Tallied for Cart {
     type Tally = CartTally;
 
-    ghost shape = { λ t n. entries (codes "Cart") ⟦<Cart as Described>⟧.size n
-        (entries (codes "BoughtItems") ⟦<CartBoughtItemsFields as Described>⟧.size t.bought_items_count
-        (entries (codes "names") ⟦<Vec<String> as Described>⟧.size t.bought_items_count (⟦<Vec<String> as Tallied>⟧.shape t.bought_items_names t.bought_items_count))) };
+    ghost shape = { λ t n. entries (codes "Cart") ⟦<Cart as Described>⟧.layout.size n
+        (entries (codes "BoughtItems") ⟦<CartBoughtItemsFields as Described>⟧.layout.size t.bought_items_count
+        (entries (codes "names") ⟦<Vec<String> as Described>⟧.layout.size t.bought_items_count (⟦<Vec<String> as Tallied>⟧.shape t.bought_items_names t.bought_items_count))) };
 
     ghost whole = { is_whole (Prim.search starting) };
 
@@ -393,13 +387,13 @@ impl Tallied for Cart {
             &tally.bought_items_names,
             tally.bought_items_count,
         );
-        let bought_items_count = SizedMany::<CartBoughtItemsFields, _, _>(
+        let bought_items_count = SizedMany(
             "BoughtItems",
+            <CartBoughtItemsFields>::size(),
             tally.bought_items_count,
             bought_items_names,
-            PhantomData,
         );
-        SizedMany::<Cart, _, _>("Cart", count, bought_items_count, PhantomData).enter(visitor)
+        SizedMany("Cart", <Cart>::size(), count, bought_items_count).enter(visitor)
     }
 
     #[inline(always)]
@@ -416,48 +410,43 @@ impl Tallied for Cart {
     }
 }
 
-type JsonLayout = Record<
-    (
-        u8,
-        Or<(BTreeMap<(), ()>, ()), (Option<Box<()>>, (Vec<()>, ()))>,
-    ),
->;
-
-type JsonPairFields = Record<(Option<Box<()>>, (Vec<()>, ()))>;
-
 impl Described for Json {
-    ghost name = { codes "Json" };
+    ghost layout = { pad_to_align (empty (codes "Json") with ⟦<u8 as Described>⟧.layout
+        with (⟦<BTreeMap<String, Json> as Described>⟧.layout or (empty (codes "Pair")
+        with ⟦<Option<Box<Json>> as Described>⟧.layout with ⟦<Vec<Json> as Described>⟧.layout)
+        or (empty (codes "Part") with declared (codes "part0") 16 8 false
+        with ⟦<Box<Json> as Described>⟧.layout))) };
 
-    ghost align = { ⟦<JsonLayout as Described>⟧.align };
-
-    ghost needs_drop = { ⟦<JsonLayout as Described>⟧.needs_drop };
-
-    ghost size = { ⟦<JsonLayout as Described>⟧.size };
-
-    fn name() -> &'static str {
-        "Json"
-    }
-
-    fn align() -> usize {
-        <JsonLayout>::align()
-    }
-
-    fn needs_drop() -> bool {
-        <JsonLayout>::needs_drop()
-    }
-
-    fn size() -> Option<usize> {
-        <JsonLayout>::size()
+    fn layout() -> Layout {
+        Layout::empty("Json")
+            .with(u8::layout())
+            .with(
+                <BTreeMap<String, Json>>::layout()
+                    .or(
+                        Layout::empty("Pair")
+                            .with(<Option<Box<Json>>>::layout())
+                            .with(<Vec<Json>>::layout()),
+                    )
+                    .or(
+                        Layout::empty("Part")
+                            .with(Layout::new("part0", 16, 8, false))
+                            .with(<Box<Json>>::layout()),
+                    ),
+            )
+            .pad_to_align()
     }
 }
 
 impl Allocative for Json {
-    ghost may_show = { recursive (opened out-Json (λ x. field (codes "Json") ⟦<JsonLayout as Described>⟧.size (elim x [
+    ghost may_show = { recursive (opened out-Json (λ x. field (codes "Json") ⟦<Json as Described>⟧.layout.size (elim x [
       | Json-F.Null ↦ plain shows.Nothing
-      | Json-F.Table a ↦ field (codes "Table") ⟦<BTreeMap<(), ()> as Described>⟧.size (btree_map_of (pair_in ⟦<String as Described>⟧.size ⟦<String as Allocative>⟧.may_show ⟦<JsonLayout as Described>⟧.size child) a.entries)
-      | Json-F.Pair a b ↦ field (codes "Pair") ⟦<JsonPairFields as Described>⟧.size (both
-          (field (codes "first") ⟦<Option<Box<()>> as Described>⟧.size (option_in ⟦<Option<Box<()>> as Described>⟧.size ⟦<Box<()> as Described>⟧.size (λ y. box_of (child y.value)) a))
-          (field (codes "rest") ⟦<Vec<()> as Described>⟧.size (vec_in ⟦<JsonLayout as Described>⟧.size child b)))
+      | Json-F.Table a ↦ field (codes "Table") ⟦<BTreeMap<String, Json> as Described>⟧.layout.size (btree_map_of (pair_in ⟦<String as Described>⟧.layout.size ⟦<String as Allocative>⟧.may_show ⟦<Json as Described>⟧.layout.size child) a.entries)
+      | Json-F.Pair a b ↦ field (codes "Pair") (pad_to_align (empty (codes "Pair") with ⟦<Option<Box<Json>> as Described>⟧.layout with ⟦<Vec<Json> as Described>⟧.layout)).size (both
+          (field (codes "first") ⟦<Option<Box<Json>> as Described>⟧.layout.size (option_in ⟦<Option<Box<Json>> as Described>⟧.layout.size ⟦<Box<Json> as Described>⟧.layout.size (λ y. box_of (child y.value)) a))
+          (field (codes "rest") ⟦<Vec<Json> as Described>⟧.layout.size (vec_in ⟦<Json as Described>⟧.layout.size child b)))
+      | Json-F.Part a b ↦ field (codes "Part") (pad_to_align (empty (codes "Part") with declared (codes "part0") 16 8 false with ⟦<Box<Json> as Described>⟧.layout)).size (both
+          (plain (shows.Inside (codes "0") 16 (shows.Inside (codes "Range") 16 shows.Nothing)))
+          (field (codes "1") ⟦<Box<Json> as Described>⟧.layout.size (box_of (child b.value))))
     ]))) };
 
     ghost is_strict = { true };
@@ -472,44 +461,76 @@ impl Allocative for Json {
             Json::Pair { first, rest } => {
                 let first = Field("first", first);
                 let rest = Field("rest", rest);
-                let inside = Declared("Pair", <JsonPairFields>::size(), (first, rest));
+                let inside = Declared(
+                    "Pair",
+                    Layout::empty("Pair")
+                        .with(<Option<Box<Json>>>::layout())
+                        .with(<Vec<Json>>::layout())
+                        .pad_to_align()
+                        .size(),
+                    (first, rest),
+                );
+                Declared("Json", <Self as Described>::size(), inside).enter(visitor)
+            }
+            Json::Part(_a, b) => {
+                let a = Inside("0", 16, Inside("Range", 16, ()));
+                let b = Field("1", b);
+                let inside = Declared(
+                    "Part",
+                    Layout::empty("Part")
+                        .with(Layout::new("part0", 16, 8, false))
+                        .with(<Box<Json>>::layout())
+                        .pad_to_align()
+                        .size(),
+                    (a, b),
+                );
                 Declared("Json", <Self as Described>::size(), inside).enter(visitor)
             }
         }
     }
 }
 
-type RopeLayout = Record<(u8, (Vec<()>, ()))>;
+impl<const N: usize> Described for Ring<N> {
+    ghost layout = { pad_to_align (empty (codes "Ring") with ⟦<[u64; N] as Described>⟧.layout
+        with ⟦<&'static str as Described>⟧.layout) };
+
+    fn layout() -> Layout {
+        Layout::empty("Ring")
+            .with(<[u64; N]>::layout())
+            .with(<&'static str>::layout())
+            .pad_to_align()
+    }
+}
+
+impl<const N: usize> Allocative for Ring<N> {
+    ghost may_show = { λ x. shows.Field (codes "Ring") ⟦<Ring<N> as Described>⟧.layout.size (shows.Both
+        (shows.Field (codes "points") ⟦<[u64; N] as Described>⟧.layout.size (⟦<[u64; N] as Allocative>⟧.may_show x.points))
+        (shows.Field (codes "name") ⟦<&'static str as Described>⟧.layout.size (⟦<&'static str as Allocative>⟧.may_show x.name))) };
+
+    ghost is_strict = { true };
+
+    fn visit(&self, visitor: &mut Visitor<'_>) -> Result<(), Refusal> {
+        let points = Field("points", &self.points);
+        let name = Field("name", &self.name);
+        Whole(self, (points, name)).enter(visitor)
+    }
+}
 
 impl Described for Rope {
-    ghost name = { codes "Rope" };
+    ghost layout = { pad_to_align (empty (codes "Rope") with ⟦<u8 as Described>⟧.layout
+        with ⟦<Vec<Rope> as Described>⟧.layout) };
 
-    ghost align = { ⟦<RopeLayout as Described>⟧.align };
-
-    ghost needs_drop = { ⟦<RopeLayout as Described>⟧.needs_drop };
-
-    ghost size = { ⟦<RopeLayout as Described>⟧.size };
-
-    fn name() -> &'static str {
-        "Rope"
-    }
-
-    fn align() -> usize {
-        <RopeLayout>::align()
-    }
-
-    fn needs_drop() -> bool {
-        <RopeLayout>::needs_drop()
-    }
-
-    fn size() -> Option<usize> {
-        <RopeLayout>::size()
+    fn layout() -> Layout {
+        Layout::empty("Rope")
+            .with(u8::layout())
+            .with(<Vec<Rope>>::layout())
+            .pad_to_align()
     }
 }
 
 impl Allocative for Rope {
-    ghost may_show = { recursive (opened out-Rope (λ x. field (codes "Rope") ⟦<RopeLayout as Described>⟧.size (elim x [
-      | Rope-F.Of a ↦ field (codes "Of") ⟦<Vec<()> as Described>⟧.size (vec_in ⟦<RopeLayout as Described>⟧.size child a)
+    ghost may_show = { recursive (opened out-Rope (λ x. field (codes "Rope") ⟦<Rope as Described>⟧.layout.size (elim x [
+      | Rope-F.Of a ↦ field (codes "Of") ⟦<Vec<Rope> as Described>⟧.layout.size (vec_in ⟦<Rope as Described>⟧.layout.size child a)
     ]))) };
 
     ghost is_strict = { true };
@@ -524,44 +545,28 @@ impl Allocative for Rope {
     }
 }
 
-type JobLayout = Record<(PayloadLayout, (HashMap<(), ()>, ()))>;
-
 impl Described for Job {
-    ghost name = { codes "Job" };
+    ghost layout = { pad_to_align (empty (codes "Job") with ⟦<Payload as Described>⟧.layout
+        with ⟦<HashMap<u64, Job> as Described>⟧.layout) };
 
-    ghost align = { ⟦<JobLayout as Described>⟧.align };
-
-    ghost needs_drop = { ⟦<JobLayout as Described>⟧.needs_drop };
-
-    ghost size = { ⟦<JobLayout as Described>⟧.size };
-
-    fn name() -> &'static str {
-        "Job"
-    }
-
-    fn align() -> usize {
-        <JobLayout>::align()
-    }
-
-    fn needs_drop() -> bool {
-        <JobLayout>::needs_drop()
-    }
-
-    fn size() -> Option<usize> {
-        <JobLayout>::size()
+    fn layout() -> Layout {
+        Layout::empty("Job")
+            .with(Payload::layout())
+            .with(<HashMap<u64, Job>>::layout())
+            .pad_to_align()
     }
 }
 
 impl Allocative for Job {
     ghost may_show = { λ x. recursive (both_levels
-        (λ x. field (codes "Job") ⟦<JobLayout as Described>⟧.size (both
-        (field (codes "payload") ⟦<PayloadLayout as Described>⟧.size (child (second (out-Job x).payload)))
-        (field (codes "earlier_by_number") ⟦<HashMap<(), ()> as Described>⟧.size (hash_map_of (pair_in ⟦<u64 as Described>⟧.size ⟦<u64 as Allocative>⟧.may_show ⟦<JobLayout as Described>⟧.size (λ y. child (first y))) (out-Job x).earlier_by_number.entries))))
-        (opened out-Payload (λ x. field (codes "Payload") ⟦<PayloadLayout as Described>⟧.size (elim x [
+        (λ x. field (codes "Job") ⟦<Job as Described>⟧.layout.size (both
+        (field (codes "payload") ⟦<Payload as Described>⟧.layout.size (child (second (out-Job x).payload)))
+        (field (codes "earlier_by_number") ⟦<HashMap<u64, Job> as Described>⟧.layout.size (hash_map_of (pair_in ⟦<u64 as Described>⟧.layout.size ⟦<u64 as Allocative>⟧.may_show ⟦<Job as Described>⟧.layout.size (λ y. child (first y))) (out-Job x).earlier_by_number.entries))))
+        (opened out-Payload (λ x. field (codes "Payload") ⟦<Payload as Described>⟧.layout.size (elim x [
           | Payload-F.Nothing ↦ plain shows.Nothing
-          | Payload-F.Done a b ↦ field (codes "Done") ⟦<PayloadDoneFields as Described>⟧.size (both
-              (field (codes "job") ⟦<Box<()> as Described>⟧.size (box_of (child (first a.value))))
-              (plain (shows.Field (codes "within_seconds") ⟦<u64 as Described>⟧.size (⟦<u64 as Allocative>⟧.may_show b))))
+          | Payload-F.Done a b ↦ field (codes "Done") (pad_to_align (empty (codes "Done") with ⟦<Box<Job> as Described>⟧.layout with ⟦<u64 as Described>⟧.layout)).size (both
+              (field (codes "job") ⟦<Box<Job> as Described>⟧.layout.size (box_of (child (first a.value))))
+              (plain (shows.Field (codes "within_seconds") ⟦<u64 as Described>⟧.layout.size (⟦<u64 as Allocative>⟧.may_show b))))
         ])))) (first x) };
 
     ghost is_strict = { true };
@@ -579,46 +584,32 @@ impl Allocative for Job {
     }
 }
 
-type PayloadLayout = Record<(u8, (Box<()>, (u64, ())))>;
-
-type PayloadDoneFields = Record<(Box<()>, (u64, ()))>;
-
 impl Described for Payload {
-    ghost name = { codes "Payload" };
+    ghost layout = { pad_to_align (empty (codes "Payload") with ⟦<u8 as Described>⟧.layout with (empty (codes "Done")
+        with ⟦<Box<Job> as Described>⟧.layout with ⟦<u64 as Described>⟧.layout)) };
 
-    ghost align = { ⟦<PayloadLayout as Described>⟧.align };
-
-    ghost needs_drop = { ⟦<PayloadLayout as Described>⟧.needs_drop };
-
-    ghost size = { ⟦<PayloadLayout as Described>⟧.size };
-
-    fn name() -> &'static str {
-        "Payload"
-    }
-
-    fn align() -> usize {
-        <PayloadLayout>::align()
-    }
-
-    fn needs_drop() -> bool {
-        <PayloadLayout>::needs_drop()
-    }
-
-    fn size() -> Option<usize> {
-        <PayloadLayout>::size()
+    fn layout() -> Layout {
+        Layout::empty("Payload")
+            .with(u8::layout())
+            .with(
+                Layout::empty("Done")
+                    .with(<Box<Job>>::layout())
+                    .with(u64::layout()),
+            )
+            .pad_to_align()
     }
 }
 
 impl Allocative for Payload {
     ghost may_show = { λ x. recursive (both_levels
-        (λ x. field (codes "Job") ⟦<JobLayout as Described>⟧.size (both
-        (field (codes "payload") ⟦<PayloadLayout as Described>⟧.size (child (second (out-Job x).payload)))
-        (field (codes "earlier_by_number") ⟦<HashMap<(), ()> as Described>⟧.size (hash_map_of (pair_in ⟦<u64 as Described>⟧.size ⟦<u64 as Allocative>⟧.may_show ⟦<JobLayout as Described>⟧.size (λ y. child (first y))) (out-Job x).earlier_by_number.entries))))
-        (opened out-Payload (λ x. field (codes "Payload") ⟦<PayloadLayout as Described>⟧.size (elim x [
+        (λ x. field (codes "Job") ⟦<Job as Described>⟧.layout.size (both
+        (field (codes "payload") ⟦<Payload as Described>⟧.layout.size (child (second (out-Job x).payload)))
+        (field (codes "earlier_by_number") ⟦<HashMap<u64, Job> as Described>⟧.layout.size (hash_map_of (pair_in ⟦<u64 as Described>⟧.layout.size ⟦<u64 as Allocative>⟧.may_show ⟦<Job as Described>⟧.layout.size (λ y. child (first y))) (out-Job x).earlier_by_number.entries))))
+        (opened out-Payload (λ x. field (codes "Payload") ⟦<Payload as Described>⟧.layout.size (elim x [
           | Payload-F.Nothing ↦ plain shows.Nothing
-          | Payload-F.Done a b ↦ field (codes "Done") ⟦<PayloadDoneFields as Described>⟧.size (both
-              (field (codes "job") ⟦<Box<()> as Described>⟧.size (box_of (child (first a.value))))
-              (plain (shows.Field (codes "within_seconds") ⟦<u64 as Described>⟧.size (⟦<u64 as Allocative>⟧.may_show b))))
+          | Payload-F.Done a b ↦ field (codes "Done") (pad_to_align (empty (codes "Done") with ⟦<Box<Job> as Described>⟧.layout with ⟦<u64 as Described>⟧.layout)).size (both
+              (field (codes "job") ⟦<Box<Job> as Described>⟧.layout.size (box_of (child (first a.value))))
+              (plain (shows.Field (codes "within_seconds") ⟦<u64 as Described>⟧.layout.size (⟦<u64 as Allocative>⟧.may_show b))))
         ])))) (second x) };
 
     ghost is_strict = { true };
@@ -633,7 +624,15 @@ impl Allocative for Payload {
             } => {
                 let job = Field("job", job);
                 let within_seconds = Field("within_seconds", within_seconds);
-                let inside = Declared("Done", <PayloadDoneFields>::size(), (job, within_seconds));
+                let inside = Declared(
+                    "Done",
+                    Layout::empty("Done")
+                        .with(<Box<Job>>::layout())
+                        .with(u64::layout())
+                        .pad_to_align()
+                        .size(),
+                    (job, within_seconds),
+                );
                 Declared("Payload", <Self as Described>::size(), inside).enter(visitor)
             }
         }

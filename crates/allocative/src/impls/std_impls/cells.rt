@@ -10,7 +10,7 @@ use std::cell::{Cell, OnceCell, RefCell};
 use std::sync::{Mutex, OnceLock, RwLock};
 
 impl<T: Allocative + Described + Copy> Allocative for Cell<T> {
-    ghost may_show = { λ _. shows.Field (codes "Cell") T.size (some_value T.size T.may_show) };
+    ghost may_show = { λ _. shows.Field (codes "Cell") T.layout.size (some_value T.layout.size T.may_show) };
 
     fn visit(&self, visitor: &mut Visitor<'_>) -> Result<(), Refusal> {
         let value = self.get();
@@ -19,8 +19,8 @@ impl<T: Allocative + Described + Copy> Allocative for Cell<T> {
 }
 
 impl<T: Allocative + Described> Allocative for RefCell<T> {
-    ghost may_show = { λ _. shows.Field (codes "RefCell") ⟦<RefCell<T> as Described>⟧.size
-        (cell_inside T.size T.may_show) };
+    ghost may_show = { λ _. shows.Field (codes "RefCell") ⟦<RefCell<T> as Described>⟧.layout.size
+        (cell_inside T.layout.size T.may_show) };
 
     fn visit(&self, visitor: &mut Visitor<'_>) -> Result<(), Refusal> {
         match self.try_borrow() {
@@ -31,8 +31,8 @@ impl<T: Allocative + Described> Allocative for RefCell<T> {
 }
 
 impl<T: Allocative + Described> Allocative for OnceCell<T> {
-    ghost may_show = { λ _. shows.Field (codes "OnceCell") ⟦<OnceCell<T> as Described>⟧.size
-        (cell_inside T.size T.may_show) };
+    ghost may_show = { λ _. shows.Field (codes "OnceCell") ⟦<OnceCell<T> as Described>⟧.layout.size
+        (cell_inside T.layout.size T.may_show) };
 
     fn visit(&self, visitor: &mut Visitor<'_>) -> Result<(), Refusal> {
         match self.get() {
@@ -43,8 +43,8 @@ impl<T: Allocative + Described> Allocative for OnceCell<T> {
 }
 
 impl<T: Allocative + Described> Allocative for Mutex<T> {
-    ghost may_show = { λ _. shows.Field (codes "Mutex") ⟦<Mutex<T> as Described>⟧.size
-        (cell_inside T.size T.may_show) };
+    ghost may_show = { λ _. shows.Field (codes "Mutex") ⟦<Mutex<T> as Described>⟧.layout.size
+        (cell_inside T.layout.size T.may_show) };
 
     fn visit(&self, visitor: &mut Visitor<'_>) -> Result<(), Refusal> {
         match self.try_lock() {
@@ -55,8 +55,8 @@ impl<T: Allocative + Described> Allocative for Mutex<T> {
 }
 
 impl<T: Allocative + Described> Allocative for RwLock<T> {
-    ghost may_show = { λ _. shows.Field (codes "RwLock") ⟦<RwLock<T> as Described>⟧.size
-        (cell_inside T.size T.may_show) };
+    ghost may_show = { λ _. shows.Field (codes "RwLock") ⟦<RwLock<T> as Described>⟧.layout.size
+        (cell_inside T.layout.size T.may_show) };
 
     fn visit(&self, visitor: &mut Visitor<'_>) -> Result<(), Refusal> {
         match self.try_read() {
@@ -67,8 +67,8 @@ impl<T: Allocative + Described> Allocative for RwLock<T> {
 }
 
 impl<T: Allocative + Described> Allocative for OnceLock<T> {
-    ghost may_show = { λ _. shows.Field (codes "OnceLock") ⟦<OnceLock<T> as Described>⟧.size
-        (cell_inside T.size T.may_show) };
+    ghost may_show = { λ _. shows.Field (codes "OnceLock") ⟦<OnceLock<T> as Described>⟧.layout.size
+        (cell_inside T.layout.size T.may_show) };
 
     fn visit(&self, visitor: &mut Visitor<'_>) -> Result<(), Refusal> {
         match self.get() {

@@ -30,7 +30,8 @@ impl Allocative for String {
 
 impl<T: Allocative + Described> Allocative for Vec<T> {
     ghost may_show = { λ v. shows.Field (codes "Vec") (Some 24)
-        (buffer_shows T.size (shows.slice_shows T.name T.size T.needs_drop T.may_show v.items) (length v.items)
+        (buffer_shows T.layout.size (shows.slice_shows T.layout.name T.layout.size T.layout.needs_drop T.may_show
+        v.items) (length v.items)
         (vec_capacity v)) };
 
     ghost is_strict = { T.is_strict };
@@ -48,7 +49,8 @@ impl<T: Allocative + Described> Allocative for Vec<T> {
 
 impl<T: Allocative + Described> Allocative for VecDeque<T> {
     ghost may_show = { λ d. shows.Field (codes "VecDeque") (Some 32)
-        (buffer_shows T.size (cut_shows T.name T.size T.needs_drop T.may_show d.items) (length d.items)
+        (buffer_shows T.layout.size (cut_shows T.layout.name T.layout.size T.layout.needs_drop T.may_show d.items)
+        (length d.items)
         (deque_capacity d)) };
 
     ghost is_strict = { T.is_strict };
@@ -67,7 +69,7 @@ impl<T: Allocative + Described> Allocative for VecDeque<T> {
 
 impl<T: Allocative + Described> Allocative for LinkedList<T> {
     ghost may_show = { λ l. shows.Field (codes "LinkedList") (Some 24) (shows.Unique (codes "ptr") 8 (shows.Both
-        (data_shows T.size T.may_show l) (bytes_shown (codes "links") (Some 16) (length l)))) };
+        (data_shows T.layout.size T.may_show l) (bytes_shown (codes "links") (Some 16) (length l)))) };
 
     ghost is_strict = { T.is_strict };
 
@@ -81,7 +83,8 @@ impl<T: Allocative + Described> Allocative for LinkedList<T> {
 
 impl<T: Allocative + Described + Ord> Allocative for BinaryHeap<T> {
     ghost may_show = { λ h. shows.Field (codes "BinaryHeap") (Some 24)
-        (buffer_shows T.size (shows.slice_shows T.name T.size T.needs_drop T.may_show (heap_items h)) (heap_len h)
+        (buffer_shows T.layout.size (shows.slice_shows T.layout.name T.layout.size T.layout.needs_drop T.may_show
+        (heap_items h)) (heap_len h)
         (heap_capacity h)) };
 
     ghost is_strict = { T.is_strict };
@@ -99,7 +102,8 @@ impl<T: Allocative + Described + Ord> Allocative for BinaryHeap<T> {
 
 impl<K: Allocative + Described + Ord, V: Allocative + Described> Allocative for BTreeMap<K, V> {
     ghost may_show = { λ m. shows.Field (codes "BTreeMap") (Some 24)
-        (shows.Inside (codes "data") 8 (shows.each_shows (pair_shows K.size K.may_show V.size V.may_show) m.entries)) };
+        (shows.Inside (codes "data") 8 (shows.each_shows (pair_shows K.layout.size K.may_show V.layout.size V.may_show)
+        m.entries)) };
 
     ghost is_strict = { K.is_strict && V.is_strict };
 
@@ -110,7 +114,7 @@ impl<K: Allocative + Described + Ord, V: Allocative + Described> Allocative for 
 
 impl<K: Allocative + Described + Ord> Allocative for BTreeSet<K> {
     ghost may_show = { λ s. shows.Field (codes "BTreeSet") (Some 24)
-        (shows.Inside (codes "data") 8 (shows.each_shows (field_of (codes "key") K.size K.may_show) s.keys)) };
+        (shows.Inside (codes "data") 8 (shows.each_shows (field_of (codes "key") K.layout.size K.may_show) s.keys)) };
 
     ghost is_strict = { K.is_strict };
 
@@ -124,8 +128,9 @@ impl<
     V: Allocative + Described,
     S: BuildHasher + Described + Drop,
 > Allocative for HashMap<K, V, S> {
-    ghost may_show = { λ m. shows.Field (codes "HashMap") ⟦<HashMap<K, V, S> as Described>⟧.size
-        (shows.Inside (codes "data") 8 (in_any_order (pair_shows K.size K.may_show V.size V.may_show) m.entries)) };
+    ghost may_show = { λ m. shows.Field (codes "HashMap") ⟦<HashMap<K, V, S> as Described>⟧.layout.size
+        (shows.Inside (codes "data") 8 (in_any_order (pair_shows K.layout.size K.may_show V.layout.size V.may_show)
+        m.entries)) };
 
     ghost is_strict = { K.is_strict && V.is_strict };
 
@@ -137,8 +142,8 @@ impl<
 
 impl<K: Allocative + Described + Eq + Hash, S: BuildHasher + Described + Drop> Allocative
     for HashSet<K, S> {
-    ghost may_show = { λ s. shows.Field (codes "HashSet") ⟦<HashSet<K, S> as Described>⟧.size
-        (shows.Inside (codes "data") 8 (in_any_order (field_of (codes "key") K.size K.may_show) s.keys)) };
+    ghost may_show = { λ s. shows.Field (codes "HashSet") ⟦<HashSet<K, S> as Described>⟧.layout.size
+        (shows.Inside (codes "data") 8 (in_any_order (field_of (codes "key") K.layout.size K.may_show) s.keys)) };
 
     ghost is_strict = { K.is_strict };
 

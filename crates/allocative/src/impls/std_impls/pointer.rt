@@ -1,5 +1,5 @@
-//! Boxes, references, shared values, `ManuallyDrop` and `PhantomData`. `BoxedSlice` and `BoxedStr` are a pointer to a
-//! slice or a text, which has an entry of its own.
+//! Boxes, references, shared values, `Reverse`, `Wrapping`, `ManuallyDrop` and `PhantomData`. `BoxedSlice` and
+//! `BoxedStr` are a pointer to a slice or a text, which has an entry of its own.
 
 ghost use Rattle.std.specs.Prelude.{true, codes, length, Some};
 ghost use Rattle.std.specs.Box.{boxed_slice_items, boxed_str_bytes};
@@ -14,8 +14,10 @@ use crate::{
     Shared, Unique, Visitor, Whole, shared_inner_size,
 };
 use std::boxed::{BoxedSlice, BoxedStr};
+use std::cmp::Reverse;
 use std::marker::PhantomData;
 use std::mem::ManuallyDrop;
+use std::num::Wrapping;
 
 impl<T: Allocative> Allocative for Box<T> {
     ghost may_show = { λ b. shows.Field (codes "Box") (Some 8)
@@ -30,7 +32,7 @@ impl<T: Allocative> Allocative for Box<T> {
 
 impl<T: Allocative + Described> Allocative for BoxedSlice<T> {
     ghost may_show = { λ b. shows.Field (codes "Box") (Some 16)
-        (shows.Unique (codes "ptr") 16 (slice_of T.name T.size T.may_show (boxed_slice_items b))) };
+        (shows.Unique (codes "ptr") 16 (slice_of T.layout.name T.layout.size T.may_show (boxed_slice_items b))) };
 
     ghost is_strict = { T.is_strict };
 
@@ -65,9 +67,19 @@ impl<T> Allocative for &'static T {
     }
 }
 
+impl Allocative for &'static str {
+    ghost may_show = { λ _. shows.Nothing };
+
+    ghost is_strict = { true };
+
+    fn visit(&self, visitor: &mut Visitor<'_>) -> Result<(), Refusal> {
+        ().enter(visitor)
+    }
+}
+
 impl<T: Allocative + Described> Allocative for IdRc<T> {
     ghost may_show = { λ s. shows.Field (codes "Rc") (Some 8)
-        (shared_inside (codes "RcInner") s.id T.size T.align (T.may_show s.value)) };
+        (shared_inside (codes "RcInner") s.id T.layout.size T.layout.align (T.may_show s.value)) };
 
     ghost is_strict = { T.is_strict };
 
@@ -84,7 +96,7 @@ impl<T: Allocative + Described> Allocative for IdRc<T> {
 
 impl<T: Allocative + Described> Allocative for IdArc<T> {
     ghost may_show = { λ s. shows.Field (codes "Arc") (Some 8)
-        (shared_inside (codes "ArcInner") s.id T.size T.align (T.may_show s.value)) };
+        (shared_inside (codes "ArcInner") s.id T.layout.size T.layout.align (T.may_show s.value)) };
 
     ghost is_strict = { T.is_strict };
 
@@ -100,8 +112,8 @@ impl<T: Allocative + Described> Allocative for IdArc<T> {
 }
 
 impl<T: Allocative + Described> Allocative for ManuallyDrop<T> {
-    ghost may_show = { λ slot. shows.Field (codes "ManuallyDrop") T.size
-        (shows.Field (codes "inner") T.size (T.may_show (manually_drop_value slot))) };
+    ghost may_show = { λ slot. shows.Field (codes "ManuallyDrop") T.layout.size
+        (shows.Field (codes "inner") T.layout.size (T.may_show (manually_drop_value slot))) };
 
     ghost is_strict = { T.is_strict };
 
@@ -117,5 +129,27 @@ impl<T> Allocative for PhantomData<T> {
 
     fn visit(&self, visitor: &mut Visitor<'_>) -> Result<(), Refusal> {
         ().enter(visitor)
+    }
+}
+
+impl<T: Allocative + Described> Allocative for Reverse<T> {
+    ghost may_show = { λ x. shows.Field (codes "Reverse") T.layout.size
+        (shows.Field (codes "0") T.layout.size (T.may_show x.0)) };
+
+    ghost is_strict = { T.is_strict };
+
+    fn visit(&self, visitor: &mut Visitor<'_>) -> Result<(), Refusal> {
+        Whole(self, Field("0", &self.0)).enter(visitor)
+    }
+}
+
+impl<T: Allocative + Described> Allocative for Wrapping<T> {
+    ghost may_show = { λ x. shows.Field (codes "Wrapping") T.layout.size
+        (shows.Field (codes "0") T.layout.size (T.may_show x.0)) };
+
+    ghost is_strict = { T.is_strict };
+
+    fn visit(&self, visitor: &mut Visitor<'_>) -> Result<(), Refusal> {
+        Whole(self, Field("0", &self.0)).enter(visitor)
     }
 }

@@ -1,15 +1,19 @@
-//! Types of one entry each: numbers, numbers that are not zero, `char`, `bool`, the unit type, atomics, of which none is
-//! read, addresses, times and durations.
+//! Types of one entry each: numbers, numbers that are not zero, `char`, `bool`, the unit type, atomics, of which none
+//! is read, addresses, times and durations, `Ordering`, and texts that may be another's, of which the size alone is
+//! shown.
 
 ghost use Rattle.std.specs.Prelude.{true, codes};
 ghost use Rattle.allocative.specs.StdShows.{Leaf};
 
 use crate::{Allocative, Refusal, Visitor};
+use std::borrow::CowStr;
+use std::cmp::Ordering;
 use std::net::{IpAddr, Ipv4Addr, Ipv6Addr};
 use std::num::{
     NonZeroI8, NonZeroI16, NonZeroI32, NonZeroI64, NonZeroIsize, NonZeroU8, NonZeroU16, NonZeroU32,
     NonZeroU64, NonZeroUsize,
 };
+use std::sync::ArcStr;
 use std::sync::atomic::{
     AtomicBool, AtomicI8, AtomicI16, AtomicI32, AtomicI64, AtomicIsize, AtomicU8, AtomicU16,
     AtomicU32, AtomicU64, AtomicUsize,
@@ -453,5 +457,35 @@ impl Allocative for Duration {
 
     fn visit(&self, visitor: &mut Visitor<'_>) -> Result<(), Refusal> {
         visitor.visit_simple_sized::<Duration>()
+    }
+}
+
+impl Allocative for Ordering {
+    ghost may_show = { λ _. Leaf (codes "Ordering") 1 };
+
+    ghost is_strict = { true };
+
+    fn visit(&self, visitor: &mut Visitor<'_>) -> Result<(), Refusal> {
+        visitor.visit_simple_sized::<Ordering>()
+    }
+}
+
+impl Allocative for ArcStr {
+    ghost may_show = { λ _. Leaf (codes "Arc") 16 };
+
+    ghost is_strict = { true };
+
+    fn visit(&self, visitor: &mut Visitor<'_>) -> Result<(), Refusal> {
+        visitor.visit_simple_sized::<ArcStr>()
+    }
+}
+
+impl Allocative for CowStr<'static> {
+    ghost may_show = { λ _. Leaf (codes "Cow") 24 };
+
+    ghost is_strict = { true };
+
+    fn visit(&self, visitor: &mut Visitor<'_>) -> Result<(), Refusal> {
+        visitor.visit_simple_sized::<CowStr<'static>>()
     }
 }

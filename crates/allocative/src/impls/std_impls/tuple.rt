@@ -8,8 +8,8 @@ ghost use Rattle.allocative.specs.Bodies.{slice_of};
 use crate::{Allocative, Described, Field, Part, Refusal, Visitor, Whole};
 
 impl<A: Allocative + Described> Allocative for (A,) {
-    ghost may_show = { λ p. shows.Field (codes "tuple1") ⟦<(A,) as Described>⟧.size
-        (shows.Field (codes "0") A.size (A.may_show p.0)) };
+    ghost may_show = { λ p. shows.Field (codes "tuple1") ⟦<(A,) as Described>⟧.layout.size
+        (shows.Field (codes "0") A.layout.size (A.may_show p.0)) };
 
     ghost is_strict = { A.is_strict };
 
@@ -19,9 +19,9 @@ impl<A: Allocative + Described> Allocative for (A,) {
 }
 
 impl<A: Allocative + Described, B: Allocative + Described> Allocative for (A, B) {
-    ghost may_show = { λ p. shows.Field (codes "tuple2") ⟦<(A, B) as Described>⟧.size
-        (shows.Both (shows.Field (codes "0") A.size (A.may_show p.0))
-        (shows.Field (codes "1") B.size (B.may_show p.1))) };
+    ghost may_show = { λ p. shows.Field (codes "tuple2") ⟦<(A, B) as Described>⟧.layout.size
+        (shows.Both (shows.Field (codes "0") A.layout.size (A.may_show p.0))
+        (shows.Field (codes "1") B.layout.size (B.may_show p.1))) };
 
     ghost is_strict = { A.is_strict && B.is_strict };
 
@@ -32,10 +32,10 @@ impl<A: Allocative + Described, B: Allocative + Described> Allocative for (A, B)
 
 impl<A: Allocative + Described, B: Allocative + Described, C: Allocative + Described> Allocative
     for (A, B, C) {
-    ghost may_show = { λ p. shows.Field (codes "tuple3") ⟦<(A, B, C) as Described>⟧.size
-        (shows.Both (shows.Field (codes "0") A.size (A.may_show p.0))
-        (shows.Both (shows.Field (codes "1") B.size (B.may_show p.1))
-        (shows.Field (codes "2") C.size (C.may_show p.2)))) };
+    ghost may_show = { λ p. shows.Field (codes "tuple3") ⟦<(A, B, C) as Described>⟧.layout.size
+        (shows.Both (shows.Field (codes "0") A.layout.size (A.may_show p.0))
+        (shows.Both (shows.Field (codes "1") B.layout.size (B.may_show p.1))
+        (shows.Field (codes "2") C.layout.size (C.may_show p.2)))) };
 
     ghost is_strict = { A.is_strict && (B.is_strict && C.is_strict) };
 
@@ -51,11 +51,11 @@ impl<
     C: Allocative + Described,
     D: Allocative + Described,
 > Allocative for (A, B, C, D) {
-    ghost may_show = { λ p. shows.Field (codes "tuple4") ⟦<(A, B, C, D) as Described>⟧.size
-        (shows.Both (shows.Field (codes "0") A.size (A.may_show p.0))
-        (shows.Both (shows.Field (codes "1") B.size (B.may_show p.1))
-        (shows.Both (shows.Field (codes "2") C.size (C.may_show p.2))
-        (shows.Field (codes "3") D.size (D.may_show p.3))))) };
+    ghost may_show = { λ p. shows.Field (codes "tuple4") ⟦<(A, B, C, D) as Described>⟧.layout.size
+        (shows.Both (shows.Field (codes "0") A.layout.size (A.may_show p.0))
+        (shows.Both (shows.Field (codes "1") B.layout.size (B.may_show p.1))
+        (shows.Both (shows.Field (codes "2") C.layout.size (C.may_show p.2))
+        (shows.Field (codes "3") D.layout.size (D.may_show p.3))))) };
 
     ghost is_strict = { A.is_strict && (B.is_strict && (C.is_strict && D.is_strict)) };
 
@@ -73,12 +73,12 @@ impl<
     D: Allocative + Described,
     E: Allocative + Described,
 > Allocative for (A, B, C, D, E) {
-    ghost may_show = { λ p. shows.Field (codes "tuple5") ⟦<(A, B, C, D, E) as Described>⟧.size
-        (shows.Both (shows.Field (codes "0") A.size (A.may_show p.0))
-        (shows.Both (shows.Field (codes "1") B.size (B.may_show p.1))
-        (shows.Both (shows.Field (codes "2") C.size (C.may_show p.2))
-        (shows.Both (shows.Field (codes "3") D.size (D.may_show p.3))
-        (shows.Field (codes "4") E.size (E.may_show p.4)))))) };
+    ghost may_show = { λ p. shows.Field (codes "tuple5") ⟦<(A, B, C, D, E) as Described>⟧.layout.size
+        (shows.Both (shows.Field (codes "0") A.layout.size (A.may_show p.0))
+        (shows.Both (shows.Field (codes "1") B.layout.size (B.may_show p.1))
+        (shows.Both (shows.Field (codes "2") C.layout.size (C.may_show p.2))
+        (shows.Both (shows.Field (codes "3") D.layout.size (D.may_show p.3))
+        (shows.Field (codes "4") E.layout.size (E.may_show p.4)))))) };
 
     ghost is_strict = { A.is_strict && (B.is_strict && (C.is_strict && (D.is_strict && E.is_strict))) };
 
@@ -100,13 +100,13 @@ impl<
     E: Allocative + Described,
     F: Allocative + Described,
 > Allocative for (A, B, C, D, E, F) {
-    ghost may_show = { λ p. shows.Field (codes "tuple6") ⟦<(A, B, C, D, E, F) as Described>⟧.size (shows.Both
-        (shows.Both (shows.Field (codes "0") A.size (A.may_show p.0))
-        (shows.Both (shows.Field (codes "1") B.size (B.may_show p.1))
-        (shows.Field (codes "2") C.size (C.may_show p.2))))
-        (shows.Both (shows.Field (codes "3") D.size (D.may_show p.3))
-        (shows.Both (shows.Field (codes "4") E.size (E.may_show p.4))
-        (shows.Field (codes "5") F.size (F.may_show p.5))))) };
+    ghost may_show = { λ p. shows.Field (codes "tuple6") ⟦<(A, B, C, D, E, F) as Described>⟧.layout.size (shows.Both
+        (shows.Both (shows.Field (codes "0") A.layout.size (A.may_show p.0))
+        (shows.Both (shows.Field (codes "1") B.layout.size (B.may_show p.1))
+        (shows.Field (codes "2") C.layout.size (C.may_show p.2))))
+        (shows.Both (shows.Field (codes "3") D.layout.size (D.may_show p.3))
+        (shows.Both (shows.Field (codes "4") E.layout.size (E.may_show p.4))
+        (shows.Field (codes "5") F.layout.size (F.may_show p.5))))) };
 
     ghost is_strict = { (A.is_strict && (B.is_strict && C.is_strict))
         && (D.is_strict && (E.is_strict && F.is_strict)) };
@@ -128,14 +128,14 @@ impl<
     F: Allocative + Described,
     G: Allocative + Described,
 > Allocative for (A, B, C, D, E, F, G) {
-    ghost may_show = { λ p. shows.Field (codes "tuple7") ⟦<(A, B, C, D, E, F, G) as Described>⟧.size (shows.Both
-        (shows.Both (shows.Field (codes "0") A.size (A.may_show p.0))
-        (shows.Both (shows.Field (codes "1") B.size (B.may_show p.1))
-        (shows.Field (codes "2") C.size (C.may_show p.2))))
-        (shows.Both (shows.Field (codes "3") D.size (D.may_show p.3))
-        (shows.Both (shows.Field (codes "4") E.size (E.may_show p.4))
-        (shows.Both (shows.Field (codes "5") F.size (F.may_show p.5))
-        (shows.Field (codes "6") G.size (G.may_show p.6)))))) };
+    ghost may_show = { λ p. shows.Field (codes "tuple7") ⟦<(A, B, C, D, E, F, G) as Described>⟧.layout.size (shows.Both
+        (shows.Both (shows.Field (codes "0") A.layout.size (A.may_show p.0))
+        (shows.Both (shows.Field (codes "1") B.layout.size (B.may_show p.1))
+        (shows.Field (codes "2") C.layout.size (C.may_show p.2))))
+        (shows.Both (shows.Field (codes "3") D.layout.size (D.may_show p.3))
+        (shows.Both (shows.Field (codes "4") E.layout.size (E.may_show p.4))
+        (shows.Both (shows.Field (codes "5") F.layout.size (F.may_show p.5))
+        (shows.Field (codes "6") G.layout.size (G.may_show p.6)))))) };
 
     ghost is_strict = { (A.is_strict && (B.is_strict && C.is_strict))
         && (D.is_strict && (E.is_strict && (F.is_strict && G.is_strict))) };
@@ -158,15 +158,16 @@ impl<
     G: Allocative + Described,
     H: Allocative + Described,
 > Allocative for (A, B, C, D, E, F, G, H) {
-    ghost may_show = { λ p. shows.Field (codes "tuple8") ⟦<(A, B, C, D, E, F, G, H) as Described>⟧.size (shows.Both
-        (shows.Both (shows.Field (codes "0") A.size (A.may_show p.0))
-        (shows.Both (shows.Field (codes "1") B.size (B.may_show p.1))
-        (shows.Both (shows.Field (codes "2") C.size (C.may_show p.2))
-        (shows.Field (codes "3") D.size (D.may_show p.3)))))
-        (shows.Both (shows.Field (codes "4") E.size (E.may_show p.4))
-        (shows.Both (shows.Field (codes "5") F.size (F.may_show p.5))
-        (shows.Both (shows.Field (codes "6") G.size (G.may_show p.6))
-        (shows.Field (codes "7") H.size (H.may_show p.7)))))) };
+    ghost may_show = { λ p. shows.Field (codes "tuple8") ⟦<(A, B, C, D, E, F, G, H) as Described>⟧.layout.size
+        (shows.Both
+        (shows.Both (shows.Field (codes "0") A.layout.size (A.may_show p.0))
+        (shows.Both (shows.Field (codes "1") B.layout.size (B.may_show p.1))
+        (shows.Both (shows.Field (codes "2") C.layout.size (C.may_show p.2))
+        (shows.Field (codes "3") D.layout.size (D.may_show p.3)))))
+        (shows.Both (shows.Field (codes "4") E.layout.size (E.may_show p.4))
+        (shows.Both (shows.Field (codes "5") F.layout.size (F.may_show p.5))
+        (shows.Both (shows.Field (codes "6") G.layout.size (G.may_show p.6))
+        (shows.Field (codes "7") H.layout.size (H.may_show p.7)))))) };
 
     ghost is_strict = { (A.is_strict && (B.is_strict && (C.is_strict && D.is_strict)))
         && (E.is_strict && (F.is_strict && (G.is_strict && H.is_strict))) };
@@ -180,7 +181,7 @@ impl<
 }
 
 impl<T: Allocative + Described, const N: usize> Allocative for [T; N] {
-    ghost may_show = { slice_of T.name T.size T.may_show };
+    ghost may_show = { slice_of T.layout.name T.layout.size T.may_show };
 
     ghost is_strict = { T.is_strict };
 

@@ -1,28 +1,33 @@
 -- What refuses an item, a member, or adding one, refuses the whole graph.
-use Rattle.std.proofs.Common.{◌≡◌, ◌+◌, length, map, take, ap, ◌∙◌, arith, string_capacity}
-use Rattle.allocative_json.proofs.Common.{total, sum_of_all, bytes_alone, value_below, member_below, member_of}
-use Rattle.allocative_json.proofs.Common.{fields_of}
+use Rattle.std.proofs.Common.{List, subst, ◌≡◌, ◌+◌, length, map, take, ap, ◌∙◌, arith, codes, string_capacity, vec_capacity}
+use Rattle.allocative_json.proofs.Common.{total, sum_of_all, bytes_alone, array_bytes, value_below, member_below, member_of}
+use Rattle.allocative_json.proofs.Common.{fields_of, Value, Makes}
 use Rattle.std.proofs.lemmas.Iterator.Consumers.{YieldsList-from_rest, YieldsList-turn}
 use Rattle.allocative_json.proofs.FieldsLemmas.{refused_more, refused_sum, more_within, total-add_self}
 use Rattle.allocative_json.proofs.fields.+fields.Goals as goal
 
-pub add_below-returns-in_err-graph_of : goal.add_below-returns-in_err-graph_of
-add_below-returns-in_err-graph_of t c =
-    let xs = c.deref-value-items.result.now in
-    let f = value_below c.args.key.now in
-    let within = more_within f c.args.start xs c.loop-value.value-index c.value-item.result c.loop-value-test.true c.value-item.is in
-    rw (← c.deref-value-items.ensures.value) (refused_more _ (fields_of c.value-item.result) (sum_of_all c.args.start (map f xs))
-    c.from_residual.result c.in_err-graph_of.field-0.0 c.from_residual.ensures.1 (omega (arith, within)) c.in_err-graph_of.ensures)
+pub graph_of_items-returns-in_err-graph_of : goal.graph_of_items-returns-in_err-graph_of
+graph_of_items-returns-in_err-graph_of t c =
+    let xs = c.deref-item-items.result.now in
+    let f = value_below (codes "[]") in
+    let start = bytes_alone (array_bytes (length c.args.items.now.items) (vec_capacity c.args.items.now)) in
+    let within = more_within f start xs c.loop-item.item-index c.item-item.result c.loop-item-test.true c.item-item.is in
+    subst (λ (ys : List Value). Makes (sum_of_all start (map f ys)) c.from_residual-in_err-graph_of.result)
+    c.deref-item-items.ensures.value (refused_more _ (fields_of c.item-item.result) (sum_of_all start (map f xs))
+    c.from_residual-in_err-graph_of.result c.in_err-graph_of.field-0.0 c.from_residual-in_err-graph_of.ensures.1
+    (omega (arith, within)) c.in_err-graph_of.ensures)
 
-pub add_below-returns-in_err-add_child : goal.add_below-returns-in_err-add_child
-add_below-returns-in_err-add_child t c =
-    let xs = c.deref-value-items.result.now in
-    let f = value_below c.args.key.now in
-    let within = more_within f c.args.start xs c.loop-value.value-index c.value-item.result c.loop-value-test.true c.value-item.is in
-    let before : total c.loop-value.graph ≡ total (sum_of_all c.args.start (map f (take c.loop-value.value-index xs))) =
-    ap total c.loop-value.invariant in
-    let next : total c.in_ok-graph_of.field-0 ≡ total (fields_of c.value-item.result) = ap total c.in_ok-graph_of.ensures in
-    rw (← c.deref-value-items.ensures.value) (refused_sum _ (sum_of_all c.args.start (map f xs)) _
+pub graph_of_items-returns-in_err-add_child : goal.graph_of_items-returns-in_err-add_child
+graph_of_items-returns-in_err-add_child t c =
+    let xs = c.deref-item-items.result.now in
+    let f = value_below (codes "[]") in
+    let start = bytes_alone (array_bytes (length c.args.items.now.items) (vec_capacity c.args.items.now)) in
+    let within = more_within f start xs c.loop-item.item-index c.item-item.result c.loop-item-test.true c.item-item.is in
+    let before : total c.loop-item.graph ≡ total (sum_of_all start (map f (take c.loop-item.item-index xs))) =
+    ap total c.loop-item.invariant in
+    let next : total c.in_ok-graph_of.field-0 ≡ total (fields_of c.item-item.result) = ap total c.in_ok-graph_of.ensures in
+    subst (λ (ys : List Value). Makes (sum_of_all start (map f ys)) c.from_residual-in_err-add_child.result)
+    c.deref-item-items.ensures.value (refused_sum _ (sum_of_all start (map f xs)) _
     c.from_residual-in_err-add_child.result c.in_err-add_child.field-0.0 c.from_residual-in_err-add_child.ensures.1
     c.in_err-add_child.ensures.too_large.0 c.in_err-add_child.ensures.never_open (omega (arith, within, before, next)))
 

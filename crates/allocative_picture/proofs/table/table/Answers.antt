@@ -1,23 +1,32 @@
 -- of table: the result
-use Rattle.std.proofs.Common.{List, map, subst, ◌∙◌, arith, IsPermutation, nat_cmp, is_lt, rules, Bool}
-use Rattle.allocative_picture.proofs.Common.{IsPermutation-map, total, Figures, row_figures, Row}
-use Rattle.std.proofs.lemmas.Cmp.{nat_cmp_total}
-use Rattle.std.proofs.lemmas.List.Sorted.{IsStrictWeakOrder-flip, answers_always, ranks_by, sorted_far}
-use Rattle.allocative_picture.proofs.Viewing.{falls, table-is}
+use Rattle.std.proofs.Common.{[], List, map, ap, subst, ◌∙◌, arith, flat_map, take_all}
+use Rattle.allocative_picture.proofs.Common.{IsPermutation-map, entries, total, texts, table_line}
+use Rattle.allocative_picture.specs.declared.table.Heavy.{Heavy}
+use Rattle.allocative_picture.specs.Table.{weight_of, weights_of, behind, IsKept}
+use Rattle.allocative_picture.proofs.Heaviest.{Weighed, behind-none, falls, none_kept, rows_of_heaviest}
 use Rattle.allocative_picture.proofs.table.table.Goals as goal
 
 pub returns : goal.returns
 returns c =
-    let sorted = c.sort_by.new.self.items in
-    let heavier : Row → Row → Bool = λ a b. is_lt (nat_cmp b.self_size a.self_size) in
-    let order = IsStrictWeakOrder-flip _ (ranks_by nat_cmp_total (λ (r : Row). r.self_size)) in
+    let es = entries c.args.graph.now in
+    let heap = c.keep_all.new.heaviest in
+    let sorted = c.into_sorted_vec-lines.result.items in
+    let kept : IsKept c.args.most (behind (texts c.new-path.result.items) es) heap = c.in_ok-keep_all.ensures.kept [] (record {
+      ordered = c.new-heaviest.ensures.heap_order;
+      heaviest = none_kept c.args.most c.new-heaviest.result c.new-heaviest.ensures.items;
+    }) in
+    let all : IsKept c.args.most es heap = subst (λ (fs : List Weighed). IsKept c.args.most fs heap)
+    (ap (λ ks. behind (texts ks) es) c.new-path.ensures.items ∙ behind-none es) kept in
+    let lines = rows_of_heaviest c.args.most es (weights_of heap) (map weight_of sorted) all.heaviest
+    (IsPermutation-map weight_of _ sorted c.into_sorted_vec-lines.ensures.permutation)
+    (falls sorted (c.into_sorted_vec-lines.ensures.sorted all.ordered)) in
     record {
-      rows = map row_figures sorted;
-      same = subst (λ (fs : List Figures). IsPermutation fs (map row_figures sorted)) c.in-Ok.ensures.rows
-          (IsPermutation-map row_figures c.in-Ok.rows.items sorted c.sort_by.ensures.permutation);
-      falling = falls sorted (sorted_far heavier order sorted (c.in_ok-sort_by.ensures.sorted heavier order
-          (answers_always _ _ _ (λ f a r q k. search rules))));
-      is = table-is _ (total c.args.graph.now) c.args.most c.loop-row.row-index sorted c.deref-row-items.result.now _
-          c.loop-row.invariant (omega arith) (c.deref-row-items.ensures.value ∙ c.truncate.ensures.items)
-          c.total_size-all.ensures.total;
+      rows = lines.rows;
+      same = lines.same;
+      falling = lines.falling;
+      is = c.loop-line.invariant
+          ∙ ap (λ (hs : List Heavy). flat_map (table_line c.total_size-all.result) (map weight_of hs))
+          (take_all c.loop-line.line-index c.deref-line-items.result.now (omega arith) ∙ c.deref-line-items.ensures.value)
+          ∙ ap (λ t. flat_map (table_line t) (map weight_of sorted)) c.total_size-all.ensures.total
+          ∙ lines.lines (total c.args.graph.now);
     }

@@ -1,26 +1,31 @@
--- of by_last_key: the result
-use Rattle.std.proofs.Common.{[], ◌∷◌, IsPermutation, ap, ◌∙◌, arith, take_all}
-use Rattle.allocative_picture.proofs.Common.{Graph, total, size_at, sum_of, default, graph_of_path}
-use Rattle.allocative_graph.proofs.Graphs.{added_up-permuted}
-use Rattle.allocative_picture.specs.Views.{last_of}
-use Rattle.allocative_picture.proofs.Viewing.{row_fits, rows-fold, added_rows, last_bytes, size_at-by_last_key, total-by_last_key}
+-- of by_last_key: the step of its loop, and the result
+use Rattle.std.proofs.Common.{[], ◌∷◌, ◌++◌, ap, sym, ◌∙◌, arith, take, take_all, List}
+use Rattle.allocative_picture.proofs.Common.{Graph, Child, total, size_at, sum_of_all}
+use Rattle.allocative_graph.specs.Rows.{rows_of, rows_of_child}
+use Rattle.allocative_graph.proofs.Children.{rows-more}
+use Rattle.allocative_picture.specs.Views.{bytes_alone, by_last_keys}
+use Rattle.allocative_picture.proofs.Viewing.{by_last_keys-append, size_at-by_last_key, total-by_last_key, by_last_key-node}
 use Rattle.allocative_picture.proofs.views.by_last_key.Goals as goal
 
--- The next row fits, since all rows do.
-pub add_at-requires : goal.add_at-requires
-add_at-requires c =
-    let items = c.deref-row-items.result.now in
-    let order : IsPermutation c.in-Ok.rows.items items = rw c.deref-row-items.ensures.value c.sort_unstable_by.ensures.permutation in
-    record {
-      fits = omega (arith, ap total c.loop-row.invariant, row_fits c.args.graph.now c.in-Ok.rows.items items c.loop-row.row-index c.row-item.result c.in-Ok.ensures.rows order c.loop-row-test.true c.row-item.is (omega (arith, c.total_size-all.ensures.total)));
-    }
+pub loop-child-preserved : goal.loop-child-preserved
+loop-child-preserved c =
+    let cs = c.children-children.result.now in
+    let i = c.loop-child.child-index in
+    let d = c.child-item.result in
+    let start = bytes_alone (size_at c.args.graph.now []) in
+    c.in_ok-add_last_keys.ensures
+    ∙ ap (λ (h : Graph). by_last_keys h (rows_of_child d)) c.loop-child.invariant
+    ∙ sym (by_last_keys-append start (rows_of (take i cs)) (rows_of_child d))
+    ∙ ap (by_last_keys start) (ap (λ (x : Child). rows_of (take i cs) ++ rows_of_child x) c.child-item.is ∙ sym (rows-more cs i d (omega arith)))
 
 pub returns-clause-view : goal.returns-clause-view
 returns-clause-view c =
-    c.loop-row.invariant
-    ∙ ap added_rows (take_all c.loop-row.row-index c.deref-row-items.result.now (omega arith) ∙ c.deref-row-items.ensures.value)
-    ∙ added_up-permuted last_bytes default c.in-Ok.rows.items c.sort_unstable_by.new.self.items c.sort_unstable_by.ensures.permutation
-    ∙ rows-fold (λ h p n. sum_of h (graph_of_path (last_of p) n)) default c.args.graph.now c.in-Ok.rows.items c.in-Ok.ensures.rows
+    let cs = c.children-children.result.now in
+    let n = size_at c.args.graph.now [] in
+    sym (ap (sum_of_all c.add_waiting.new.self.view) c.in_ok-add_waiting.ensures.none) ∙ c.in_ok-add_waiting.ensures.all
+    ∙ c.loop-child.invariant
+    ∙ ap (λ (xs : List Child). by_last_keys (bytes_alone n) (rows_of xs)) (take_all c.loop-child.child-index cs (omega arith))
+    ∙ by_last_key-node c.args.graph.now n cs c.children-children.ensures.whole c.children-children.ensures.children
 
 pub returns-clause-total : goal.returns-clause-total
 returns-clause-total c = ap total (returns-clause-view c) ∙ total-by_last_key c.args.graph.now

@@ -1,7 +1,6 @@
 -- of count_run: one more item is counted, and the run ends
 use Rattle.std.proofs.{lemmas.List.map-append, Common.map}
-use Rattle.allocative_tally.proofs.{◌≡◌, arith, refl, tallies_none, stops, many_more, run_as, run_cannot, run_ends}
-use Rattle.allocative_tally.proofs.{told_by}
+use Rattle.allocative_tally.proofs.{◌≡◌, arith, refl, tallies_none, many_more, run_ends}
 use Rattle.allocative_tally.proofs.counted.count_run.Goals as goal
 
 pub loop-item-init : goal.loop-item-init
@@ -12,14 +11,6 @@ loop-item-preserved g c =
     let seen = g.C.CountItem.seen in
     rw map-append (many_more _ (map seen c.loop-item.yielded) (seen c.in-Some.item) c.loop-item.invariant
     c.in_ok-count_item.ensures)
-
-pub returns-in_err-count_item : goal.returns-in_err-count_item
-returns-in_err-count_item g c =
-    let l = c.loop-item in
-    let none = run_cannot _ l.item-iterator l.yielded l.yielded_by c.in-Some.ensures.steps l.invariant
-    c.in_err-count_item.ensures in
-    rw (← c.into_iter-item-iterator.ensures.into_iter_gives)
-    (run_as none (λ xs n. told_by _ (stops _ _ _ c.from_residual.ensures.0 n)))
 
 pub returns : goal.returns
 returns g c =

@@ -1,11 +1,8 @@
 -- of count_buffer: no buffer, or one with its items
 use Rattle.allocative.proofs.Common.{without_room, without_size}
-use Rattle.allocative_tally.proofs.{◌≡◌, ◌∙◌, ◌-◌, length, Some, refl, sym, ap, arith, rules, tallies_none}
-use Rattle.allocative_tally.proofs.{buffer_unsized, slice_each, slice_one, buffer_counts, told_by}
+use Rattle.allocative_tally.proofs.{◌≡◌, ◌∙◌, ◌-◌, length, Some, refl, sym, ap, arith, tallies_none}
+use Rattle.allocative_tally.proofs.{slice_each, slice_one, buffer_counts, told_by}
 use Rattle.allocative_tally.proofs.sequence.count_buffer.Goals as goal
-
-pub returns-in_default : goal.returns-in_default
-returns-in_default g c = record { along = λ xs y count cut. buffer_unsized (search rules) }
 
 pub returns-then-size-eq0 : goal.returns-then-size-eq0
 returns-then-size-eq0 g c =

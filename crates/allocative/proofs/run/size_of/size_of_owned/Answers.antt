@@ -4,9 +4,9 @@ use Rattle.allocative.proofs.Roots.{visit_answered, visit_refused}
 use Rattle.allocative.proofs.run.size_of.size_of_owned.Goals as goal
 
 pub returns-clause-answer : goal.returns-clause-answer
-returns-clause-answer g c = visit_answered c.in_ok-visit_value.ensures.visited c.of_sum-collector.ensures (refl, refl)
+returns-clause-answer g c = visit_answered c.in_ok-visit_value.ensures c.of_sum-collector.ensures (refl, refl)
     (λ k. (k, c.sum.ensures))
 
 pub returns-in_err-visit_value-clause-answer : goal.returns-in_err-visit_value-clause-answer
-returns-in_err-visit_value-clause-answer g c = visit_refused c.in_err-visit_value.ensures.visited
+returns-in_err-visit_value-clause-answer g c = visit_refused c.in_err-visit_value.ensures
     c.of_sum-collector.ensures (refl, refl) (λ k. k) c.from_residual.ensures.0 (search rules)

@@ -19,15 +19,19 @@ use Rattle.allocative.proofs.visitor.Visitor.enter_self_sized.Met as h-met
 abbrev Lender : Lfts 4 → RattleType
 Lender κs = visitor_row (named_lft 4 1 tt κs)
 
+-- The parameter that is only looked at.
 abbrev This : RattleType → Slot 4
 This T = RefOf (2 ∷ []) tt (plain (λ _. param 0 T)) (λ _. tt)
 
+-- The arguments of the generic code.
 abbrev args : RattleType → Dict → Args
 args T d = bounded (a_type ∷ []) (T, tt) (dcons d dnil)
 
+-- The code at a type.
 abbrev function : RattleType → Dict → Fn
 function T d = inst_fn (args T d) code.function
 
+-- Which parameters the call gives back.
 abbrev stayed : (T : RattleType) (g : Ghosts T.Denot) (d : Dict) →
     Stays (f.ended T g d).signature.params (f.ended T g d).kept
 stayed T g d = (stay_dropped _ no, (stay_dropped (This T) yes, tt))
@@ -66,9 +70,10 @@ enter_self_spec 𝓤 𝓛 𝓜 𝓡 wired T laws g d bound =
     d bound) z
     (and_then ! (get ! refl) (no_more !)) (λ u.
     use1 𝓛 (later (some (λ (res : Result Visitor Refusal). (Tokens ⊛ ‵ ((Answer (κ, (μ, tt))).own_val res (u ∷ []))) ⊛
-    some (λ (vs : Lasts (h.ended T g d) z.0.0 z.0.3). ‵ (lasts (h.ended T g d) z.0.0 z.0.3 vs) ⊛ ‵ (LendsNested false g.name g.size s res) ⊛
-    raw (fact 𝓤 (IfOk res (Nests false g.name g.size s.now))) ⊛ raw
-    (fact 𝓤 (IfErr res (IsRefused false g.size s.now))))))) (id⊢ 𝓤 _) $
+    some (λ (vs : Lasts (h.ended T g d) z.0.0 z.0.3). ‵ (lasts (h.ended T g d) z.0.0 z.0.3 vs) ⊛ ‵
+    (LendsNested false g.layout.name g.layout.size s res) ⊛
+    raw (fact 𝓤 (IfOk res (Nests false g.layout.name g.layout.size s.now))) ⊛ raw
+    (fact 𝓤 (IfErr res (IsRefused false g.layout.size s.now))))))) (id⊢ 𝓤 _) $
     await ! tt $ pick ! (λ res. split ! $ split ! $ move ! (2 ∷ []) $ pick ! (λ vs. split ! $ drop ! $ split ! $
     move ! (1 ∷ []) $ split ! $ heard ! _ (λ entered. heard ! _ (λ refused.
     -- [what self ends as; the tokens; the result; the third token]

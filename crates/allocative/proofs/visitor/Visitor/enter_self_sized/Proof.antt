@@ -16,6 +16,7 @@ use Rattle.allocative.proofs.visitor.Visitor.enter_self_sized.Code as code
 use Rattle.allocative_graph.specs.contracts.key.Key.for_type_name as k
 use Rattle.allocative_graph.proofs.key.Key.for_type_name.Met as k-met
 use Rattle.allocative_described.specs.contracts.described.Described.size as m
+use Rattle.allocative_described.proofs.described.Described.size.Met as m-met
 use Rattle.allocative.specs.contracts.visitor.Visitor.enter_sized as h
 use Rattle.allocative.proofs.visitor.Visitor.enter_sized.Met as h-met
 
@@ -23,12 +24,15 @@ use Rattle.allocative.proofs.visitor.Visitor.enter_sized.Met as h-met
 abbrev Lender : Lfts 3 → RattleType
 Lender κs = visitor_row (named_lft 3 1 tt κs)
 
+-- The arguments of the generic code.
 abbrev args : RattleType → Dict → Args
 args T d = bounded (a_type ∷ []) (T, tt) (dcons d dnil)
 
+-- The code at a type.
 abbrev function : RattleType → Dict → Fn
 function T d = inst_fn (args T d) code.function
 
+-- Which parameters the call gives back.
 abbrev stayed : (T : RattleType) (g : Ghosts T.Denot) (d : Dict) →
     Stays (f.ended T g d).signature.params (f.ended T g d).kept
 stayed T g d = (stay_dropped _ no, tt)
@@ -62,7 +66,7 @@ enter_self_sized_spec 𝓤 𝓛 𝓜 𝓡 wired T laws g d bound =
     bound) x (no_more !) (λ v.
     use1 𝓛 (later (some (λ (name : Key). (Token ⊛ ‵ (key_row.own_val name (v ∷ []))) ⊛
     some (λ (ws : Lasts (k.ended T g d) (ρ, tt) tt). ‵ (lasts (k.ended T g d) (ρ, tt) tt ws) ⊛ raw
-    (fact 𝓤 (name ≡ g.name)))))) (id⊢ 𝓤 _) $
+    (fact 𝓤 (name ≡ g.layout.name)))))) (id⊢ 𝓤 _) $
     await ! tt $ pick !
     (λ name. split ! $ split ! $ move ! (2 ∷ []) $ pick ! (λ ws. split ! $ drop ! $ heard ! _ (λ is_name.
     move ! (1 ∷ []) $ peeks ! key_row _ (shows 𝓛 key_row) name (v ∷ []) (λ name_told.
@@ -74,10 +78,11 @@ enter_self_sized_spec 𝓤 𝓛 𝓜 𝓡 wired T laws g d bound =
     nothing ! $ move ! (1 ∷ 0 ∷ []) $ join ! $ nothing ! $
     use0 𝓛 (raw (fact 𝓤 (ρ ⊑ T.lives))) (fact_i 𝓤 (ρ ⊑ T.lives) (emp 𝓤) lives) $
     move ! (2 ∷ 0 ∷ 1 ∷ []) $ use3 𝓛 (raw (J.pre j)) (id⊢ 𝓤 _) $
-    calls_at ! fm J bound.size j (no_more !) (λ w.
+    calls_at ! fm J (m-met.met 𝓤 𝓛 𝓜 𝓡 (code.calls-allocative_described::described::Described::size 𝓡.env wired) T laws
+    g d bound) j (no_more !) (λ w.
     use1 𝓛 (later (some (λ (size : Option ℕ). (Token ⊛ ‵ (Size.own_val size (w ∷ []))) ⊛
     some (λ (ws : Lasts (m.ended T g d) (ρ, tt) tt). ‵ (lasts (m.ended T g d) (ρ, tt) tt ws) ⊛ raw
-    (fact 𝓤 (size ≡ g.size)))))) (id⊢ 𝓤 _) $
+    (fact 𝓤 (size ≡ g.layout.size)))))) (id⊢ 𝓤 _) $
     await ! tt $ pick !
     (λ size. split ! $ split ! $ move ! (2 ∷ []) $ pick ! (λ ws. split ! $ drop ! $ heard ! _ (λ is_size.
     move ! (1 ∷ []) $ peeks ! Size _ (shows 𝓛 Size) size (w ∷ []) (λ size_told.
@@ -101,7 +106,7 @@ enter_self_sized_spec 𝓤 𝓛 𝓜 𝓡 wired T laws g d bound =
     move ! (1 ∷ []) $ split ! $ heard ! _ (λ entered. heard ! _ (λ refused.
     -- [what self ends as; the two tokens; the result; the token of T]
     rewrite ! 0 (λ (k' : Key). ‵ (LendsNested false k' size s res)) is_name refl $
-    rewrite ! 0 (λ (n : Option ℕ). ‵ (LendsNested false g.name n s res)) is_size refl $
+    rewrite ! 0 (λ (n : Option ℕ). ‵ (LendsNested false g.layout.name n s res)) is_size refl $
     move ! (2 ∷ []) $ peeks ! (Answer z.0.0) _ (shows 𝓛 (Answer z.0.0)) res (u ∷ []) (λ told.
     let good = (((result_laws _ _ (visitor_laws (named_lft 2 0 tt z.0.0)) refusal_laws).lawful 𝓛).typed res (u ∷ [])
     told).0 in
@@ -112,4 +117,8 @@ enter_self_sized_spec 𝓤 𝓛 𝓜 𝓡 wired T laws g d bound =
     move ! (2 ∷ []) $ split ! $ move ! (1 ∷ []) $ split ! $ move ! (0 ∷ 5 ∷ []) $ join ! $ move ! (2 ∷ 0 ∷ []) $
     join ! $
     move ! (1 ∷ []) $ nothing ! $ fjoin ! $ move ! (0 ∷ 2 ∷ []) $ join ! $ move ! (1 ∷ 0 ∷ []) $ join ! $ frame ! $
-    says_two ! (subst (λ (n : Option ℕ). IfOk res (Nests false g.name n s.now)) is_size (subst (λ (k' : Key). IfOk res (Nests false k' size s.now)) is_name entered), subst (λ (n : Option ℕ). IfErr res (IsRefused false n s.now)) is_size refused) $ done !)))))))))))))))))))
+    says_two ! (
+      subst (λ (n : Option ℕ). IfOk res (Nests false g.layout.name n s.now)) is_size
+          (subst (λ (k' : Key). IfOk res (Nests false k' size s.now)) is_name entered),
+      subst (λ (n : Option ℕ). IfErr res (IsRefused false n s.now)) is_size refused,
+    ) $ done !)))))))))))))))))))

@@ -11,7 +11,7 @@ use Rattle.allocative.proofs.Lent.{sets, lands_as, usize, yes, no, shows, uint_v
 use Rattle.allocative.proofs.Lent.{mut_Tells, plain, named_lft, nothing, heard, peeks, only, calls_at, Lasts, lasts}
 use Rattle.allocative.proofs.Lent.{triple_of, framed, Stays, stay_dropped, Goes-dropped, Goes-spent_ref, ends_at, IfOk}
 use Rattle.allocative.proofs.Lent.{IfErr, Option, Result, State, OpensShared, LendsCollector, AnswersShared}
-use Rattle.allocative.proofs.Lent.{answer_without_visitor, Refusal, Key, Identity, Visitor, OpensSharedAt}
+use Rattle.allocative.proofs.Lent.{answer_without_visitor, Refusal, Visitor, OpensSharedAt}
 use Rattle.allocative.proofs.Lent.{WpFn, Is, walk_of, lent_on, visitor_or, VisitorEnds, CollectorEnds}
 use Rattle.allocative.specs.Lending.{EntersShared}
 use Rattle.allocative_graph.specs.contracts.shared.Identity as identity
@@ -26,19 +26,23 @@ use Rattle.allocative.proofs.visitor.by_hand.enter_content.Met as h-met
 use Rattle.allocative.specs.contracts.visitor.transpose as t
 use Rattle.allocative.proofs.visitor.transpose.Met as t-met
 
--- The result of the collector's call, and the result that is returned.
+-- The result of the collector's call.
 abbrev Try : Type 0
 Try = Result Visitor (Option Refusal)
 
+-- The result that is returned.
 abbrev Given : Type 0
 Given = Result (Option Visitor) Refusal
 
+-- The type of the collector's result.
 abbrev TryAnswer : Lfts 2 → RattleType
 TryAnswer κs = result_row (Nested κs) (option_row refusal_row)
 
+-- The type of the result that is returned.
 abbrev SharedAnswer : Lfts 2 → RattleType
 SharedAnswer κs = result_row (option_row (Nested κs)) refusal_row
 
+-- Which parameters the call gives back.
 abbrev stayed : Stays f.ended.signature.params f.ended.kept
 stayed = (stay_dropped _ no, (stay_dropped _ yes, (stay_dropped _ yes, (stay_dropped _ yes, tt))))
 
@@ -47,13 +51,20 @@ pub enter_shared_spec : {M : Type 1} → statement M
 enter_shared_spec 𝓤 𝓛 𝓜 𝓡 wired =
     let c = f.clauses 𝓛 𝓜.mem 𝓡.returns in
     let 𝓣 = tables 𝓤 𝓛.H 𝓜 𝓡 𝓡.env in
-    proved_at 𝓛 f.ended stayed c 𝓜 𝓡 (Goes-spent_ref 𝓛 2 (0 ∷ []) tt (plain Lender), (Goes-blank 𝓛 2 (plain (λ _. key_row)) yes (λ κs x w. tt), (Goes-dropped 𝓛 2 (plain (λ _. usize)) yes (λ κs x w. refl), (Goes-blank 𝓛 2 (plain (λ _. identity.the_row)) yes (λ κs x w. tt), tt))))
+    let key_goes = Goes-blank 𝓛 2 (plain (λ _. key_row)) yes (λ κs x w. tt) in
+    let size_goes = Goes-dropped 𝓛 2 (plain (λ _. usize)) yes (λ κs x w. refl) in
+    let identity_goes = Goes-blank 𝓛 2 (plain (λ _. identity.the_row)) yes (λ κs x w. tt) in
+    proved_at 𝓛 f.ended stayed c 𝓜 𝓡
+    (Goes-spent_ref 𝓛 2 (0 ∷ []) tt (plain Lender), (key_goes, (size_goes, (identity_goes, tt))))
     f.Key.name code.function (code.unfolded 𝓤 𝓛.H 𝓜 𝓡 wired) (λ y₀ are.
     let κs = y₀.0.0 in let qs = y₀.0.1 in let bounds = y₀.0.2 in let a = y₀.0.3 in
     let κ = κs.0 in let q = qs.0 in let s = a.0 in let k = a.1.0 in let n = a.1.1.0 in let j = a.1.1.1.0 in
     let kv = one_value y₀.0.4.1.0 (key_laws.single k y₀.0.4.1.0 are.1.0) in
     let jv = one_value y₀.0.4.1.1.1.0 (identity_laws.single j y₀.0.4.1.1.1.0 are.1.1.1.0) in
-    let e : y₀.0.4 ≡ (mut_vals s, (kv.0 ∷ [], (uint_vals w64 n, (jv.0 ∷ [], tt)))) = λ i. (mut_Tells (named 0) κ (Lender κs) s y₀.0.4.0 are.0 i, (kv.1 i, (uint_Tells w64 n y₀.0.4.1.1.0 are.1.1.0 i, (jv.1 i, tt)))) in
+    let e : y₀.0.4 ≡ (mut_vals s, (kv.0 ∷ [], (uint_vals w64 n, (jv.0 ∷ [], tt)))) = λ i. (
+      mut_Tells (named 0) κ (Lender κs) s y₀.0.4.0 are.0 i,
+      (kv.1 i, (uint_Tells w64 n y₀.0.4.1.1.0 are.1.1.0 i, (jv.1 i, tt))),
+    ) in
     let kis = subst (λ (us : List Val). Is key_row k us) kv.1 are.1.0 in
     let ktyped = ((key_laws.lawful 𝓛).typed k (kv.0 ∷ []) kis).0 in
     let jis = subst (λ (us : List Val). Is identity.the_row j us) jv.1 are.1.1.1.0 in
@@ -84,13 +95,17 @@ enter_shared_spec 𝓤 𝓛 𝓜 𝓡 wired =
     use1 𝓛 (later (some (λ (r : MutBor State). (Tokens ⊛ ‵ (Part.own_val r (v ∷ []))) ⊛
     some (λ (ws : Lasts g.ended κs (s, tt)). ‵ (lasts g.ended κs (s, tt) ws) ⊛ ‵ (LendsCollector s r) ⊛ raw
     (fact 𝓤 (r.now ≡ s.now.collector.now)))))) (id⊢ 𝓤 _) $
-    await ! tt $ pick ! (λ r. split ! $ split ! $ move ! (2 ∷ []) $ pick ! (λ ws. split ! $ drop ! $ split ! $ move ! (1 ∷ []) $ heard ! _ (λ same.
+    await ! tt $ pick ! (λ r. split ! $ split ! $ move ! (2 ∷ []) $ pick ! (λ ws. split ! $ drop ! $ split ! $
+    move ! (1 ∷ []) $ heard ! _ (λ same.
     -- [what self ends as; the tokens; the part lent; the other parameters]
     move ! (2 ∷ []) $ fsplit ! $ feq_l ! (λ is. feq_i ! (List _) (mut_vals r) (mut_vals r) refl $ fjoin ! $
     lands_as ! (ap only is) refl (tt, tt) $
     -- [the part lent; what self ends as; the tokens; the other parameters]
     let H = triple_of 𝓛 h.signature (h.spec 𝓛 𝓜.mem 𝓡.returns) in
-    let z : H.Ghost = (((κ, tt), (q, tt), tt, (r, (k, (n, (j, tt)))), (mut_vals r, (kv.0 ∷ [], (uint_vals w64 n, (jv.0 ∷ [], tt))))), tt) in
+    let z : H.Ghost = (
+      ((κ, tt), (q, tt), tt, (r, (k, (n, (j, tt)))), (mut_vals r, (kv.0 ∷ [], (uint_vals w64 n, (jv.0 ∷ [], tt))))),
+      tt,
+    ) in
     move ! (0 ∷ 3 ∷ []) $ join ! $ move ! (2 ∷ []) $ split ! $ nothing ! $ move ! (1 ∷ 0 ∷ []) $ join ! $
     move ! (0 ∷ 2 ∷ []) $ join ! $
     nothing ! $ move ! (1 ∷ 0 ∷ []) $ use2 𝓛 (raw (H.pre z)) (id⊢ 𝓤 _) $

@@ -13,7 +13,8 @@ loop-item-preserved g c = (
 )
 
 pub returns-in_err-check_failed-clause-only_if_full : goal.returns-in_err-check_failed-clause-only_if_full
-returns-in_err-check_failed-clause-only_if_full g c = record { along = λ i ys y. only_if_full_failed c.in_err-check_failed.ensures }
+returns-in_err-check_failed-clause-only_if_full g c =
+    record { along = λ i ys y. only_if_full_failed c.in_err-check_failed.ensures }
 
 pub returns-in_err-enter_item-clause-only_if_full : goal.returns-in_err-enter_item-clause-only_if_full
 returns-in_err-enter_item-clause-only_if_full g c =

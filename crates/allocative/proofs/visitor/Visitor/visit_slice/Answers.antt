@@ -5,7 +5,7 @@ use Rattle.allocative.proofs.visitor.Visitor.visit_slice.Goals as goal
 
 pub returns-then-are_shown_each-clause-entered : goal.returns-then-are_shown_each-clause-entered
 returns-then-are_shown_each-clause-entered g c =
-    entered_one_by_one _ _ g.T.Described.needs_drop _ _ (search rules) c.visit_each.ensures.entered
+    entered_one_by_one _ _ g.T.Described.layout.needs_drop _ _ (search rules) c.visit_each.ensures.entered
 
 pub returns-clause-entered : goal.returns-clause-entered
-returns-clause-entered g c = entered_plain _ _ g.T.Described.needs_drop _ _ (search rules) (search rules)
+returns-clause-entered g c = entered_plain _ _ g.T.Described.layout.needs_drop _ _ (search rules) (search rules)

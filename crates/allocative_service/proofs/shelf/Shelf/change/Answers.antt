@@ -39,7 +39,8 @@ invariant_of-self-in-Ok g c =
       omega (arith, sums, c.self.invariant.1),
       record {
         within = omega (arith, sums, c.self.invariant.1);
-        measured = All-values-set_value test (IsMeasured g.V.Described.size g.V.Allocative.may_show c.self.inside.measure)
+        measured = All-values-set_value test (IsMeasured g.V.Described.layout.size g.V.Allocative.may_show
+            c.self.inside.measure)
             es w c.self.invariant.2.measured c.in-Ok.ensures.figure;
       },
     )

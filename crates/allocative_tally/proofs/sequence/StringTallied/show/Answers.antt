@@ -3,4 +3,4 @@ use Rattle.allocative_tally.proofs.sequence.StringTallied.show.Goals as goal
 
 pub returns : goal.returns
 returns c =
-    rw (c.of.ensures, c.of-2.ensures, c.of-3.ensures, c.times.ensures) at c.enter.ensures
+    rw (c.of.ensures, c.of-2.ensures, c.of-3.ensures, c.times.ensures, c.size.ensures) at c.enter.ensures

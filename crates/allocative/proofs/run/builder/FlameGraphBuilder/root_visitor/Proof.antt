@@ -8,7 +8,11 @@ use Rattle.allocative.proofs.Lent.{alloc_all, pass_all, free_all, look_at, get, 
 use Rattle.allocative.proofs.Lent.{RattleType, MutRef, mut_vals, mut_Tells, plain, named_lft, nothing, heard, peeks}
 use Rattle.allocative.proofs.Lent.{only, calls_at, Lasts, lasts, triple_of, framed, Stays, stay_dropped, Goes-spent_ref}
 use Rattle.allocative.proofs.Lent.{ends_at, Result, Ok, Err, IfOk, IfErr, OnOk, OnErr, name_if_ok, Refusal, State}
+use Rattle.std.proofs.Common.{◌∙◌}
+use Rattle.std.proofs.lemmas.Result.{on_ok_weaker}
+use Rattle.allocative.proofs.Common.{Failed, Going}
 use Rattle.allocative.proofs.Lent.{OpensRoot, Settles, Visitor, LendsBegun}
+use Rattle.allocative.specs.Kinds.{as_graph}
 use Rattle.allocative.specs.Roots.{LendsBuilt, LendsRoot}
 use Rattle.allocative.specs.Visited.{OpensRootAt}
 use Rattle.allocative.specs.contracts.run.builder.FlameGraphBuilder as builder
@@ -20,15 +24,18 @@ use Rattle.allocative.proofs.run.builder.FlameGraphBuilder.lend.Met as g-met
 use Rattle.allocative.specs.contracts.visitor.collector.Collector.root_visitor as h
 use Rattle.allocative.proofs.visitor.collector.Collector.root_visitor.Met as h-met
 
+-- The type of the result.
 abbrev Answer : Lfts 1 → RattleType
 Answer κs = result_row (visitor_row (named_lft 1 0 tt κs)) refusal_row
 
 -- If no root visitor is returned, the builder ends as a refused beginning says.
-ends_refused : (s c : State) → s ≡ c → (r : Result Visitor Refusal) (z : State) →
-    OnErr r (IfErr r (λ e. OpensRoot c (Err e) z)) → IfErr r (λ e. OpensRoot s (Err e) z)
-ends_refused s c i (Ok v) z h = h
-ends_refused s c i (Err e) z h = rw i h
+ends_refused : (c : State) → as_graph c ≡ c → (r : Result Visitor Refusal) (z : State) →
+    OnErr r (IfErr r (λ e. OpensRoot c (Err e) z)) → IfErr r (λ e. OpensRoot c (Err e) (as_graph z))
+ends_refused c g (Ok v) z h = h
+ends_refused (Failed q) g (Err e) z h = (h.0, ap as_graph h.1)
+ends_refused (Going b) g (Err e) z h = (h.0, h.1, ap as_graph h.2 ∙ g)
 
+-- Which parameters the call gives back.
 abbrev stayed : Stays f.ended.signature.params f.ended.kept
 stayed = (stay_dropped _ no, tt)
 
@@ -57,8 +64,9 @@ root_visitor_spec 𝓤 𝓛 𝓜 𝓡 wired =
     let Part = MutRef (named 0) κ collector_row in
     use1 𝓛 (later (some (λ (r : MutBor State). (Token ⊛ ‵ (Part.own_val r (v ∷ []))) ⊛
     some (λ (ws : Lasts g.ended κs (s, tt)). ‵ (lasts g.ended κs (s, tt) ws) ⊛ ‵ (LendsBuilt s r) ⊛ raw
-    (fact 𝓤 (s.now ≡ r.now)))))) (id⊢ 𝓤 _) $
-    await ! tt $ pick ! (λ r. split ! $ split ! $ move ! (2 ∷ []) $ pick ! (λ ws. split ! $ drop ! $ split ! $ move ! (1 ∷ []) $ heard ! _ (λ same.
+    (fact 𝓤 (s.now ≡ r.now)) ⊛ raw (fact 𝓤 (as_graph r.now ≡ r.now)))))) (id⊢ 𝓤 _) $
+    await ! tt $ pick ! (λ r. split ! $ split ! $ move ! (2 ∷ []) $ pick ! (λ ws. split ! $ drop ! $ split ! $
+    move ! (1 ∷ []) $ split ! $ heard ! _ (λ same. heard ! _ (λ graph.
     -- [what the builder ends as; the token; the part lent]
     move ! (2 ∷ []) $ fsplit ! $ feq_l ! (λ is. feq_i ! (List _) (mut_vals r) (mut_vals r) refl $ fjoin ! $
     lands_as ! (ap only is) refl (tt, tt) $
@@ -80,10 +88,12 @@ root_visitor_spec 𝓤 𝓛 𝓜 𝓡 wired =
     move ! (1 ∷ []) $ split ! $ heard ! _ (λ _. split ! $ heard ! _ (λ begun. heard ! _ (λ refused.
     -- [what the part ends as; the token; the result; what the builder ends as]
     move ! (3 ∷ 0 ∷ []) $ use2 𝓛 (‵ (LendsRoot s res))
-    (nest 𝓛 builder.the_row collector_row (λ c. c) s.ghost_name r.ghost_name
+    (nest 𝓛 builder.the_row collector_row as_graph s.ghost_name r.ghost_name
     (λ w x'. OnOk res (x' ≡ w)) (λ x'. OnErr res (IfErr res (λ w. OpensRoot r.now (Err w) x')))
-    (λ w b. OnOk res (b ≡ w)) (λ b. IfErr res (λ e. OpensRoot s.now (Err e) b)) (λ w z h. h)
-    (ends_refused s.now r.now same res)
+    (λ w b. OnOk res (b ≡ as_graph w)) (λ b. IfErr res (λ e. OpensRoot s.now (Err e) b))
+    (λ w z. on_ok_weaker res (ap as_graph))
+    (λ z h. subst (λ (x : State). IfErr res (λ e. OpensRoot x (Err e) (as_graph z))) (sym same)
+    (ends_refused r.now graph res z h))
     (name_if_ok (λ w. w.collector.ghost_name) res)) $
     move ! (2 ∷ []) $ peeks ! (Answer κs) _ (shows 𝓛 (Answer κs)) res (u ∷ []) (λ told.
     let good = (((result_laws _ _ (visitor_laws (named_lft 1 0 tt κs)) refusal_laws).lawful 𝓛).typed res (u ∷ [])
@@ -92,4 +102,7 @@ root_visitor_spec 𝓤 𝓛 𝓜 𝓡 wired =
     -- [the result; what the builder ends as; the token]
     suffices ! _ (ends_at 𝓛 f.ended stayed c ((κs, qs, bounds, a, (mut_vals s, tt)), tt) u res (tt, tt) (tt, tt)) $
     nothing ! $ nothing ! $ fjoin ! $ join ! $ move ! (2 ∷ 0 ∷ []) $ join ! $ frame ! $
-    says_two ! (subst (λ (x : State). IfOk res (OpensRootAt x)) (sym same) begun, subst (λ (x : State). IfErr res (λ e. Settles x (Err e))) (sym same) refused) $ done !))))))))))))))
+    says_two ! (
+      subst (λ (x : State). IfOk res (OpensRootAt x)) (sym same) begun,
+      subst (λ (x : State). IfErr res (λ e. Settles x (Err e))) (sym same) refused,
+    ) $ done !)))))))))))))))

@@ -1,22 +1,13 @@
 -- A root visitor, what is shown there, and its end.
-use Rattle.std.proofs.Common.{rules, refl}
-use Rattle.allocative.specs.Visited.{not_begun, root_visited}
-use Rattle.allocative.proofs.Roots.{visits_root, root_only_if_full}
+use Rattle.std.proofs.Common.{rules}
+use Rattle.allocative.specs.Visited.{not_begun, by_root}
+use Rattle.allocative.proofs.Visits.{same_err}
 use Rattle.allocative.proofs.visitor.collector.Collector.visit_value.Goals as goal
 
-pub returns-clause-visits_root : goal.returns-clause-visits_root
-returns-clause-visits_root g c = visits_root _ _ c.in_ok-visitor.ensures.begun refl
-    c.visit_value-told.ensures.entered.shown (search rules) c.visit_value-told.ensures.entered.same_outer
-    c.check.ensures
+pub returns-in_err-visitor : goal.returns-in_err-visitor
+returns-in_err-visitor g c =
+    let e = c.in_err-visitor.field-0.0 in
+    rw (same_err {e = e} _ c.from_residual.ensures.0 (search rules)) (not_begun {e = e} (search rules))
 
-pub returns-clause-only_if_full : goal.returns-clause-only_if_full
-returns-clause-only_if_full g c = root_only_if_full _ _ c.in_ok-visitor.ensures.begun refl
-    c.visit_value-told.ensures.entered.only_if_full (search rules) c.visit_value-told.ensures.entered.same_outer
-    c.check.ensures
-
-pub returns-clause-visited : goal.returns-clause-visited
-returns-clause-visited g c = root_visited c.in_ok-visitor.ensures.begun c.visit_value-told.ensures.visited
-    (search rules) c.visit_value-told.ensures.entered.same_outer c.check.ensures
-
-pub returns-in_err-visitor-clause-visited : goal.returns-in_err-visitor-clause-visited
-returns-in_err-visitor-clause-visited g c = not_begun _ c.in_err-visitor.ensures.refused
+pub returns : goal.returns
+returns g c = by_root c.in_ok-visitor.ensures.begun c.visit-told.ensures (search rules) c.check.ensures

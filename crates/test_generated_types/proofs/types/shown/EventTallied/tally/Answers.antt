@@ -1,10 +1,8 @@
 -- Written by bin/implement.
-use Rattle.std.proofs.Common.{arith, false}
+use Rattle.std.proofs.Common.{arith}
 use Rattle.allocative_tally.proofs.Counting.{first_counted, second_counted}
-use Rattle.allocative_tally.proofs.Fields.{both_count, case_counted, field_counts, fixed_counted, next_as, next_case, next_fixed, nothing_counted, own_counted, sure_first, told_as}
+use Rattle.allocative_tally.proofs.Fields.{both_count, case_counted, field_counts, fixed_counted, next_as, next_case, next_fixed, nothing_counted, own_counted, sure_first, told_by, told_then}
 use Rattle.allocative_tally.proofs.Sizes.{holds_bytes}
-use Rattle.allocative_tally.proofs.Weighing.{cannot_case, exceeds_field, exceeds_full, exceeds_left, exceeds_missing, exceeds_right, exceeds_sum, stops}
-use Rattle.std.proofs.lemmas.Result.{MatchResult-weaker}
 use Rattle.allocative_tally.specs.Whole.{as_itself}
 use Rattle.test_generated_types.proofs.types.shown.EventTallied.tally.Goals as goal
 
@@ -17,19 +15,11 @@ returns-in-Quiet c =
 
 pub returns-in-Note : goal.returns-in-Note
 returns-in-Note c =
-    MatchResult-weaker c.count_own.result c.count_own.ensures
-    (λ _ own. next_as (rw c.in-Note.is as_itself)
+    (told_then (told_by c.count_own.result c.count_own.ensures)
+    (λ told. next_as (rw c.in-Note.is as_itself)
     (next_case c.in_ok-declared.ensures
-    (first_counted (own_counted own))
-    (holds_bytes (omega arith))))
-    (λ _ own. rw c.in-Note.is
-    (cannot_case (exceeds_left (own.next _))))
-
-pub returns-in_err-tally-in-Marked : goal.returns-in_err-tally-in-Marked
-returns-in_err-tally-in-Marked c =
-    stops c.from_residual-in_err-tally-in-Marked.result _ _ c.from_residual-in_err-tally-in-Marked.ensures.0
-    (rw c.in-Marked.is
-    (cannot_case (exceeds_right (exceeds_left (exceeds_sum false _ (omega arith))))))
+    (first_counted (own_counted told))
+    (holds_bytes (omega arith))))).told
 
 pub returns-in_ok-tally-in-Marked : goal.returns-in_ok-tally-in-Marked
 returns-in_ok-tally-in-Marked c =
@@ -38,21 +28,9 @@ returns-in_ok-tally-in-Marked c =
     (second_counted (first_counted (fixed_counted _ _ (omega arith))))
     (holds_bytes (omega arith)))
 
-pub returns-in_err-tally-in-Sale : goal.returns-in_err-tally-in-Sale
-returns-in_err-tally-in-Sale c =
-    stops c.from_residual-in_err-tally-in-Sale.result _ _ c.from_residual-in_err-tally-in-Sale.ensures.0
-    (rw c.in-Sale.is
-    (cannot_case (exceeds_right (exceeds_right (exceeds_full c.in_err-tally-in-Sale.ensures)))))
-
-pub returns-in_err-declared-in-Sale : goal.returns-in_err-declared-in-Sale
-returns-in_err-declared-in-Sale c =
-    stops c.from_residual-in_err-declared-in-Sale.result _ _ c.from_residual-in_err-declared-in-Sale.ensures.0
-    (rw c.in-Sale.is
-    (cannot_case (exceeds_right (exceeds_right (exceeds_missing c.in_err-declared-in-Sale.ensures)))))
-
 pub returns-in_ok-tally-in-Sale : goal.returns-in_ok-tally-in-Sale
 returns-in_ok-tally-in-Sale c =
-    told_as (sure_first
+    (told_then (sure_first
     next_fixed
     (both_count c.and.ensures
     (field_counts _ _ _ _ _ _ c.tally-shelf.ensures)
@@ -62,6 +40,4 @@ returns-in_ok-tally-in-Sale c =
     (second_counted (second_counted (case_counted c.in_ok-declared-in-Sale.ensures (omega arith)
     told
     (holds_bytes (omega arith)))))
-    (holds_bytes (omega arith))))
-    (λ told. rw c.in-Sale.is
-    (cannot_case (exceeds_right (exceeds_right (exceeds_field (told.next _))))))
+    (holds_bytes (omega arith))))).told

@@ -14,4 +14,4 @@ pub returns-in-Somewhere : goal.returns-in-Somewhere
 returns-in-Somewhere g c =
     visited_if c.enter-in-Somewhere.ensures (search (rules, strict))
     (rw c.in-Somewhere.is
-    (means_field refl refl (means_field refl c.size.ensures means_same)))
+    (means_field refl refl (means_field refl (search rules) means_same)))
