@@ -155,6 +155,12 @@ pub child_written : (F : Path × ℕ → List ℕ) (cs : List Child) (i : ℕ) (
 child_written F cs i d before h at =
     rw (rows-more cs i d h, ← at, flat_map-append F (rows_of (take i cs)) (rows_of_child d)) (append_assoc before _ _)
 
+-- What is kept of a line is its start if as many bytes are kept as the start has.
+pub kept_of_start : (start key more : List ℕ) {n : ℕ} {s : List ℕ} → n ≡ length start → s ≡ (start ++ key) ++ more →
+    take n s ≡ start
+kept_of_start start key more len longer =
+    (λ i. take (len i) ((longer ∙ append_assoc start key more) i)) ∙ take-append_seam start (key ++ more)
+
 -- What the line of a path is, by the test of its size.
 pub ruleset of_lines = (nat_tests, common_steps)
 

@@ -1,6 +1,7 @@
 //! Flame graphs: maps from paths of keys to sizes.
 ghost use Rattle.std.specs.Prelude.{◌≡◌, ◌+◌, ◌^◌, ◌<◌, ◌≤◌, ◌↔◌, ◌++◌, [], ◌∷◌, IfOk, IfErr, IfSome, IfNone, OnOk, OnErr, IsErrOf, MatchResult, string_bytes, length, is_ok, map, flat_map};
 ghost use Rattle.std.specs.List.{insert};
+ghost use Rattle.std.specs.Bool.{OnTrue};
 ghost use Rattle.std.specs.Option.{SomeIff};
 ghost use Rattle.std.specs.FinMap.{entries};
 ghost use Rattle.allocative_graph.specs.Path.{key_cmp, texts};
@@ -370,11 +371,21 @@ impl FlameGraph {
         for child in &self.children {
             start.push_str(child.key.as_str())?;
             push_line(start.as_str(), child.graph.self_size(), text)?;
-            start.push(';')?;
-            child.graph.write_lines(start, text)?;
+            if !child.graph.is_leaf() {
+                start.push(';')?;
+                child.graph.write_lines(start, text)?;
+            }
             start.truncate(length);
         }
         Ok(())
+    }
+
+    // Whether the root has no children.
+    #[tactic(auto, using(std::proofs::lemmas::List::nil_from_length, crate::proofs::Nodes::entries_of_node, crate::proofs::Nodes::own_of_node))]
+    fn is_leaf(&self) -> bool
+        ensures { OnTrue result (entries self.now ≡ ([], size_at self.now []) ∷ []) }
+    {
+        self.children.is_empty()
     }
 }
 
