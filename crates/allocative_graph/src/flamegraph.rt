@@ -616,6 +616,17 @@ fn total_size_of(children: &[Child]) -> Option<usize>
     Some(sum)
 }
 
+// The first eight bytes of a key as a number, with zeros after a shorter key.
+fn start_of(key: &str) -> u64 {
+    let bytes = key.as_bytes();
+    if let Some(first) = bytes.first_chunk() {
+        return u64::from_be_bytes(*first);
+    }
+    let mut padded = [0; 8];
+    padded[..bytes.len()].copy_from_slice(bytes);
+    u64::from_be_bytes(padded)
+}
+
 // A graph that has only the children. They are added in the order of their keys, so that each is put at the end.
 #[tactic(auto, using(std::proofs::lemmas::List::nil_from_length, crate::proofs::Graphs::all_permuted))]
 fn gather(alloc: Global, children: Vec<Child>) -> Result<FlameGraph, AllocError>
@@ -623,7 +634,14 @@ fn gather(alloc: Global, children: Vec<Child>) -> Result<FlameGraph, AllocError>
     ensures { IfOk result (λ graph. graph ≡ sum_of_all default children.items) }
 {
     let mut sorted = children;
-    sorted.sort_by(|left: &Child, right: &Child| left.key.cmp(&right.key))?;
+    if sorted.is_sorted_by(|left: &Child, right: &Child| right.key <= left.key) {
+        sorted.reverse();
+    } else if !sorted.is_sorted_by(|left: &Child, right: &Child| left.key <= right.key) {
+        sorted.sort_by_cached_key(|child: &Child| (
+            start_of(child.key.as_str()),
+            child.key.copy(),
+        ))?;
+    }
     let mut waiting = VecDeque::from(sorted);
     let mut graph = FlameGraph::default(alloc);
     while let Some(child) = waiting.pop_front() {
