@@ -69,7 +69,8 @@ def run(chosen: argparse.Namespace) -> int:
         is_inline = chosen.in_place or (chosen.check and not os.path.exists(shown))
         source = Source(text, chosen, is_inline)
         found = source.writers()
-        new = "" if source.faults else new_text(source, found)
+        texts = [] if source.faults else formatted(source.texts(found))
+        new = source.with_pieces(found, texts) if is_inline and not source.faults else "".join(texts)
     except Fault as fault:
         return tell(path, text, [fault])
     if source.faults:
@@ -93,12 +94,6 @@ def run(chosen: argparse.Namespace) -> int:
     if source.passed_over:
         say(source.passed_line())
     return 0
-
-
-def new_text(source: Source, found: list[Writer]) -> str:
-    """The text of the module `shown`, or of the file with its pieces."""
-    texts = formatted(source.texts(found))
-    return source.with_pieces(found, texts) if source.is_inline else texts[0]
 
 
 def formatted(texts: list[str]) -> list[str]:

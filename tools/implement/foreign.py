@@ -63,19 +63,12 @@ def buffer(path: str, size: int, length: str, call: str, module: str = "") -> Fo
 
 # The types by their crates, or by their paths. The sizes are those of Rust 1.95 on x86-64, with `url` 2.3, `uuid` 1.2 and `bytes` 1.2. Those
 # of `jiff` were not compared.
-KNOWN = {
-    ("uuid", "Uuid"): plain("Uuid", 16, 1),
-    ("jiff", "Timestamp"): plain("Timestamp", 16, 8),
-    ("jiff", "SignedDuration"): plain("SignedDuration", 16, 8),
+PLAIN = """uuid Uuid 16 1|jiff Timestamp 16 8|jiff SignedDuration 16 8|jiff Span 64 8|jiff Date 4 2|jiff Time 8 4|
+jiff DateTime 12 4|std SocketAddr 32 4|std SocketAddrV4 6 2|std SocketAddrV6 28 4"""
+KNOWN = {(home, name): plain(name, int(size), int(align)) for home, name, size, align in map(str.split, PLAIN.split("|"))}
+KNOWN |= {
     ("jiff", "Zoned"): plain("Zoned", 40, 8, True),
-    ("jiff", "Span"): plain("Span", 64, 8),
-    ("jiff", "Date"): plain("Date", 4, 2),
-    ("jiff", "Time"): plain("Time", 8, 4),
-    ("jiff", "DateTime"): plain("DateTime", 12, 4),
     ("std", "io", "Error"): plain("Error", 8, 8, True),
-    ("std", "SocketAddr"): plain("SocketAddr", 32, 4),
-    ("std", "SocketAddrV4"): plain("SocketAddrV4", 6, 2),
-    ("std", "SocketAddrV6"): plain("SocketAddrV6", 28, 4),
     ("url", "Url"): buffer("url::Url", 88, "length (serialize {})", "as_str().len()", "url.specs.Parts"),
     ("bytes", "Bytes"): buffer("bytes::Bytes", 32, "length {}", "len()"),
     ("bytes", "BytesMut"): buffer("bytes::BytesMut", 32, "length {}.items", "len()"),

@@ -6,7 +6,7 @@ import re
 from functools import cache
 from typing import Callable, Container, Iterable, Iterator
 
-from .library import BEFORE_HASHER, PRELUDE, TYPES
+from .library import BEFORE_HASHER, NUMBERS, PRELUDE, TYPES
 from .types import Definition, Module, Type, type_of
 
 # Traits with their paths, of which `Ord` alone implies another that a key needs.
@@ -33,8 +33,9 @@ class Scope:
         self.outside, self.declared = outside, declared
         self.strict: set[str] = set()
         self.tallied: set[str] = set()
+        self.inlined: dict[str, int] = {}
         self.constants = {name for each in module.types.values() for name in each.names("const")}
-        self.reason = cache(self.reason)
+        self.reason, self.dynamic = cache(self.reason), cache(self.dynamic)
 
     def own(self, kind: Type) -> Definition | None:
         """The definition of a type of the module itself."""
@@ -72,15 +73,12 @@ class Scope:
             if reason or kind.name == "PhantomData":
                 return reason
         shown, hashers = split_at_hasher(kind)
-        whys = [self.reason(part, parameters) for part in shown] + [self.hasher_reason(part) for part in hashers]
+        whys = [self.reason(part, parameters) for part in shown]
+        for part in hashers:
+            is_own = self.own(part) and "Described" in self.module.implemented.get(part.name, ())
+            is_known = is_own or (self.path(part)[:1] == ("std",) and part.name == "RandomState")
+            whys += [] if is_known else [f"`{part.text}` makes hashers, and is no type that is described"]
         return next(filter(None, whys), "")
-
-    def hasher_reason(self, kind: Type) -> str:
-        """Why a type that makes hashers has no declared size, or nothing."""
-        definition, home = self.own(kind), self.path(kind)[0] if kind.path else ""
-        is_own = definition and "Described" in self.module.implemented.get(definition.name, ())
-        is_known = is_own or (home == "std" and kind.name == "RandomState")
-        return "" if is_known else f"`{kind.text}` makes hashers, and is no type that is described"
 
     def path_reason(self, kind: Type) -> str:
         """Why a type that is named by a path cannot be shown, whatever its arguments are."""
@@ -93,11 +91,6 @@ class Scope:
             if len(path) == 1:
                 return f"`{kind.text}` is neither declared nor imported in this file"
         return self.outside(path)
-
-    def is_unknown(self, kind: Type) -> bool:
-        """Whether a type is named that the module neither declares nor imports."""
-        is_alone = len(kind.path) == 1 and len(self.path(kind)) == 1
-        return is_alone and self.own(kind) is None and kind.name[0].isupper() and not self.is_of_library(kind)
 
     def is_constant(self, kind: Type) -> bool:
         """Whether a type stands for a const parameter."""
@@ -143,18 +136,28 @@ class Scope:
         for part in kind.parts:
             yield from self.refusals(part, definition)
 
-    def dynamic(self, kind: Type, passed: Path = ()) -> str:
+    def dynamic(self, kind: Type) -> str:
         """A trait object or a function pointer that values of a type hold, also in types of the crate, or nothing."""
-        for each in self.real(kind).all():
+        passed, waiting = {""}, [kind]
+        for each in (part for kind in waiting for part in self.real(kind).all()):
             if each.form == "other" and each.text.startswith(DYNAMIC):
                 return each.text
-            path = self.path(each)
-            own = self.own(each) or (self.declared(each.name) if path[:1] in (("crate",), ("super",), ("self",)) else None)
-            for member in own.members if own and own.name not in passed else ():
-                found = self.dynamic(member.type, (*passed, own.name))
-                if found:
-                    return found
+            is_near = self.path(each)[:1] in (("crate",), ("super",), ("self",))
+            own = self.own(each) or (self.declared(each.name) if is_near else None)
+            waiting += [member.type for member in own.members] if own and own.name not in passed else []
+            passed.add(own.name if own else "")
         return ""
+
+    def inline(self, kind: Type) -> int:
+        """About how many fields a value has in itself, and not behind a pointer, with those of its fields."""
+        kind = self.real(kind)
+        if kind.text not in self.inlined:
+            self.inlined[kind.text] = 0
+            own, known = self.own(kind), kind.name in TYPES and self.has(kind, "pointer")
+            parts = [member.type for member in own.members] if own else () if known else kind.parts
+            inner = 40 if kind.name in BEFORE_HASHER else 0 if own or kind.name in NUMBERS else 10
+            self.inlined[kind.text] = inner + sum(1 + self.inline(part) for part in parts)
+        return self.inlined[kind.text]
 
     def traits(self, kind: Type, definition: Definition) -> set[str]:
         """The traits that a type in a definition is seen to have; of a type that is not judged here all."""
@@ -189,15 +192,12 @@ class Scope:
 
     def find_strict(self) -> None:
         """Finds which types without type parameters are strict, of those that get implementations now."""
-        types = [self.module.types[name] for name in self.wanted]
-        types = [each for each in types if not each.names("type")]
-        found = {each.name: [member.type for member in each.shown if member.is_whole] for each in types}
-        self.strict = set()
-        while len(found) != len(self.strict):
-            self.strict = set(found)
-            flags = cache(self.flags)
-            not_strict = {name for name, kinds in found.items() if any(flags(kind, ()) for kind in kinds)}
-            found = {name: kinds for name, kinds in found.items() if name not in not_strict}
+        types = [each for name, each in self.module.types.items() if name in self.wanted and not each.names("type")]
+        kinds = {each.name: [member.type for member in each.shown if member.is_whole] for each in types}
+        found, self.strict = set(kinds), set()
+        while found != self.strict:
+            self.strict, flags = found, cache(self.flags)
+            found = {name for name in found if not any(flags(kind, ()) for kind in kinds[name])}
         self.flags = cache(self.flags)
 
 

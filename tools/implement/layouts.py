@@ -3,6 +3,8 @@
 from __future__ import annotations
 
 import re
+import textwrap
+from functools import reduce
 from typing import NamedTuple
 
 from . import foreign
@@ -31,7 +33,8 @@ FOUND = {(home, name): size for home, sizes in SIZES.items() for size, names in 
 # What is taken for a field of which only the size is said.
 UNKNOWN = Bytes(0, 8, True)
 NAME = re.compile(r"\w+")
-SIGN = re.compile(r" (?=with |or )")
+# Where a line may end.
+SIGN = re.compile("\xa0(?=with\xa0|or\xa0)")
 
 
 class Layout(NamedTuple):
@@ -43,17 +46,13 @@ class Layout(NamedTuple):
     @property
     def operand(self) -> str:
         """The clause as what stands at a sign."""
-        return f"({self.clause})" if SIGN.search(self.clause) else self.clause
+        return f"({self.clause})" if re.search(" with | or ", self.clause) else self.clause
 
     def lines(self, indent: str) -> str:
         """The clause on lines that are not long."""
-        lines = [""]
-        for piece in SIGN.split(self.clause):
-            if lines[-1] and len(lines[-1]) + len(piece) > 96:
-                lines.append(piece)
-            else:
-                lines[-1] += f"{' ' * bool(lines[-1])}{piece}"
-        return f"\n{indent}".join(lines)
+        words = SIGN.sub(" ", self.clause.replace(" ", "\xa0"))
+        lines = textwrap.wrap(words, 97, break_long_words=False, break_on_hyphens=False)
+        return f"\n{indent}".join(lines).replace("\xa0", " ")
 
 
 def of_type(kind: str) -> Layout:
@@ -73,11 +72,9 @@ def of_fields(name: str, fields: list[Layout]) -> Layout:
     return Layout(f'Layout::empty("{name}"){code}', " with ".join((f'empty (codes "{name}")', *(each.operand for each in fields))))
 
 
-def of_either(variants: list[Layout]) -> Layout:
-    """Room for the greatest of some variants."""
-    first, *others = variants
-    code = "".join(f".or({each.code})" for each in others)
-    return Layout(first.code + code, " or ".join((first.clause, *(each.operand for each in others))))
+def either(one: Layout, other: Layout) -> Layout:
+    """Room for the greater of two."""
+    return Layout(f"{one.code}.or({other.code})", f"{one.clause} or {other.operand}")
 
 
 def padded(layout: Layout) -> Layout:
@@ -103,7 +100,7 @@ class Layouts:
         if definition.is_enum:
             named = [(variant.name, fields) for variant, fields in zip(definition.variants, lists) if fields]
             variants = [fields[0] if len(fields) == 1 else of_fields(name, fields) for name, fields in named]
-            lists = [[of_type("u8"), *([of_either([*dict.fromkeys(variants)])] if variants else ())]]
+            lists = [[of_type("u8"), *([reduce(either, dict.fromkeys(variants))] if variants else ())]]
         return padded(of_fields(definition.name, lists[0]))
 
     def of_variant(self, variant: Variant, definition: Definition) -> Layout:
@@ -141,11 +138,8 @@ class Layouts:
         if home in FOUND and not self.scope.own(kind):
             return Bytes(*FOUND[home], True)
         parts = [self.bytes(part) for part in kind.parts]
-        known_parts = [part for part in parts if part]
-        return self.of_parts(kind, home, known_parts) if len(known_parts) == len(parts) else None
-
-    def of_parts(self, kind: Type, home: tuple[str, str], parts: list[Bytes]) -> Bytes | None:
-        """The bytes of a type whose size follows from its parts."""
+        if not all(parts):
+            return None
         if kind.form == "tuple":
             return laid_out(parts)
         if kind.form == "array":

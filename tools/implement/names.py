@@ -10,7 +10,6 @@ from .types import Type, Variant
 
 # How many parts a tuple has at most.
 GROUP = 5
-LETTERS = [*"abcdefghijklmnopqrstuvw"]
 NAME = re.compile(r"[A-Za-z_]\w*")
 
 
@@ -23,7 +22,7 @@ def bound(names: list[str], taken: str = "visitor self tally is") -> list[str]:
 
 def lettered(count: int) -> list[str]:
     """So many letters."""
-    return [LETTERS[at] if at < len(LETTERS) else f"a{at}" for at in range(count)]
+    return [chr(ord("a") + at) if at < 23 else f"a{at}" for at in range(count)]
 
 
 def joined(parts: list[Any], join: Callable[[list[Any]], Any]) -> Any:

@@ -25,9 +25,9 @@ LEMMAS = {
     "allocative.proofs.Meaning": "entered_loosely strict_same means_both means_field means_same visited_as visited_if",
     "allocative.proofs.Parts": "strict",
     "allocative_tally.proofs.Counting": "first_counted second_counted",
-    "allocative_tally.proofs.Fields": "both_count case_counted field_counts fixed_counted holding next_as next_both next_case "
-    "next_fixed next_nothing next_whole nothing_counted own_counted sure_first sure_second told_by told_then "
-    "whole_counts",
+    "allocative_tally.proofs.Fields": "both_count case_counted field_counts fixed_counted holding holding_tuples next_as "
+    "next_both next_case next_fixed next_nothing next_whole nothing_counted own_counted sure_first sure_second told_by "
+    "told_then whole_counts",
     "allocative_tally.proofs.Sizes": "holds_bytes",
     "allocative_tally.specs.Whole": "as_itself",
 }

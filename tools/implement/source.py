@@ -13,6 +13,7 @@ from . import foreign
 from .foreign import Foreign
 from .known import Scope, is_lasting
 from .layouts import Layouts, is_wide
+from .names import NAME
 from .tally import HOMES, MANY, Tally, find_tallied, reason
 from .text import Writer
 from .tokens import Fault, Tokens
@@ -24,6 +25,12 @@ RESERVED = CODE | {"Option", "Result", "Box", "String"}
 BY_HAND = 'write it by hand: "A type that holds itself" in docs/IMPLEMENTING.md'
 TACTIC = "[tactic(auto, using(allocative::proofs::Parts::parts))]\n"
 OUTWARD = re.compile(r"(?<![\w:])(self|super)::(\w+)")
+# At most about so many fields, at any depth, stand in a type but behind pointers. What enters a value refers to each
+# twice, and the checker takes no type that reaches too many.
+LARGEST_INLINE = 8000
+# If a type holds itself, at most so many names of types stand in its fields and in those of the types that it reaches. The
+# checker proves the drop of such a type with 373 names, and stops with 451; with parameters it stops between 222 and 263.
+REACH, GENERIC_REACH = 430, 230
 LETTER = re.compile(r"[^\n]")
 LINE = re.compile(r"[^\n]*")
 # The words of clauses, by their modules, and the signs.
@@ -85,18 +92,16 @@ class Crate:
         kinds = {each: {kind.name for member in one.members for kind in member.type.all()} for each, one in self.types.items()}
         return closure(name, lambda each: kinds.get(each, set()) & kinds.keys())
 
-    def implements(self, name: str, traits: tuple[str, ...]) -> bool:
-        """Whether some traits are implemented for a type."""
-        return {(trait, name) for trait in traits} <= self.implemented
-
     def reason(self, path: tuple[str, ...], traits: tuple[str, ...] = ("Allocative", "Described")) -> str:
         """Why a type of another file cannot be shown, or nothing: it lacks some traits."""
         root, name = path[0], path[-1]
-        if root not in ("crate", "super", "self"):
-            other = self.others.setdefault(root, Crate(os.path.join(os.path.dirname(self.folder), root)))
-            return "" if other.implements(name, traits) else f"`{name}` of `{root}` has no implementation"
-        if self.implements(name, traits):
+        is_near = root in ("crate", "super", "self")
+        beside = os.path.join(os.path.dirname(self.folder), root)
+        crate = self if is_near else self.others.setdefault(root, Crate(beside))
+        if {(trait, name) for trait in traits} <= crate.implemented:
             return ""
+        if not is_near:
+            return f"`{name}` of `{root}` has no implementation"
         where = next((path for path, text in self.files.items() if name in DECLARED.findall(text)), "")
         what = f"of {where} has no implementation yet: write that one first" if where else "is not found"
         return f"`{name}` {what}"
@@ -193,7 +198,10 @@ class Source:
         if member.name == "deriving":
             faults.append("the checker reserves this name: rename the field")
         if member.is_whole:
-            member = member._replace(foreign=foreign.of(self.scope, member.type), size=self.borrowed(member.type))
+            member = member._replace(foreign=foreign.of(self.scope, member.type))
+            kind = self.scope.real(member.type)
+            if kind.form == "reference" and not is_lasting(kind):
+                member = member._replace(size=self.layouts.bytes(kind).size)
         types = definition.names("type")
         reason = self.scope.reason(member.type, types) if member.is_whole else ""
         is_known = self.layouts.of_field(member._replace(is_skipped=True, size=None), types) is not None
@@ -208,11 +216,6 @@ class Source:
         for what in faults:
             self.fault(member.at, f"{where}: {what}")
         return member
-
-    def borrowed(self, kind: Type) -> int | None:
-        """The size by which a reference is shown that may end, or nothing."""
-        known, kind = self.layouts.bytes(kind), self.scope.real(kind)
-        return known.size if known and kind.form == "reference" and not is_lasting(kind) else None
 
     def passed(self, name: str, where: str, member: Member, reason: str, advice: str) -> Member:
         """A field that is passed over, with advice if its size is not known."""
@@ -235,11 +238,13 @@ class Source:
 
     def advice(self, member: Member, is_known: bool) -> str:
         """What to do about a field that cannot be shown, whose layout may be known."""
-        size, skip = self.size_advice(member.type), ", or `// allocative: skip`, for none" if is_known else ""
+        known, skip = self.layouts.bytes(member.type), ", or `// allocative: skip`, for none" if is_known else ""
+        size = f"size {known.size}`, for one entry of {known.size} bytes" if known else "size N`, where N is what "
+        size += "" if known else f"`size_of::<{member.type.text}>()` gives in Rust, for one entry of N bytes"
         size = f"write above it `// allocative: {size}{skip}"
         for kind in self.scope.real(member.type).all():
             path, known = self.scope.path(kind) if kind.path else (), foreign.of(self.scope, kind)
-            if self.scope.is_unknown(kind):
+            if len(path) == 1 and kind.name[0].isupper() and not (self.scope.own(kind) or self.scope.is_of_library(kind)):
                 return f"add the `use` of `{kind.name}`, or {size}"
             if known:
                 return f"put the `{known.name}` into a struct of your own, or {size}"
@@ -250,13 +255,6 @@ class Source:
                 boxed = "BoxedStr" if held == "str" else f"BoxedSlice<{held[1:-1]}>"
                 return f"write `{boxed}` of `std::boxed`, or {size}"
         return size
-
-    def size_advice(self, kind: Type) -> str:
-        """The size to write above a field."""
-        known = self.layouts.bytes(kind)
-        if known is None:
-            return f"size N`, where N is what `size_of::<{kind.text}>()` gives in Rust, for one entry of N bytes"
-        return f"size {known.size}`, for one entry of {known.size} bytes"
 
     def passed_line(self) -> str:
         """How many fields are passed over, and their bytes."""
@@ -285,6 +283,11 @@ class Source:
             what = f"{names} hold each other: write `#[cycle(NAME)]` above each of them, with one name"
         elif cycle and (len(cycle) > 1 or definition.parameters) and definition.is_enum and len(definition.variants) == 1:
             what = "an enum of one variant that has parameters or holds others which hold it is not written: make it a struct"
+        elif cycle[:1] == [definition] and self.named(definition) > (GENERIC_REACH if definition.parameters else REACH):
+            why = f"the {len(self.reached(definition.name))} types that it reaches have too many fields for the checker"
+            what = f"it holds itself, and {why}: let it hold fewer types"
+        elif sum(1 + self.scope.inline(member.type) for member in definition.members) > LARGEST_INLINE:
+            what = "it has too many fields for the checker, with those of its fields: hold some behind a `Box`"
         if what:
             raise Fault(definition.at, what)
 
@@ -320,6 +323,11 @@ class Source:
             return {kind.name for kind in kinds if self.scope.own(kind)}
 
         return closure(name, held)
+
+    def named(self, definition: Definition) -> int:
+        """How many names of types stand in the fields of the types that a type reaches."""
+        members = (member for name in self.reached(definition.name) for member in self.module.types[name].members)
+        return sum(len(NAME.findall(member.type.text)) for member in members)
 
     def counts(self, kind: Type) -> bool:
         """Whether fields of a type are counted first: if it has a tally, and holds any number of items."""
@@ -357,17 +365,13 @@ class Source:
 
     def with_pieces(self, found: list[Writer], texts: list[str]) -> str:
         """The file with a piece behind each type, and without those that were written before."""
-        edits, ends = [(*piece, "") for piece in self.pieces], [self.line_end(each.definition) for each in found]
-        edits += [(end, end, f"\n{BEGIN}\n{text}{END}") for end, text in zip(ends, texts)]
+        edits = [(*piece, "") for piece in self.pieces]
+        for each, text in zip(found, texts):
+            end, rest = each.definition.end, LINE.match(self.text, each.definition.end)[0]
+            if rest.strip() and not rest.strip().startswith("//"):
+                raise Fault(end, f"{each.name}: more stands behind it on its last line: write that on a line of its own")
+            edits.append((end + len(rest), end + len(rest), f"\n{BEGIN}\n{text}{END}"))
         return spliced(self.text, sorted(edits))
-
-    def line_end(self, definition: Definition) -> int:
-        """The end of the line on which a type ends, which has nothing more but a comment."""
-        rest = LINE.match(self.text, definition.end)[0]
-        if rest.strip() and not rest.strip().startswith("//"):
-            what = "more stands behind it on its last line: write that on a line of its own"
-            raise Fault(definition.end, f"{definition.name}: {what}")
-        return definition.end + len(rest)
 
 
 def crate_of(path: str) -> tuple[str, list[str]]:

@@ -22,13 +22,16 @@ MANY = having("many")
 # The modules of the library that have the words of the code.
 HOMES = {"field": {"CountedField", "FieldMany", "OwnTally", "SizedMany", "count_own"}}
 HOMES["tally"] = {"CountError", "Entries", "Tallied", "added", "declared"}
-SHAPES = {"Beside", "NoEntry", "entries"}
 # What a field adds to the weight of a tally, by the name of its type and those of its parts: a number 1, a map 6, a set
 # or what other crates have for many items 10, any other 3. The checker's borrow checker covers what shows 32 texts, of
 # the weight 96, and stops with 36. It covers all others of that weight that were tried.
 WEIGHTS = dict.fromkeys(NUMBERS, 1) | dict.fromkeys(("BTreeMap", "HashMap"), 6)
 WEIGHTS |= dict.fromkeys(("BTreeSet", "HashSet", "IndexMap", "IndexSet", "Slab", "SmallVec"), 10)
 LARGEST_TALLY = 96
+# With more parts the entries of a tally need an answer.
+LARGEST_AUTO = 3
+# The checker proves the tally of a struct whose size depends on a name with seven fields, and stops with twelve.
+LARGEST_OPEN = 7
 NAMED_LENGTH = re.compile(r"; *[A-Za-z_]")
 HUMP = re.compile(r"(?<=[a-z0-9])(?=[A-Z])")
 DECLARED = "c.in_ok-declared.ensures"
@@ -90,25 +93,33 @@ def reason_of(source: Source, definition: Definition) -> str:
     types = definition.names("type")
     whys = ["it holds itself"] if definition.name in source.reached(definition.name) else []
     whys += ["it has a lifetime"] if definition.names("lifetime") else []
+    whys += ["it has a const parameter"] if definition.names("const") else []
     whys += [f"the field {each.name} is not shown whole" for each in definition.shown if each.foreign]
     whys += filter(None, (reason(source.scope, each.type, types) for each in definition.shown if each.is_whole))
     entries = sum(each.is_entry for each in definition.variants) if definition.is_enum else 0
     whys += ["it has parameters, and a variant of several fields"] if entries and types else []
+    is_long = len(definition.shown) > LARGEST_OPEN and not definition.is_enum
+    whys += ["its size depends on a name, and it has more than seven fields"] if is_long and is_open(definition) else []
     weights = (weight(source.scope, each.type) if each.is_whole else 2 for each in definition.shown)
     whys += ["it has too many fields for the checker"] if 2 * entries + sum(weights) > LARGEST_TALLY else []
     return whys[0] if whys else ""
 
 
+def is_open(definition: Definition) -> bool:
+    """Whether the size of a type depends on a parameter, or on the length of an array that has a name."""
+    return bool(definition.names("type")) or any(NAMED_LENGTH.search(each.type.text) for each in definition.shown)
+
+
 def find_tallied(source: Source) -> dict[str, str]:
     """Finds which of the types that are written get tallies, and returns why the others get none."""
     found: dict[str, str] = {}
-    while True:
+    more = {"": ""}
+    while more:
         source.scope.tallied = source.wanted.keys() - found.keys()
-        more = {name: reason_of(source, each) for name, each in source.wanted.items() if name not in found}
-        more = {name: why for name, why in more.items() if why}
-        if not more:
-            return found
+        whys = {name: reason_of(source, each) for name, each in source.wanted.items() if name not in found}
+        more = {name: why for name, why in whys.items() if why}
         found |= more
+    return found
 
 
 def paired(parts: list[Any], pair: Callable[[Any, Any], Any], none: Any) -> Any:
@@ -132,9 +143,10 @@ class Tally:
         self.kept = [each for each in self.flat if each.bytes is None or (self.definition.is_enum and each in inside)]
         self.parameters = [f"S{number + 1}" for number in range(len(self.kinds))]
         # The sizes are numbers, unless a parameter or the length of an array has a name.
-        lengths = [NAMED_LENGTH.search(each.type.text) for each in self.definition.shown]
-        is_open = writer.types or writer.definition.names("const") or any(lengths)
-        self.room = "(search (rules, holding))" if is_open else "(holds_bytes (omega arith))"
+        self.room = "(search (rules, holding))" if is_open(self.definition) else "(holds_bytes (omega arith))"
+        if is_open(self.definition) and len(self.root.inside) > 2 and not self.definition.is_enum:
+            # Fields in groups hold those of a layout in their order.
+            self.room = f"(search holding_tuples depth {3 * len(self.root.inside) + 3})"
         self.name = writer.source.free(writer.name, "Tally")
         self.text = self.struct() + self.tallied()
 
@@ -199,8 +211,8 @@ class Tally:
             body += self.together(self.root.inside, names, [f"&self.{part.key}" for part in self.root.inside], INDENT)
         writer.proofs.answer(f"{writer.name}Tallied/tally", self.counted(), writer.proofs.lemma)
         entries = sum(part.bytes is None and not part.kind for part in self.root.inside) if self.definition.is_enum else 0
-        if entries:
-            sizes = ", ".join(f"c.size{ordinal(at)}.ensures" for at in range(1, entries + 2))
+        sizes = ", ".join(f"c.size{ordinal(at)}.ensures" for at in range(1, entries + 2))
+        if entries or len(self.root.inside) > LARGEST_AUTO:
             writer.proofs.answer(f"{writer.name}Tallied/show", [("returns", f"rw ({sizes}) at c.enter.ensures")])
         return (
             f"{writer.head('Tallied', 'Tallied')}    type Tally = {kind};\n\n"

@@ -16,11 +16,6 @@ from .types import Definition, Member, Type, Variant, split
 if TYPE_CHECKING:
     from .source import Source
 
-# If a type holds itself, at most so many names of types stand in its fields and in those of the types that it reaches.
-# The checker proves the drop of such a type with 373 names, and stops with 451; with parameters it proves one with 222, and
-# stops with 263.
-LARGEST_REACH = 430
-LARGEST_GENERIC_REACH = 230
 INDENT, DEEPER = " " * 8, " " * 16
 # The lines that make the buffer of a `Vec`, whose items are shown one by one: its name, a reference to it, and its place.
 BUFFER = """let {0} = allocative::Buffer {{
@@ -54,12 +49,12 @@ class Writer:
         self.cycle = {each.name: each for each in cycle}
         self.nothing = "plain shows.Nothing" if cycle else "shows.Nothing"
         self.is_borrowed = bool(definition.names("lifetime"))
-        members = [member for each in cycle or [definition] for member in each.shown]
-        self.flags = sorted(set().union(*map(self.flags_of, members)))
+        whole = [member.type for each in cycle or [definition] for member in each.shown if member.is_whole]
+        flags = {flag for kind in whole for flag in self.scope.flags(kind, self.types)}
+        # The flags on which it depends whether what is shown is strict.
+        self.flags = sorted(flag for flag in flags if not self.cycle.keys() & set(NAME.findall(flag)))
         # Whether the flag is stated: of a type that holds itself if it depends on parameters alone.
         self.is_flagged = not cycle or set(self.flags) <= {f"{each}.is_strict" for each in self.types}
-        if [*self.cycle][:1] == [self.name]:
-            self.refuse_large()
         self.layout = self.layouts.of(definition)
         # The parts that stand before the implementations.
         self.parts = ""
@@ -114,18 +109,16 @@ class Writer:
 
     def record(self, variant: Variant) -> str:
         """The type that has the layout of a variant, if its values are counted."""
-        constants = self.definition.names("const")
-        return self.source.records[self.name, variant.name] + in_angles([*constants])
+        return self.source.records[self.name, variant.name]
 
     def records(self) -> str:
         """The types that have the layouts of the variants with an entry."""
-        text, head = "", self.declared(())
+        text = ""
         for variant in self.definition.variants if self.definition.is_enum and self.name in self.scope.tallied else ():
             if variant.is_entry:
-                name = self.source.records[self.name, variant.name]
-                about = f"/// The fields of the variant `{variant.name}` of `{self.name}`.\nstruct {name}{head};\n\n"
-                layout = self.layouts.of_variant(variant, self.definition)
-                text += f"{about}impl{head} Described for {self.record(variant)} {{\n{described(layout)}}}\n\n"
+                name, layout = self.record(variant), self.layouts.of_variant(variant, self.definition)
+                about = f"/// The fields of the variant `{variant.name}` of `{self.name}`.\nstruct {name};\n\n"
+                text += f"{about}impl Described for {name} {{\n{described(layout)}}}\n\n"
         return text
 
     def shown(self, inside: str) -> str:
@@ -191,11 +184,6 @@ class Writer:
         """What the fields of a struct show."""
         return [self.word(member, member.name, f"{value}.{member.name}") for member in members]
 
-    def flags_of(self, member: Member) -> set[str]:
-        """The flags on which it depends whether the entry of a field is strict."""
-        found = self.scope.flags(member.type, self.types) if member.is_whole else set()
-        return {each for each in found if not set(self.cycle) & set(NAME.findall(each))}
-
     def is_strict(self) -> str:
         """The line of the flag, or nothing if it is not known."""
         flags = self.flags
@@ -208,15 +196,6 @@ class Writer:
         return f"    ghost is_strict = {{ {text} }};\n\n"
 
     # ---- levels of a type that holds itself
-    def refuse_large(self) -> None:
-        """Refuses a type that holds itself and reaches too much for the checker."""
-        types, reached = self.scope.module.types, self.source.reached(self.name)
-        members = [member for name in reached for member in types[name].members]
-        most = LARGEST_GENERIC_REACH if self.types else LARGEST_REACH
-        if sum(len(NAME.findall(member.type.text)) for member in members) > most:
-            why = f"the {len(reached)} types that it reaches have too many fields for the checker: let it hold fewer types"
-            raise Fault(self.definition.at, f"it holds itself, and {why}")
-
     def holds_cycle(self, kind: Type) -> bool:
         """Whether a type names one of the cycle."""
         return bool(self.cycle) and self.scope.holds(kind, self.cycle)

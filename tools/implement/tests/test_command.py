@@ -457,6 +457,8 @@ class CommandTest(unittest.TestCase):
             ("struct A {\n    a: PathBuf,\n}", "the field a is not shown whole"),
             ("struct A(Vec<IdRc<u64>>);", "`IdRc<u64>` has none"),
             ("enum A<T> {\n    B(u64, T),\n    C,\n}", "it has parameters, and a variant of several fields"),
+            ("struct A<const N: usize> {\n    a: [u64; N],\n    b: u64,\n}", "it has a const parameter"),
+            ("struct A<T>(T, u8, u8, u8, u8, u8, u8, u8);", "its size depends on a name, and it has more than seven fields"),
             ("struct A {" + "".join(f"\n    a{at}: String," for at in range(33)) + "\n}", "it has too many fields for the checker"),
         ):
             uses = "use allocative::IdRc;\nuse std::marker::PhantomData;\nuse std::path::PathBuf;\n"
@@ -464,6 +466,14 @@ class CommandTest(unittest.TestCase):
             status, output, told = self.run_it(text, "--counted")
             self.assertEqual((status, told), (0, [f"implement: A has no tally, as {why}"]))
             self.assertNotIn("Tally", output)
+
+    def test_fields_in_fields(self) -> None:
+        """Doubled ten times, a text is too many fields; behind a pointer it is one."""
+        for held, told in (("A{0}, A{0}", "A12: it has too many fields for the checker"), ("Box<A{0}>, Vec<A{0}>", "")):
+            types = [f"#[derive(Drop)]\nstruct A{at + 1}({held.format(at)});\n" for at in range(12)]
+            found = self.run_it("#[derive(Drop)]\nstruct A0(String);\n" + "".join(types))[2]
+            self.assertIn(told, found[-1] if told else "")
+            self.assertEqual(len(found), 3 if told else 0)
 
     def test_a_nested_module(self) -> None:
         text = "mod inner {\n    #[derive(Drop)]\n    pub struct Point {\n        pub x: u32,\n    }\n}\n"
