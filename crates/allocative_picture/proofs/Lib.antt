@@ -6,3 +6,4 @@ pub mod Marking
 pub mod Viewing
 pub mod Heaviest
 pub mod Reversing
+pub mod Choosing

@@ -56,7 +56,7 @@ same-reverse p q = both_ways _ _
     (λ e. ap (λ r. is_same_path p (reverse r)) (sym (same_path (reverse p) q e)) ∙ ap (is_same_path p) (reverse-reverse p) ∙ same_path_itself p)
 
 -- Of rows in order, those of one path have the bytes that are found there.
-bytes_at-found : (q : Path) (es : Sizes) → T (is_sorted path_cmp es) →
+pub bytes_at-found : (q : Path) (es : Sizes) → T (is_sorted path_cmp es) →
     sum_by (λ e. cond (is_same_path q e.0) e.1 0) es ≡ unwrap_or (find path_cmp q es) 0
 bytes_at-found q [] h = refl
 bytes_at-found q (e ∷ es) h =

@@ -1,10 +1,14 @@
--- Views of a graph: its bytes by last key, its reversed paths, and its outline.
+-- Views of a graph: parts of it, its bytes by last key, its reversed paths, and its outline.
 use Rattle.std.specs.Prelude.{◌≡◌, ℕ, zero, suc, ◌<◌, ◌≤◌, ◌⊎◌, ◌-◌, ◌==◌, cond, List, [], ◌∷◌, drop, fold, length, reverse, sum_by, codes}
-use Rattle.std.specs.List.{AllZip}
+use Rattle.std.specs.Prelude.{Bool, not, ◌&&◌, map, nat_lt}
+use Rattle.std.specs.Borrow.{Bor}
+use Rattle.std.specs.List.{AllZip, list_any}
+use Rattle.std.specs.declared.alloc.Global.{Global}
+use Rattle.std.specs.declared.vec.Vec.{Vec}
 use Rattle.std.specs.FinMap.{entries}
-use Rattle.allocative_graph.specs.Path.{Key, Path}
+use Rattle.allocative_graph.specs.Path.{Key, Path, texts}
 use Rattle.allocative_graph.specs.Graph.{Graph, default, add_self, sum_of, under, total, size_at, IsBehind, HasNothing}
-use Rattle.allocative_graph.specs.Graph.{ends_in}
+use Rattle.allocative_graph.specs.Graph.{begins, ends_in}
 use Rattle.allocative_graph.specs.Rows.{node, sum_of_all, AreChildren}
 use Rattle.allocative_graph.specs.Representation.Children.{graph_of_path}
 use Rattle.allocative_graph.specs.declared.flamegraph.Child.{Child}
@@ -13,6 +17,35 @@ use Rattle.allocative_picture.specs.declared.views.Gathered.{Gathered}
 -- The graph whose root alone has n bytes.
 abbrev pub bytes_alone : ℕ → Graph
 bytes_alone n = add_self n default
+
+-- ---- parts
+-- The paths whose keys are these texts of code.
+abbrev pub paths_of : List (Vec (Bor (List ℕ)) Global) → List Path
+paths_of ps = map (λ p. texts p.items) ps
+
+-- Whether the path is one of some paths or below one.
+abbrev pub is_within : List Path → Path → Bool
+is_within ps p = list_any (λ q. begins q p) ps
+
+-- The graph h with the bytes of some paths, of those that pass a test. Paths without bytes are left out.
+abbrev pub chosen_onto : (Path → Bool) → Graph → List (Path × ℕ) → Graph
+chosen_onto test h es = fold (λ h e. cond (nat_lt 0 e.1 && test e.0) (sum_of h (graph_of_path e.0 e.1)) h) h es
+
+-- The part of g at and below some paths.
+abbrev pub only : List Path → Graph → Graph
+only ps g = chosen_onto (is_within ps) default (entries g)
+
+-- The part of g that is neither at nor below some paths.
+abbrev pub without : List Path → Graph → Graph
+without ps g = chosen_onto (λ p. not (is_within ps p)) default (entries g)
+
+-- Whether a path is within some paths, if those within are chosen; otherwise whether it is not.
+abbrev pub is_chosen : Bool → List Path → Path → Bool
+is_chosen inside ps p = cond inside (is_within ps p) (not (is_within ps p))
+
+-- The bytes that g has at and below some paths.
+abbrev pub bytes_within : List Path → Graph → ℕ
+bytes_within ps g = sum_by (λ e. cond (is_within ps e.0) e.1 0) (entries g)
 
 -- ---- by last key
 -- The last key of a path alone, and no key of the root's.

@@ -1,15 +1,17 @@
 //! Views of a flame graph, which say what is heavy where its keys are data: the outline of a graph, the bytes by last key,
-//! and the reversed paths. Each is a graph, and keeps the total.
-ghost use Rattle.std.specs.Prelude.{◌≡◌, ◌<◌, ◌-◌, ◌^◌, [], ◌∷◌, ◌++◌, IfOk, OnOk, reverse};
+//! and the reversed paths, which keep the total, and parts. Each is a graph.
+ghost use Rattle.std.specs.Prelude.{◌≡◌, ◌<◌, ◌+◌, ◌-◌, ◌^◌, [], ◌∷◌, ◌++◌, IfOk, OnOk, cond, reverse};
 ghost use Rattle.std.specs.FinMap.{entries, len};
 ghost use Rattle.allocative_graph.specs.Path.{Key, Path, texts};
 ghost use Rattle.allocative_graph.specs.Graph.{default, size_at, sum_of, total, under};
 ghost use Rattle.allocative_graph.specs.Rows.{under_rows};
 ghost use Rattle.allocative_graph.specs.Representation.Children.{graph_of_path};
+ghost use Rattle.allocative_picture.specs.Views.{bytes_within, chosen_onto, is_chosen, is_within, only, paths_of};
+ghost use Rattle.allocative_picture.specs.Views.{without};
 ghost use Rattle.allocative_picture.specs.Views.{all_of, by_last_key, by_last_keys, bytes_alone, bytes_ending_in, joined, reversed, reversed_onto, GuidesChild, IsOutline};
 ghost use Rattle.allocative_picture.specs.Table.{behind};
 
-use allocative_graph::flamegraph::{Child, FlameGraph};
+use allocative_graph::flamegraph::{Child, FlameGraph, add_at};
 use allocative_graph::key::Key;
 use std::alloc::{AllocError, Global};
 use std::mem;
@@ -318,4 +320,105 @@ pub fn reverse(alloc: Global, graph: &FlameGraph) -> Result<FlameGraph, AllocErr
     }
     gathered.add_waiting()?;
     Ok(gathered.view)
+}
+
+/// Whether a path is one of some paths or below one.
+fn is_within(paths: &[Vec<&str>], path: &[&str]) -> bool
+    ensures { result ≡ is_within (paths_of paths.now) (texts path.now) }
+{
+    paths.iter().any(|start| path.starts_with(start.as_slice()))
+}
+
+/// Adds the bytes of a path to a part, if it has some and belongs there. The bytes of a part are at most those of one
+/// graph, so the only error is that memory runs out. It is a call of its own, so that a level of the walk takes less of
+/// the stack.
+#[inline(never)]
+fn add_chosen(
+    inside: bool,
+    paths: &[Vec<&str>],
+    path: &Vec<&'static str>,
+    bytes: usize,
+    view: &mut FlameGraph,
+) -> Result<(), AllocError>
+    ensures { OnOk result (view.new
+        ≡ chosen_onto (is_chosen inside (paths_of paths.now)) view.old ((texts path.now.items, bytes) ∷ [])) }
+{
+    if bytes == 0 {
+        return Ok(());
+    }
+    if is_within(paths, path.as_slice()) != inside {
+        return Ok(());
+    }
+    if bytes > usize::MAX - view.total_size() {
+        return Err(AllocError);
+    }
+    add_at(view, path.as_slice(), bytes)
+}
+
+/// Adds the bytes of those paths of a graph that belong to a part, each after the given keys.
+fn add_all_chosen(
+    inside: bool,
+    paths: &[Vec<&str>],
+    path: &mut Vec<&'static str>,
+    graph: &FlameGraph,
+    view: &mut FlameGraph,
+) -> Result<(), AllocError>
+    ensures path { OnOk result (path.new.items ≡ path.old.items) }
+    ensures view { OnOk result (view.new ≡ chosen_onto (is_chosen inside (paths_of paths.now)) view.old
+        (behind (texts path.old.items) (entries graph.now))) }
+{
+    let children = graph.children();
+    add_chosen(inside, paths, path, graph.self_size(), view)?;
+    for child in children {
+        path.push(child.key.as_str())?;
+        add_all_chosen(inside, paths, path, &child.graph, view)?;
+        path.pop();
+    }
+    Ok(())
+}
+
+/// The part of a graph within some paths, or that without them.
+fn part(
+    alloc: Global,
+    inside: bool,
+    paths: &[Vec<&str>],
+    graph: &FlameGraph,
+) -> Result<FlameGraph, AllocError>
+    ensures { IfOk result
+        (λ view. view ≡ chosen_onto (is_chosen inside (paths_of paths.now)) default (entries graph.now)) }
+{
+    let mut path: Vec<&'static str> = Vec::new(alloc);
+    let mut view = FlameGraph::default(alloc);
+    add_all_chosen(inside, paths, &mut path, graph, &mut view)?;
+    Ok(view)
+}
+
+/// The part of a graph at and below some paths, which keep their keys. Bytes within several of them count once. Paths
+/// without bytes of their own are left out. The only error is that memory runs out.
+pub fn only(
+    alloc: Global,
+    graph: &FlameGraph,
+    paths: &[Vec<&str>],
+) -> Result<FlameGraph, AllocError>
+    ensures view { IfOk result (λ view. view ≡ only (paths_of paths.now) graph.now) }
+    ensures total { IfOk result (λ view. total view ≡ bytes_within (paths_of paths.now) graph.now) }
+    ensures sizes { IfOk result
+        (λ view. (p : Path) → size_at view p ≡ cond (is_within (paths_of paths.now) p) (size_at graph.now p) 0) }
+{
+    part(alloc, true, paths, graph)
+}
+
+/// The part of a graph that is neither at nor below some paths. Paths without bytes of their own are left out. The only
+/// error is that memory runs out.
+pub fn without(
+    alloc: Global,
+    graph: &FlameGraph,
+    paths: &[Vec<&str>],
+) -> Result<FlameGraph, AllocError>
+    ensures view { IfOk result (λ view. view ≡ without (paths_of paths.now) graph.now) }
+    ensures total { IfOk result (λ view. total view + bytes_within (paths_of paths.now) graph.now ≡ total graph.now) }
+    ensures sizes { IfOk result
+        (λ view. (p : Path) → size_at view p ≡ cond (is_within (paths_of paths.now) p) 0 (size_at graph.now p)) }
+{
+    part(alloc, false, paths, graph)
 }

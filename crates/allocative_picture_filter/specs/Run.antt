@@ -6,7 +6,7 @@ use Rattle.allocative_graph.specs.Graph.{Graph, default, sum_of, text, total}
 use Rattle.allocative_graph.specs.Read.{IsRead, IsFault, Exceeds}
 use Rattle.allocative_picture.specs.Picture.{profile_drawing, change_drawing}
 use Rattle.allocative_picture.specs.Table.{IsTable}
-use Rattle.allocative_picture.specs.Views.{IsOutline, by_last_key, reversed}
+use Rattle.allocative_picture.specs.Views.{IsOutline, by_last_key, only, paths_of, reversed, without}
 use Rattle.allocative_picture.specs.declared.options.Options.{Options}
 use Rattle.allocative_picture_filter.specs.Differential.{IsDifferential}
 use Rattle.allocative_picture_filter.specs.Fault.{IsReadingOf}
@@ -64,6 +64,15 @@ AddUp ts h = AddUpOnto default ts h
 abbrev pub is_change : Arguments → ℕ → Bool
 is_change asked before = not (asked.as_text || nat_lt 0 asked.top || (before == 0))
 
+-- What g has within the paths that are asked for, or g if none is.
+abbrev pub within : Arguments → Graph → Graph
+within asked g = cond (length asked.only.items == 0) g (only (paths_of asked.only.items) g)
+
+-- The part of g that is asked for: within some paths, or all, and without others.
+abbrev pub part_of : Arguments → Graph → Graph
+part_of asked g =
+    cond (length asked.without.items == 0) (within asked g) (without (paths_of asked.without.items) (within asked g))
+
 -- The graph g, or that with the reversed paths if it is asked for.
 abbrev pub turned : Arguments → Graph → Graph
 turned asked g = cond asked.reverse (reversed g) g
@@ -111,15 +120,16 @@ pub record Shows (asked : Arguments) (change : Bool) (g h : Graph) (made : List 
   pub later_shown : IsShown asked (guide_of change g h) h shown_later
   pub is : Writes asked change shown_earlier shown_later made
 
--- What is written of these texts is what the arguments ask for, of the graphs that they add up to. The later graph has
--- bytes if it is asked not to be empty.
+-- What is written of these texts is what the arguments ask for, of the parts that they ask for of the graphs that the
+-- texts add up to. That of the later graph has bytes if it is asked not to be empty.
 pub record IsMade (asked : Arguments) (before : List Text) (after : List Sourced) (made : List ℕ) : Type 0 where
   pub earlier : Graph
   pub later : Graph
   pub earlier_read : AddUp (map sourced before) earlier
   pub later_read : AddUp after later
-  pub some : IsTrue asked.not_empty → 0 < total later
-  pub shows : Shows asked (is_change asked (length before)) (turned asked earlier) (turned asked later) made
+  pub some : IsTrue asked.not_empty → 0 < total (part_of asked later)
+  pub shows : Shows asked (is_change asked (length before)) (turned asked (part_of asked earlier))
+      (turned asked (part_of asked later)) made
 
 -- ---- what stops a run
 -- Why no graph is read of a text: memory runs out; it is not UTF-8; it is in the differential form; or it is not, and a
@@ -154,20 +164,20 @@ StopsProfile ts reads_input known f = StopsAddingUp default (later_texts ts read
     ⊎ ((h : Graph) × AddUp (map sourced ts) h × (reads_input ≡ true) × IsReadingOf Input f)
 
 -- Why nothing is made of the graph g of the earlier texts and of that of the others: memory runs out, or a change is
--- asked for, and their bytes together exceed a word.
-abbrev pub StopsWriting : Bool → Graph → List Sourced → Fault → Type 0
-StopsWriting change g after f =
-    (h : Graph) × AddUp after h × StopsJoining (cond change (total g + total h) 0) f
+-- asked for, and the bytes of their parts together exceed a word.
+abbrev pub StopsWriting : Arguments → Bool → Graph → List Sourced → Fault → Type 0
+StopsWriting asked change g after f = (h : Graph) × AddUp after h
+    × StopsJoining (cond change (total (part_of asked g) + total (part_of asked h)) 0) f
 
--- Why a profile is refused: it has 0 bytes, and is asked not to be empty.
-abbrev pub StopsEmpty : Bool → List Sourced → Fault → Type 0
-StopsEmpty not_empty after f =
-    (h : Graph) × AddUp after h × IsTrue not_empty × (total h ≡ 0) × (f ≡ Empty)
+-- Why a profile is refused: the part that is asked for has 0 bytes, and is asked not to be empty.
+abbrev pub StopsEmpty : Arguments → List Sourced → Fault → Type 0
+StopsEmpty asked after f =
+    (h : Graph) × AddUp after h × IsTrue asked.not_empty × (total (part_of asked h) ≡ 0) × (f ≡ Empty)
 
 -- Why nothing is made: the earlier texts are not added up; or they are, and there is no graph of the profile, or it is
 -- refused, or nothing is made of both. So the first fault in the order of the texts is told.
 abbrev pub Stops : Arguments → List Text → List Text → List ℕ → Fault → Type 0
 Stops asked before after known f = StopsAddingUp default (map sourced before) f
     ⊎ ((g : Graph) × AddUp (map sourced before) g × (StopsProfile after asked.reads_input known f
-    ⊎ StopsEmpty asked.not_empty (later_texts after asked.reads_input known) f
-    ⊎ StopsWriting (is_change asked (length before)) g (later_texts after asked.reads_input known) f))
+    ⊎ StopsEmpty asked (later_texts after asked.reads_input known) f
+    ⊎ StopsWriting asked (is_change asked (length before)) g (later_texts after asked.reads_input known) f))

@@ -18,6 +18,10 @@ pub struct Arguments<'a> {
     pub narrowest: u32,
     /// What the numbers of the lines count.
     pub unit: &'a str,
+    /// The paths that are kept with what is below them. If there is none, all are.
+    pub only: Vec<Vec<&'a str>>,
+    /// The paths that are left out with what is below them.
+    pub without: Vec<Vec<&'a str>>,
     /// Whether to reverse the keys of each path.
     pub reverse: bool,
     /// The greatest number of keys of a path that is shown, or 0 if paths are not cut.
@@ -62,6 +66,8 @@ fn command<'a>(alloc: Global) -> Result<Command<'a>, AllocError> {
         .arg(option(alloc, "depth", "KEYS"))?
         .arg(option(alloc, "fold", "CHILDREN"))?
         .arg(option(alloc, "top", "LINES"))?
+        .arg(option(alloc, "only", "PATH").action(ArgAction::Append))?
+        .arg(option(alloc, "without", "PATH").action(ArgAction::Append))?
         .arg(option(alloc, "before", "EARLIER").action(ArgAction::Append))?
         .arg(Arg::new(alloc, "FILE").action(ArgAction::Append))
 }
@@ -92,6 +98,19 @@ fn number_of<'a>(
             Err(Fault::Arguments(reason))
         }
     }
+}
+
+// The paths that are the values of an argument, each with `;` between its keys.
+fn paths_of<'a>(
+    alloc: Global,
+    matches: &ArgMatches<'a>,
+    name: &str,
+) -> Result<Vec<Vec<&'a str>>, AllocError> {
+    let mut paths = Vec::new(alloc);
+    for path in matches.get_strs(name).unwrap_or(&[]) {
+        paths.push(path.split(';').collect(alloc)?)?;
+    }
+    Ok(paths)
 }
 
 // What is wrong with arguments that ask for this together.
@@ -148,6 +167,8 @@ fn asked_by<'a>(alloc: Global, matches: &ArgMatches<'a>) -> Result<Arguments<'a>
         title: matches.get_str("title").unwrap_or(title),
         narrowest,
         unit,
+        only: paths_of(alloc, matches, "only")?,
+        without: paths_of(alloc, matches, "without")?,
         reverse: matches.get_flag("reverse"),
         depth,
         fold,
@@ -160,11 +181,11 @@ fn asked_by<'a>(alloc: Global, matches: &ArgMatches<'a>) -> Result<Arguments<'a>
 }
 
 /// Reads the arguments by `clap`: `--text`, `--not-empty`, `--by-last-key`, `--reverse`, `--title` and `--unit` with a
-/// text, `--narrowest`, `--depth`, `--fold` and `--top` with a number, `--before` with the name of a file, names of files,
-/// and `-` for the input, which is also read if no file of the profile is named. Of several uses of one with a text or
-/// a number the last one counts. It fails with `Fault::Arguments` if `clap` refuses the words, if a number is not below
-/// 2^32 in decimal digits alone, if `-` is repeated or given to `--before`, or if two of a text, a table and a change
-/// are asked for. The only other error is `Fault::Memory`.
+/// text, `--narrowest`, `--depth`, `--fold` and `--top` with a number, `--only` and `--without` with a path, `--before`
+/// with the name of a file, names of files, and `-` for the input, which is also read if no file of the profile is
+/// named. Of several uses of one with a text or a number the last one counts. It fails with `Fault::Arguments` if
+/// `clap` refuses the words, if a number is not below 2^32 in decimal digits alone, if `-` is repeated or given to
+/// `--before`, or if two of a text, a table and a change are asked for. The only other error is `Fault::Memory`.
 pub fn read_arguments<'a>(alloc: Global, words: &'a [String]) -> Result<Arguments<'a>, Fault<'a>> {
     match command(alloc)?.try_get_matches_from(words) {
         Ok(matches) => asked_by(alloc, &matches),

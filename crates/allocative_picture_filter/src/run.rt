@@ -5,6 +5,7 @@ ghost use Rattle.allocative_graph.specs.Graph.{Graph, default, total};
 ghost use Rattle.allocative_io.specs.Streams.{AppendsBeginning};
 ghost use Rattle.allocative_picture_filter.specs.Fault.{IsReadingOf};
 ghost use Rattle.allocative_picture_filter.specs.Run.{sourced, without_mark, later_texts, Reads, Adds, AddUp, StopsReading, StopsAdding, StopsAddingUp, StopsProfile, Stops, IsMade, IsShown, Shows, Writes, guide_of, is_change, is_outlined, limit_of, turned};
+ghost use Rattle.allocative_picture_filter.specs.Run.{part_of, within};
 ghost use Rattle.allocative_picture.specs.Views.{IsOutline};
 
 use crate::arguments::Arguments;
@@ -17,7 +18,7 @@ use allocative_io::{ReadError, read_input, write_text};
 use allocative_picture::options::Options;
 use allocative_picture::picture::{change_picture, picture};
 use allocative_picture::table::table;
-use allocative_picture::views::{by_last_key, outline, reverse};
+use allocative_picture::views::{by_last_key, only, outline, reverse, without};
 use std::alloc::{AllocError, Global};
 use std::io::{Read, Write};
 
@@ -142,6 +143,31 @@ fn is_refused(not_empty: bool, profile: &FlameGraph) -> bool
     ensures { IsTrue result ↔ (IsTrue not_empty × (total profile.now ≡ 0)) }
 {
     not_empty && profile.total_size() == 0
+}
+
+// What a graph has within the paths that are asked for, or the graph itself if none is.
+fn within(alloc: Global, asked: &Arguments<'_>, graph: FlameGraph) -> Result<FlameGraph, AllocError>
+    ensures { IfOk result (λ made. made ≡ within asked.now graph) }
+{
+    if asked.only.is_empty() {
+        return Ok(graph);
+    }
+    only(alloc, &graph, asked.only.as_slice())
+}
+
+// The part of a graph that is asked for.
+fn part_of(
+    alloc: Global,
+    asked: &Arguments<'_>,
+    graph: FlameGraph,
+) -> Result<FlameGraph, AllocError>
+    ensures { IfOk result (λ made. made ≡ part_of asked.now graph) }
+{
+    let kept = within(alloc, asked, graph)?;
+    if asked.without.is_empty() {
+        return Ok(kept);
+    }
+    without(alloc, &kept, asked.without.as_slice())
 }
 
 // Whether the picture of a change is asked for, if there are so many earlier texts.
@@ -326,11 +352,13 @@ fn make<'a, R: Read>(
 {
     let earlier = graph_of_all(alloc, before)?;
     let later = later_graph(alloc, after, asked.reads_input, input)?;
-    if is_refused(asked.not_empty, &later) {
+    let earlier_part = part_of(alloc, asked, earlier)?;
+    let later_part = part_of(alloc, asked, later)?;
+    if is_refused(asked.not_empty, &later_part) {
         return Err(Fault::Empty);
     }
     let change = is_change(asked, before.len());
-    Ok(made_of(alloc, asked, change, earlier, later)?)
+    Ok(made_of(alloc, asked, change, earlier_part, later_part)?)
 }
 
 /// Runs the program but for reading its arguments and files.

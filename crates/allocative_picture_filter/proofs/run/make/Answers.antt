@@ -1,7 +1,8 @@
 -- of make: stops and ok
-use Rattle.std.proofs.Common.{◌≡◌, refl, sym, ◌∙◌, arith, inl, inr, true≢false}
+use Rattle.std.proofs.Common.{◌≡◌, refl, sym, ap, ◌∙◌, arith, inl, inr, true≢false}
 use Rattle.allocative_picture_filter.proofs.Common.{total, IfSome_then}
 use Rattle.allocative_picture_filter.proofs.Faults.{stops-joining, holds-of}
+use Rattle.allocative_picture_filter.specs.Run.{part_of}
 use Rattle.allocative_picture_filter.proofs.run.make.Goals as goal
 
 -- What stops the later profile stops the run, once the earlier one is made.
@@ -11,10 +12,23 @@ returns-in_err-later-clause-stops g c =
     (IfSome_then (g.R.Read.remaining c.args.input.now) c.in_err-later.ensures.stops
     (λ known h. inr (c.in_ok-earlier.earlier, c.in_ok-earlier.ensures.ok, inl h)))
 
+-- Memory stops the making of a part.
+pub returns-in_err-earlier_part-clause-stops : goal.returns-in_err-earlier_part-clause-stops
+returns-in_err-earlier_part-clause-stops g c =
+    holds-of c.from_residual-in_err-earlier_part.result _ _ c.from_residual-in_err-earlier_part.ensures.1
+    (IfSome_then (g.R.Read.remaining c.args.input.now) c.in_ok-later.ensures.ok
+    (λ known up. inr (c.in_ok-earlier.earlier, c.in_ok-earlier.ensures.ok, inr (inr (c.in_ok-later.later, up, tt)))))
+
+pub returns-in_err-later_part-clause-stops : goal.returns-in_err-later_part-clause-stops
+returns-in_err-later_part-clause-stops g c =
+    holds-of c.from_residual-in_err-later_part.result _ _ c.from_residual-in_err-later_part.ensures.1
+    (IfSome_then (g.R.Read.remaining c.args.input.now) c.in_ok-later.ensures.ok
+    (λ known up. inr (c.in_ok-earlier.earlier, c.in_ok-earlier.ensures.ok, inr (inr (c.in_ok-later.later, up, tt)))))
+
 -- Memory stops the making, or the bytes of a change that exceed a word.
 pub returns-in_err-made_of-clause-stops : goal.returns-in_err-made_of-clause-stops
 returns-in_err-made_of-clause-stops g c =
-    let refused = rw c.is_change-change.ensures
+    let refused = rw (c.is_change-change.ensures, c.in_ok-earlier_part.ensures, c.in_ok-later_part.ensures)
     at (stops-joining _ c.in_err-made_of.field-0.0 c.in_err-made_of.ensures.too_large) in
     holds-of c.from_residual-in_err-made_of.result _ _ c.from_residual-in_err-made_of.ensures.1
     (IfSome_then (g.R.Read.remaining c.args.input.now) c.in_ok-later.ensures.ok
@@ -29,14 +43,14 @@ returns-clause-ok g c =
       earlier_read = c.in_ok-earlier.ensures.ok;
       later_read = up;
       some = λ asked.
-          let some : total c.in_ok-later.later ≡ 0 → ⊥ =
-          λ none. true≢false (sym (c.is_refused.ensures.1 (asked, none)) ∙ c.if-is_refused.false) in
+          let some : total (part_of c.args.asked.now c.in_ok-later.later) ≡ 0 → ⊥ =
+          λ none. true≢false (sym (c.is_refused.ensures.1 (asked, ap total c.in_ok-later_part.ensures ∙ none)) ∙ c.if-is_refused.false) in
           omega (arith, some);
-      shows = rw c.is_change-change.ensures at c.in_ok-made_of.ensures.ok;
+      shows = rw (c.is_change-change.ensures, c.in_ok-earlier_part.ensures, c.in_ok-later_part.ensures) at c.in_ok-made_of.ensures.ok;
     })
 
 pub returns-then-is_refused-clause-stops : goal.returns-then-is_refused-clause-stops
 returns-then-is_refused-clause-stops g c =
     let refused = c.is_refused.ensures.0 c.if-is_refused.true in
     IfSome_then (g.R.Read.remaining c.args.input.now) c.in_ok-later.ensures.ok
-    (λ known up. inr (c.in_ok-earlier.earlier, c.in_ok-earlier.ensures.ok, inr (inl (c.in_ok-later.later, up, refused.0, refused.1, refl))))
+    (λ known up. inr (c.in_ok-earlier.earlier, c.in_ok-earlier.ensures.ok, inr (inl (c.in_ok-later.later, up, refused.0, ap total (sym c.in_ok-later_part.ensures) ∙ refused.1, refl))))

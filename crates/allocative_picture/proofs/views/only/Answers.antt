@@ -1,0 +1,15 @@
+-- of only: its total and its sizes
+use Rattle.std.proofs.Common.{ap, ◌∙◌, IfOk}
+use Rattle.std.proofs.lemmas.Result.{IfOk-weaker}
+use Rattle.allocative_picture.proofs.Common.{Graph, total, size_at}
+use Rattle.allocative_picture.specs.Views.{paths_of}
+use Rattle.allocative_picture.proofs.Choosing.{total-only, size_at-only}
+use Rattle.allocative_picture.proofs.views.only.Goals as goal
+
+pub returns-clause-total : goal.returns-clause-total
+returns-clause-total c = IfOk-weaker c.part.result _ _
+    (λ view is. ap total is ∙ total-only (paths_of c.args.paths.now) c.args.graph.now) c.part.ensures
+
+pub returns-clause-sizes : goal.returns-clause-sizes
+returns-clause-sizes c = IfOk-weaker c.part.result _ _
+    (λ view is p. ap (λ (h : Graph). size_at h p) is ∙ size_at-only (paths_of c.args.paths.now) c.args.graph.now p) c.part.ensures
