@@ -1,9 +1,10 @@
 -- The bytes of a shelf after a value is kept, changed or removed.
-use Rattle.std.proofs.Common.{◌≡◌, ◌+◌, Bool, List, Option, Some, None, IsSomeAnd, [], ◌∷◌, ap, arith, refl, sym, ◌∙◌}
-use Rattle.std.specs.Map.{lookup, lookup_entry, remove_entry, set_value}
+use Rattle.std.proofs.Common.{◌≡◌, ◌+◌, All, Bool, List, Option, Some, None, IsSomeAnd, [], ◌∷◌, ap, arith, refl, sym, ◌∙◌}
+use Rattle.std.specs.Map.{lookup, lookup_entry, remove_entry, set_value, values_of}
 use Rattle.allocative_service.specs.declared.cache.Kept.{Kept}
 use Rattle.allocative_service.specs.Entries.{Entries, bytes_of}
 use Rattle.std.proofs.lemmas.Map.Entries.{sum_by-set_value}
+use Rattle.std.proofs.lemmas.Map.Views.{All-map-remove_entry}
 use Rattle.std.proofs.lemmas.Option.{same_Some}
 use Rattle.std.specs.Option.{option_map}
 use Rattle.lru.proofs.Pairs.{lookup-lookup_entry}
@@ -31,6 +32,11 @@ module _ {K X : Type 0} (test : K → Bool) where
   remove_entry-set_value (e ∷ es) w = grind (arith, remove_entry-set_value es w)
 
 module _ {K V : Type 0} where
+  -- What holds of all values holds of those that are left without a key.
+  pub All-remove_entry : (P : Kept V → Type 0) (test : K → Bool) (es : Entries K V) → All P (values_of es) →
+      All P (values_of (remove_entry test es))
+  All-remove_entry P test es h = All-map-remove_entry test (λ (e : K × Kept V). e.1) P es h
+
   -- The bytes of all entries but that of a key, and of all after it was written.
   pub written_bytes : (test : K → Bool) (es : Entries K V) (had w : Kept V) → Some had ≡ lookup test es →
       (bytes_of (remove_entry test es) + had.bytes ≡ bytes_of es)

@@ -12,7 +12,7 @@ use Rattle.std.proofs.lemmas.Map.{lookup-none}
 use Rattle.std.proofs.lemmas.Map.Entries.{none_below_head, sum_by-insert_entry, sum_by-remove_entry}
 use Rattle.std.proofs.lemmas.Map.Keys.{sorted_tail}
 use Rattle.std.proofs.lemmas.Map.Steps.{set_value_same}
-use Rattle.allocative_service.specs.AccountData.{sum_of}
+use Rattle.allocative_service.specs.Ledger.{sum_of}
 
 -- An insertion adds the bytes of the entry to the sum, and takes off those that it had.
 pub sum_of-insert_entry : (number bytes : ℕ) (entries : List (ℕ × ℕ)) → IsStrictlySortedBy nat_cmp (keys_of entries) →

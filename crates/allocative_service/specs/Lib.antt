@@ -1,6 +1,6 @@
 pub mod Measured
-pub mod AccountData
-pub mod Accounts
+pub mod Book
+pub mod Ledger
 pub mod Rejected
 pub mod Entries
 pub mod Shelf

@@ -5,12 +5,10 @@ use Rattle.allocative.specs.Refusal.{Refusal}
 use Rattle.allocative.specs.Shows.{Showing}
 use Rattle.allocative_service.specs.declared.ledger.rejection.Rejection.{Rejection}
 use Rattle.allocative_service.specs.declared.ledger.rejection.Rejection.TheVariants.{HasAccount, LedgerFull, NoAccount}
-use Rattle.allocative_service.specs.declared.ledger.rejection.Rejection.TheVariants.{NotKept, NotMeasured, NotThere}
-use Rattle.allocative_service.specs.declared.ledger.rejection.Rejection.TheVariants.{OverBudget, OverCredit, Taken}
+use Rattle.allocative_service.specs.declared.ledger.rejection.Rejection.TheVariants.{NotKept, NotMeasured, OverBudget}
 use Rattle.allocative_service.specs.declared.ledger.rejection.Rejection.TheVariants.{TooLarge}
 use Rattle.allocative_service.specs.declared.measure.Measure.{Measure}
 use Rattle.allocative_service.specs.Measured.{Declares, MayRefuseMeasure}
-use Rattle.allocative_service.specs.AccountData.{AccountData, sum_of, bytes_at}
 
 -- Whether a limit is the cause.
 abbrev pub is_limit : Rejection → Bool
@@ -54,30 +52,6 @@ abbrev pub RejectsKept : ℕ → ℕ → ℕ → ℕ → ℕ → ℕ → Rejecti
 RejectsKept all most sum limit had bytes r = RejectsRoom all (Some most) sum limit had bytes r
     ⊎ ((r ≡ NotKept) × HasRoom all (Some most) sum limit had bytes)
 
--- A new entry of an account is rejected, where all accounts have `all` bytes and may have `most`: so are its bytes, or
--- there is room for them and memory runs out.
-abbrev pub RejectsAdded : ℕ → ℕ → ℕ → AccountData → Rejection → Type 0
-RejectsAdded all most bytes h = RejectsKept all most (sum_of h.entries) h.limit 0 bytes
-
--- Taking `less` bytes off the `had` bytes of an entry is rejected: there are fewer, as the rejection says.
-abbrev pub RejectsCredit : ℕ → ℕ → AccountData → Rejection → Type 0
-RejectsCredit less had h r = (r ≡ OverCredit had less) × (had < less)
-
--- A new entry under a number is rejected. The number has an entry, as the rejection says, or it has none and P says
--- why.
-abbrev pub RejectsNew : ℕ → (AccountData → Rejection → Type 0) → AccountData → Rejection → Type 0
-RejectsNew number P h r = ((r ≡ Taken number) × IsSome (bytes_at number h)) ⊎ ((bytes_at number h ≡ None) × P h r)
-
--- A change of the entry under a number is rejected. The number has no entry, as the rejection says, or P says of the
--- entry's bytes why.
-abbrev pub RejectsChange : ℕ → (ℕ → AccountData → Rejection → Type 0) → AccountData → Rejection → Type 0
-RejectsChange number P h r = ((r ≡ NotThere number) × (bytes_at number h ≡ None))
-    ⊎ ((had : ℕ) × (bytes_at number h ≡ Some had) × P had h r)
-
--- A limit is rejected: the bytes of all entries exceed it.
-abbrev pub RejectsLimit : ℕ → AccountData → Rejection → Type 0
-RejectsLimit limit h = IsOverBudget (sum_of h.entries) limit
-
 -- A limit of the whole ledger is rejected: the bytes of all accounts exceed it, as the rejection says.
 abbrev pub IsLedgerFull : ℕ → ℕ → Rejection → Type 0
 IsLedgerFull bytes limit (LedgerFull b l) = (b ≡ bytes) × (l ≡ limit) × (limit < bytes)
@@ -87,13 +61,6 @@ IsLedgerFull bytes limit _ = ⊥
 abbrev pub RejectsIn : {A : Type 0} → (A → Rejection → Type 0) → Option A → Rejection → Type 0
 RejectsIn P None r = r ≡ NoAccount
 RejectsIn P (Some h) r = P h r
-
--- The value could not be measured, as the rejection says, or it declares bytes with a rejection that P allows.
-abbrev pub RejectsMeasured : Measure → Bool → Option ℕ → Showing → (ℕ → AccountData → Rejection → Type 0) → AccountData →
-    Rejection → Type 0
-RejectsMeasured measure is_strict size p P h r =
-    ((e : Refusal) × (r ≡ NotMeasured e) × MayRefuseMeasure measure is_strict size p e)
-    ⊎ ((bytes : ℕ) × Declares measure size p bytes × P bytes h r)
 
 -- The tenant already has an account, as the rejection says, or it has none and memory runs out.
 abbrev pub RejectsOpening : {A : Type 0} → Option A → Rejection → Type 0

@@ -1,9 +1,9 @@
 -- The model of a shelf, and what its calls do.
-use Rattle.std.specs.Prelude.{◌≡◌, ◌⊎◌, ℕ, ◌+◌, ◌-◌, ◌^◌, ◌<◌, Bool, Option, Some, ◌∷◌, max, option_map, unwrap_or}
-use Rattle.std.specs.Map.{lookup, lookup_entry, remove_entry, set_value}
+use Rattle.std.specs.Prelude.{◌≡◌, ◌⊎◌, ℕ, ◌+◌, ◌-◌, ◌^◌, ◌<◌, Bool, Option, Some, ◌∷◌, All, option_map, unwrap_or}
+use Rattle.std.specs.Map.{lookup, lookup_entry, remove_entry, set_value, values_of}
 use Rattle.allocative.specs.Forest.{Forest}
 use Rattle.allocative_service.specs.Measured.{MayRefuseMeasure}
-use Rattle.allocative_service.specs.Entries.{AreKept, Entries, IsFigure, bytes_of, kept, stored_key}
+use Rattle.allocative_service.specs.Entries.{Entries, IsFigure, IsMeasured, bytes_of, kept, stored_key}
 use Rattle.allocative_service.specs.declared.cache.Kept.{Kept}
 use Rattle.allocative_service.specs.declared.measure.Measure.{Measure}
 use Rattle.allocative_service.specs.declared.cache.error.Refused.{Refused}
@@ -12,29 +12,23 @@ use Rattle.allocative_service.specs.declared.ledger.rejection.Rejection.TheVaria
 use Rattle.allocative_service.specs.Rejected.{HasRoom, RejectsKept}
 use Rattle.allocative.specs.Refusal.{Refusal}
 
--- The model of a shelf: its entries, the limit on their bytes, by how many bytes at most growth exceeded that since it
--- was set, and which bytes are counted.
+-- The model of a shelf: its entries, the limit on their bytes, and which bytes are counted.
 pub record Shelved (K V : Type 0) : Type 0 where
   pub entries : Entries K V
   pub limit : ℕ
-  pub overgrown : ℕ
   pub measure : Measure
 
--- The shelf with these entries, this limit, this growth beyond it and this measure.
-abbrev pub shelved : {K V : Type 0} → Entries K V → ℕ → ℕ → Measure → Shelved K V
-shelved es limit overgrown m = record { entries = es; limit = limit; overgrown = overgrown; measure = m }
+-- The shelf with these entries, this limit and this measure.
+abbrev pub shelved : {K V : Type 0} → Entries K V → ℕ → Measure → Shelved K V
+shelved es limit m = record { entries = es; limit = limit; measure = m }
 
 -- The shelf s with these entries in place of its own.
 abbrev pub shelf_with : {K V : Type 0} → Entries K V → Shelved K V → Shelved K V
-shelf_with es s = shelved es s.limit s.overgrown s.measure
+shelf_with es s = shelved es s.limit s.measure
 
 -- The shelf without the entry of the key that passes the test.
 abbrev pub shelf_without : {K V : Type 0} → (K → Bool) → Shelved K V → Shelved K V
 shelf_without test s = shelf_with (remove_entry test s.entries) s
-
--- The shelf s with these entries, which may have grown beyond its limit.
-abbrev pub shelf_grown : {K V : Type 0} → Entries K V → Shelved K V → Shelved K V
-shelf_grown es s = shelved es s.limit (max s.overgrown (bytes_of es - s.limit)) s.measure
 
 -- The bytes of the value under the key that passes the test, or 0.
 abbrev pub bytes_under : {K V : Type 0} → (K → Bool) → Shelved K V → ℕ
@@ -49,9 +43,9 @@ module _ {V : Type 0} (size : Option ℕ) (may_show : V → Forest → Type 0) w
   RefusesFigure is_strict m room v _ = ⊥
 
   module _ {K : Type 0} where
-    -- The figures together are within the limit, or exceed it by no more than growth did, and each is one of its value.
+    -- Each figure is one of its value.
     abbrev pub IsKept : Shelved K V → Type 0
-    IsKept s = AreKept size may_show s.measure s.entries (s.limit + s.overgrown)
+    IsKept s = All (IsMeasured size may_show s.measure) (values_of s.entries)
 
     -- Why a shelf refuses v under the key that passes the test, where the values of all shelves have `all` bytes and may
     -- have `most`: v could not be measured, or a figure of it is not kept in place of what the key has.
@@ -78,7 +72,7 @@ module _ {V : Type 0} (size : Option ℕ) (may_show : V → Forest → Type 0) w
       pub found : lookup test old.entries ≡ Some had
       pub changes : changed had.value value
       pub figure : IsFigure size may_show old.measure value bytes
-      pub is : new ≡ shelf_grown (set_value test old.entries (kept value bytes)) old
+      pub is : new ≡ shelf_with (set_value test old.entries (kept value bytes)) old
 
     -- The value of the key that passes the test was changed as `changed` says, and is refused: it could not be measured,
     -- or a figure of it, with the bytes of all other values, does not fit a word. The refusal has the key and the value.

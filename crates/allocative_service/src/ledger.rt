@@ -1,19 +1,19 @@
-//! The accounts of all tenants.
-ghost use Rattle.std.specs.Prelude.{◌≡◌, ℕ, ◌+◌, ◌-◌, ◌^◌, ◌<◌, ◌≤◌, ◌↔◌, Some, None, Ok, Err, [], IfOk, OnOk, IfErr, OnErr, IfSome, OnSome, IfNone, IsSomeAnd, IsTrue, MatchOption, option_map, unwrap_or};
-ghost use Rattle.allocative_service.specs.AccountData.{all_bytes};
+//! A ledger: the bytes of each tenant's values, by number.
+ghost use Rattle.std.specs.Prelude.{◌≡◌, ℕ, ◌+◌, ◌^◌, ◌<◌, ◌≤◌, [], Some, None, Ok, Err, IfOk, IfErr, IfSome, IfNone, IsSomeAnd, MatchOption, OnErr, unwrap_or};
+ghost use Rattle.allocative_service.specs.Book.{account_of};
+ghost use Rattle.allocative_service.specs.Ledger.{bytes_at, entry_of, sum_of, total_of, Enters, IsLargest, RejectsChange, RejectsCredit, RejectsGrowth, RejectsMeasured, RejectsNew, RejectsNewBytes, RejectsPut, Releases, StandsAt, Stores};
+ghost use Rattle.allocative_service.specs.Measured.{Declares, Measures};
+ghost use Rattle.allocative_service.specs.Rejected.{RejectsBy, RejectsIn};
 
-pub mod account;
+mod account;
 pub mod budget;
 pub mod rejection;
 mod shown;
 
-pub use crate::ledger::account::Account;
+use crate::book::Book;
 pub use crate::ledger::budget::Budget;
 pub use crate::ledger::rejection::Rejection;
-use crate::measure::Measure;
 use allocative::{Allocative, Described};
-use std::alloc::Global;
-use std::collections::BTreeMap;
 
 /// What an account has after growth was entered, and by how much that exceeds the limits.
 #[derive(Clone, Copy, Debug, PartialEq, Eq)]
@@ -26,193 +26,13 @@ pub struct Standing {
     pub ledger_excess: usize,
 }
 
-/// An account for each tenant, by its name, and which bytes of the tenants' values are counted. The bytes of all
-/// accounts together are stored beside them. They are above the limit of the ledger only if growth was entered that
-/// exceeded it.
-#[derive(Drop)]
-pub struct Ledger {
-    alloc: Global,
-    measure: Measure,
-    accounts: BTreeMap<String, Account>,
-    bytes: usize,
-    limit: usize,
-    /// By how many bytes at most growth exceeded the limit since it was set.
-    overgrown: usize,
-    ghost summed: { bytes ≡ all_bytes accounts.entries },
-    ghost within: { bytes ≤ limit + overgrown },
-    // All bytes fit a word, so those of each account do.
-    ghost fits: { bytes < 2 ^ 64 },
-}
+/// The bytes of each value of one tenant, by its number.
+pub type Account = crate::book::Account<u64, usize>;
+
+/// An account for each tenant, of the bytes of its values by number.
+pub type Ledger = Book<u64, usize>;
 
 impl Ledger {
-    ghost use Rattle.allocative_service.specs.Accounts.{account_of, accounts_of, all_most_of, entry_of, limit_of, measure_of, overgrown_of, total_of, ChangesAccount, Enters, IsUnchanged, Lowers, MapsAccount, RejectsGrowth, RejectsNewBytes, RejectsPut, Releases, StandsAt, Stores};
-    ghost use Rattle.allocative_service.specs.AccountData.{IsLargest, IsSummed, bytes_at, most_of, new_account, sum_of, with_limit, with_peak_reset, with_soft_limit};
-    ghost use Rattle.allocative_service.specs.Measured.{Declares, Measures};
-    ghost use Rattle.allocative_service.specs.Rejected.{IsLedgerFull, RejectsBy, RejectsChange, RejectsCredit, RejectsIn, RejectsLimit, RejectsMeasured, RejectsNew, RejectsOpening};
-
-    /// A ledger with no account and no limit of its own. It allocates nothing.
-    pub fn new(alloc: Global, measure: Measure) -> Ledger
-        ensures empty { accounts_of result ≡ [] }
-        ensures measure { measure_of result ≡ measure }
-        ensures limit { limit_of result ≡ 2 ^ 64 - 1 }
-        ensures overgrown { overgrown_of result ≡ 0 }
-    {
-        Ledger {
-            alloc,
-            measure,
-            accounts: BTreeMap::new(alloc),
-            bytes: 0,
-            limit: usize::MAX,
-            overgrown: 0,
-        }
-    }
-
-    /// The bytes of all accounts together.
-    pub fn bytes(&self) -> usize
-        ensures sum { result ≡ total_of self.now }
-        ensures within { result ≤ all_most_of self.now }
-    {
-        self.bytes
-    }
-
-    /// The most bytes that all accounts may have together, unless they grow. `usize::MAX` if no limit was set.
-    pub fn limit(&self) -> usize
-        ensures { result ≡ limit_of self.now }
-    {
-        self.limit
-    }
-
-    /// Replaces the limit of the whole ledger. The error is `LedgerFull` exactly if the bytes of all accounts together
-    /// exceed the new one. All accounts are unchanged.
-    pub fn set_limit(&mut self, limit: usize) -> Result<(), Rejection>
-        ensures set { OnOk result (limit_of self.new ≡ limit) }
-        ensures rejected { IfErr result (IsLedgerFull (total_of self.old) limit) }
-        ensures within { OnOk result (overgrown_of self.new ≡ 0) }
-        ensures unchanged { OnErr result (limit_of self.new ≡ limit_of self.old) }
-        ensures overgrown { OnErr result (overgrown_of self.new ≡ overgrown_of self.old) }
-        ensures accounts { accounts_of self.new ≡ accounts_of self.old }
-        ensures measure { measure_of self.new ≡ measure_of self.old }
-    {
-        let bytes = self.bytes;
-        if bytes > limit {
-            return Err(Rejection::LedgerFull { bytes, limit });
-        }
-        self.limit = limit;
-        self.overgrown = 0;
-        Ok(())
-    }
-
-    /// Opens an account with no entry and no soft limit for a tenant.
-    ///
-    /// The error is `HasAccount` exactly if the tenant has one, and otherwise `NotKept` if memory runs out. After an
-    /// error all accounts are unchanged.
-    #[tactic(auto, using(crate::proofs::Accounts::opening))]
-    pub fn open(&mut self, tenant: &str, budget: Budget) -> Result<(), Rejection>
-        ensures opened { OnOk result
-            (ChangesAccount tenant.now (Some (new_account budget.limit)) self.old self.new) }
-        ensures new { OnOk result (account_of tenant.now self.old ≡ None) }
-        ensures all { total_of self.new ≡ total_of self.old }
-        ensures rejected { IfErr result (RejectsOpening (account_of tenant.now self.old)) }
-        ensures unchanged { OnErr result (IsUnchanged self.old self.new) }
-    {
-        if self.accounts.contains_key(tenant) {
-            return Err(Rejection::HasAccount);
-        }
-        let Ok(name) = String::from_str(self.alloc, tenant) else {
-            return Err(Rejection::NotKept);
-        };
-        let account = Account::new(self.alloc, budget);
-        let Ok(_none) = self.accounts.insert(name, account) else {
-            return Err(Rejection::NotKept);
-        };
-        Ok(())
-    }
-
-    /// Removes the account of a tenant and returns it. If there is none, it returns None and nothing changes.
-    #[tactic(auto, using(crate::proofs::Accounts::accounts))]
-    pub fn close(&mut self, tenant: &str) -> Option<Account>
-        ensures value { result ≡ account_of tenant.now self.old }
-        ensures closed { OnSome result (ChangesAccount tenant.now None self.old self.new) }
-        ensures all { IfSome result
-            (λ account. total_of self.new + sum_of account.entries ≡ total_of self.old) }
-        ensures unchanged { IfNone result (IsUnchanged self.old self.new) }
-    {
-        let account = self.accounts.remove(tenant)?;
-        self.bytes -= account.bytes();
-        Some(account)
-    }
-
-    /// Replaces the limit of a tenant.
-    ///
-    /// The error is `NoAccount` exactly if the tenant has no account, and otherwise `OverBudget` exactly if the bytes
-    /// of all its entries exceed the new limit. After an error all accounts are unchanged.
-    #[tactic(auto, using(crate::proofs::Accounts::accounts))]
-    pub fn set_budget(&mut self, tenant: &str, budget: Budget) -> Result<(), Rejection>
-        ensures set { OnOk result
-            (MapsAccount tenant.now (with_limit budget.limit) self.old self.new) }
-        ensures rejected { IfErr result
-            (RejectsIn (RejectsLimit budget.limit) (account_of tenant.now self.old)) }
-        ensures unchanged { OnErr result (IsUnchanged self.old self.new) }
-    {
-        let Some(account) = self.accounts.get_mut(tenant) else {
-            return Err(Rejection::NoAccount);
-        };
-        account.set_budget(budget)
-    }
-
-    /// Replaces the soft limit of a tenant, which refuses nothing: `is_over` says if the tenant has more bytes. It
-    /// returns None if the tenant has no account, and then nothing changes.
-    #[tactic(auto, using(crate::proofs::Accounts::accounts))]
-    pub fn set_soft_limit(&mut self, tenant: &str, bytes: usize) -> Option<()>
-        ensures set { OnSome result
-            (MapsAccount tenant.now (with_soft_limit bytes) self.old self.new) }
-        ensures none { IfNone result (account_of tenant.now self.old ≡ None) }
-        ensures unchanged { IfNone result (IsUnchanged self.old self.new) }
-    {
-        self.accounts.get_mut(tenant)?.set_soft_limit(bytes);
-        Some(())
-    }
-
-    /// Whether the bytes of a tenant exceed its soft limit. None if the tenant has no account.
-    pub fn is_over(&self, tenant: &str) -> Option<bool>
-        ensures { MatchOption (account_of tenant.now self.now) (result ≡ None)
-            (λ h. IsSomeAnd result (λ over. IsTrue over ↔ (h.soft_limit < sum_of h.entries))) }
-    {
-        Some(self.accounts.get(tenant)?.is_over())
-    }
-
-    /// All accounts, in the order of the tenants' names.
-    pub fn accounts(&self) -> &BTreeMap<String, Account>
-        ensures { result.now.entries ≡ accounts_of self.now }
-    {
-        &self.accounts
-    }
-
-    /// The bytes of all entries of the tenant, which are within its limit unless growth exceeded it. None if the tenant
-    /// has no account.
-    pub fn bytes_of(&self, tenant: &str) -> Option<usize>
-        ensures { MatchOption (account_of tenant.now self.now) (result ≡ None)
-            (λ account. IsSomeAnd result (λ bytes. IsSummed bytes account)) }
-    {
-        Some(self.accounts.get(tenant)?.bytes())
-    }
-
-    /// By how many bytes all entries of the tenant exceed its limit. It is 0 unless growth was entered that exceeded it.
-    /// None if the tenant has no account.
-    pub fn excess_of(&self, tenant: &str) -> Option<usize>
-        ensures { result ≡ option_map (λ h. sum_of h.entries - h.limit) (account_of tenant.now self.now) }
-    {
-        Some(self.accounts.get(tenant)?.excess())
-    }
-
-    /// The most bytes that the tenant ever had, since its account was opened or its peak was reset. None if the tenant
-    /// has no account.
-    pub fn peak_of(&self, tenant: &str) -> Option<usize>
-        ensures { result ≡ option_map (λ h. h.peak) (account_of tenant.now self.now) }
-    {
-        Some(self.accounts.get(tenant)?.peak())
-    }
-
     /// The number and the bytes of the tenant's entry with the most bytes; of equals, of the one with the lowest number.
     /// None if the tenant has no account or no entry.
     pub fn largest_of(&self, tenant: &str) -> Option<(u64, usize)>
@@ -220,17 +40,6 @@ impl Ledger {
             (λ h. MatchOption result (h.entries ≡ []) (IsLargest h.entries)) }
     {
         self.accounts.get(tenant)?.largest()
-    }
-
-    /// Lowers the peak of a tenant to its bytes, and returns the former peak. If the tenant has no account, it returns
-    /// None and nothing changes.
-    #[tactic(auto, using(crate::proofs::Accounts::accounts))]
-    pub fn reset_peak(&mut self, tenant: &str) -> Option<usize>
-        ensures value { result ≡ option_map (λ h. h.peak) (account_of tenant.now self.old) }
-        ensures reset { OnSome result (MapsAccount tenant.now with_peak_reset self.old self.new) }
-        ensures unchanged { IfNone result (IsUnchanged self.old self.new) }
-    {
-        Some(self.accounts.get_mut(tenant)?.reset_peak())
     }
 
     /// Measures a value of any type, adds an entry with its bytes for the tenant, under a number that has none, and
@@ -245,7 +54,7 @@ impl Ledger {
     /// - otherwise `LedgerFull` if the bytes of all accounts together exceed the limit of the ledger,
     /// - otherwise `NotKept` if memory runs out.
     ///
-    /// After an error all accounts are unchanged.
+    /// After an error the ledger is unchanged.
     pub fn admit<T: Allocative + Described>(
         &mut self,
         tenant: &str,
@@ -253,12 +62,12 @@ impl Ledger {
         value: &T,
     ) -> Result<usize, Rejection>
         ensures admitted { IfOk result
-            (λ total. (bytes : ℕ) × Declares (measure_of self.old) T.layout.size (T.may_show value.now) bytes
+            (λ total. (bytes : ℕ) × Declares self.old.measure T.layout.size (T.may_show value.now) bytes
             × Enters tenant.now number bytes None self.old self.new total) }
         ensures rejected { IfErr result (RejectsIn
-            (RejectsNew number (RejectsMeasured (measure_of self.old) T.is_strict T.layout.size (T.may_show value.now)
+            (RejectsNew number (RejectsMeasured self.old.measure T.is_strict T.layout.size (T.may_show value.now)
             (RejectsNewBytes self.old))) (account_of tenant.now self.old)) }
-        ensures unchanged { OnErr result (IsUnchanged self.old self.new) }
+        ensures unchanged { OnErr result (self.new ≡ self.old) }
     {
         let (measure, alloc) = (self.measure, self.alloc);
         let bytes_of = |had|
@@ -279,7 +88,7 @@ impl Ledger {
     /// limit, and returns the bytes of all entries of the tenant.
     ///
     /// The errors are those of `admit`, in the same order, except that it returns `NotThere` if the number has no
-    /// entry, and never `Taken` or `NotKept`. After an error all accounts are unchanged, so an entry keeps the bytes
+    /// entry, and never `Taken` or `NotKept`. After an error the ledger is unchanged, so an entry keeps the bytes
     /// that it had: ask before the value grows, or call `enter_growth`.
     pub fn measure_again<T: Allocative + Described>(
         &mut self,
@@ -288,14 +97,14 @@ impl Ledger {
         value: &T,
     ) -> Result<usize, Rejection>
         ensures measured { IfOk result
-            (λ total. (bytes : ℕ) × (had : ℕ) × Declares (measure_of self.old) T.layout.size (T.may_show value.now)
+            (λ total. (bytes : ℕ) × (had : ℕ) × Declares self.old.measure T.layout.size (T.may_show value.now)
             bytes
             × Enters tenant.now number bytes (Some had) self.old self.new total) }
         ensures rejected { IfErr result (RejectsIn
-            (RejectsChange number (λ had. RejectsMeasured (measure_of self.old) T.is_strict T.layout.size
+            (RejectsChange number (λ had. RejectsMeasured self.old.measure T.is_strict T.layout.size
             (T.may_show value.now)
             (RejectsPut self.old had))) (account_of tenant.now self.old)) }
-        ensures unchanged { OnErr result (IsUnchanged self.old self.new) }
+        ensures unchanged { OnErr result (self.new ≡ self.old) }
     {
         let (measure, alloc) = (self.measure, self.alloc);
         let bytes_of = |had|
@@ -320,7 +129,7 @@ impl Ledger {
     ///
     /// The error is `NoAccount` if the tenant has no account, otherwise `NotThere` if the number has no entry, otherwise
     /// `NotMeasured` if `Measure::size_of` returns an error, and otherwise `TooLarge` if the bytes of all accounts
-    /// together do not fit a word. After an error all accounts are unchanged.
+    /// together do not fit a word. After an error the ledger is unchanged.
     pub fn enter_growth<T: Allocative + Described>(
         &mut self,
         tenant: &str,
@@ -328,30 +137,37 @@ impl Ledger {
         value: &T,
     ) -> Result<Standing, Rejection>
         ensures entered { IfOk result
-            (λ s. (bytes : ℕ) × (had : ℕ) × Declares (measure_of self.old) T.layout.size (T.may_show value.now) bytes
+            (λ s. (bytes : ℕ) × (had : ℕ) × Declares self.old.measure T.layout.size (T.may_show value.now) bytes
             × Stores tenant.now number bytes (Some had) self.old self.new s.bytes) }
         ensures standing { IfOk result (StandsAt tenant.now self.new) }
         ensures rejected { IfErr result (RejectsIn
-            (RejectsChange number (λ had. RejectsMeasured (measure_of self.old) T.is_strict T.layout.size
+            (RejectsChange number (λ had. RejectsMeasured self.old.measure T.is_strict T.layout.size
             (T.may_show value.now)
             (RejectsGrowth self.old had))) (account_of tenant.now self.old)) }
-        ensures unchanged { OnErr result (IsUnchanged self.old self.new) }
+        ensures unchanged { OnErr result (self.new ≡ self.old) }
     {
         let (measure, alloc) = (self.measure, self.alloc);
-        self.put_with(tenant, number, None, |had| match had {
-            None => Err(Rejection::NotThere { number }),
-            Some(_) => Ok(measure.size_of(alloc, value)?),
-        })
+        let bytes_of = |had|
+            ensures { MatchOption had
+                (result ≡ Err (Rejection.NotThere number))
+                (λ _. Measures measure T.is_strict T.layout.size (T.may_show value.entry.now) result) }
+        {
+            match had {
+                None => Err(Rejection::NotThere { number }),
+                Some(_) => Ok(measure.size_of(alloc, value)?),
+            }
+        };
+        self.put_with(tenant, number, None, bytes_of)
     }
 
     /// Adds an entry with bytes that the caller knows for the tenant, under a number that has none, and returns the
     /// bytes of all entries of the tenant. Nothing is measured. The errors are those of `admit` but `NotMeasured`. After
-    /// an error all accounts are unchanged.
+    /// an error the ledger is unchanged.
     pub fn record(&mut self, tenant: &str, number: u64, bytes: usize) -> Result<usize, Rejection>
         ensures recorded { IfOk result (Enters tenant.now number bytes None self.old self.new) }
         ensures rejected { IfErr result
             (RejectsIn (RejectsNew number (RejectsNewBytes self.old bytes)) (account_of tenant.now self.old)) }
-        ensures unchanged { OnErr result (IsUnchanged self.old self.new) }
+        ensures unchanged { OnErr result (self.new ≡ self.old) }
     {
         let standing = self.put_with(tenant, number, Some(self.limit), |had| match had {
             None => Ok(bytes),
@@ -362,14 +178,14 @@ impl Ledger {
 
     /// Adds so many bytes to the tenant's entry under the number, for a value that has grown by as many, and returns the
     /// bytes of all entries of the tenant. Nothing is measured. The errors are those of `measure_again` but
-    /// `NotMeasured`. After an error all accounts are unchanged.
+    /// `NotMeasured`. After an error the ledger is unchanged.
     pub fn charge(&mut self, tenant: &str, number: u64, more: usize) -> Result<usize, Rejection>
         ensures charged { IfOk result
             (λ total. (had : ℕ) × Enters tenant.now number (had + more) (Some had) self.old self.new total) }
         ensures rejected { IfErr result
             (RejectsIn (RejectsChange number (λ had. RejectsPut self.old had (had + more)))
             (account_of tenant.now self.old)) }
-        ensures unchanged { OnErr result (IsUnchanged self.old self.new) }
+        ensures unchanged { OnErr result (self.new ≡ self.old) }
     {
         let standing = self.put_with(tenant, number, Some(self.limit), |had| match had {
             None => Err(Rejection::NotThere { number }),
@@ -382,13 +198,13 @@ impl Ledger {
     /// the bytes of all entries of the tenant. Nothing is measured. No limit refuses it.
     ///
     /// The error is `NoAccount` if the tenant has no account, otherwise `NotThere` if the number has no entry, and
-    /// otherwise `OverCredit` if the entry has fewer bytes. After an error all accounts are unchanged.
+    /// otherwise `OverCredit` if the entry has fewer bytes. After an error the ledger is unchanged.
     pub fn credit(&mut self, tenant: &str, number: u64, less: usize) -> Result<usize, Rejection>
         ensures credited { IfOk result (λ total. (had : ℕ) × (bytes : ℕ) × (bytes + less ≡ had)
-            × Lowers tenant.now number bytes (Some had) self.old self.new total) }
+            × Stores tenant.now number bytes (Some had) self.old self.new total) }
         ensures rejected { IfErr result
             (RejectsIn (RejectsChange number (RejectsCredit less)) (account_of tenant.now self.old)) }
-        ensures unchanged { OnErr result (IsUnchanged self.old self.new) }
+        ensures unchanged { OnErr result (self.new ≡ self.old) }
     {
         let standing = self.put_with(tenant, number, None, |entry| match entry {
             None => Err(Rejection::NotThere { number }),
@@ -401,11 +217,11 @@ impl Ledger {
 
     /// Removes the tenant's entry under the number. It returns the bytes of the entry. If there is none, it returns
     /// None and nothing changes.
-    #[tactic(auto, using(crate::proofs::Accounts::accounts))]
+    #[tactic(auto, using(crate::proofs::Accounts::numbered))]
     pub fn release(&mut self, tenant: &str, number: u64) -> Option<usize>
         ensures value { result ≡ entry_of tenant.now number self.old }
         ensures released { IfSome result (Releases tenant.now number self.old self.new) }
-        ensures unchanged { IfNone result (IsUnchanged self.old self.new) }
+        ensures unchanged { IfNone result (self.new ≡ self.old) }
     {
         let account = self.accounts.get_mut(tenant)?;
         let bytes = account.release(number)?;
@@ -417,8 +233,8 @@ impl Ledger {
     /// All accounts may have `most` bytes together; without `most` no limit counts.
     ///
     /// The error is `NoAccount` if the tenant has no account, and otherwise that of `Account::put_with`. After an error
-    /// all accounts are unchanged.
-    #[tactic(auto, using(crate::proofs::Accounts::accounts))]
+    /// the ledger is unchanged.
+    #[tactic(auto, using(crate::proofs::Accounts::numbered))]
     fn put_with<F: FnOnce(Option<usize>) -> Result<usize, Rejection>>(
         &mut self,
         tenant: &str,
@@ -434,11 +250,10 @@ impl Ledger {
             × (total_of self.new ≤ m))) }
         ensures standing { IfOk result (StandsAt tenant.now self.new) }
         ensures part { unwrap_or (entry_of tenant.now number self.old) 0 ≤ total_of self.old }
-        ensures within { OnOk result
-            (IsSomeAnd (account_of tenant.now self.old) (λ h. sum_of h.entries ≤ most_of h)) }
+        ensures fits { total_of self.old < 2 ^ 64 }
         ensures rejected { IfErr result (RejectsIn (λ h. RejectsBy (total_of self.old) most (F.post bytes_of)
             (bytes_at number h) (sum_of h.entries) h.limit) (account_of tenant.now self.old)) }
-        ensures unchanged { OnErr result (IsUnchanged self.old self.new) }
+        ensures unchanged { OnErr result (self.new ≡ self.old) }
     {
         let Some(account) = self.accounts.get_mut(tenant) else {
             return Err(Rejection::NoAccount);
@@ -448,7 +263,6 @@ impl Ledger {
         let excess = account.excess();
         self.bytes = rest + total;
         let ledger_excess = self.bytes.saturating_sub(self.limit);
-        self.overgrown = self.overgrown.max(ledger_excess);
         Ok(Standing {
             bytes: total,
             excess,

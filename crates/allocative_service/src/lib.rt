@@ -2,6 +2,7 @@
 //! cache bounded in bytes, and a history of profiles that says what changed.
 #![tactic(auto)]
 
+pub mod book;
 pub mod cache;
 pub mod history;
 pub mod ledger;

@@ -1,5 +1,5 @@
 //! The values of one tenant of a store, kept with their bytes. Contracts see a shelf as its `entries`, the one put last
-//! first, its `limit`, how far growth exceeded that, and its `measure`.
+//! first, its `limit` and its `measure`.
 ghost use Rattle.std.specs.Prelude.{◌≡◌, ◌+◌, ◌-◌, ◌^◌, ◌<◌, ◌≤◌, [], length, max, OnOk, OnErr, IfOk, IfErr, IfNone, MatchBool, None, Some, option_copied};
 ghost use Rattle.std.specs.List.{IsDistinct};
 ghost use Rattle.std.specs.Map.{lookup, remove_entry, keys_of};
@@ -31,8 +31,6 @@ pub struct Shelf<K: Eq + Hash, V: Allocative + Described> {
     entries: LruCache<K, Kept<V>>,
     bytes: usize,
     budget: Budget,
-    /// By how many bytes at most growth exceeded the limit since it was set.
-    overgrown: usize,
 }
 
 impl<K: Eq + Hash, V: Allocative + Described> Model for Shelf<K, V> {
@@ -42,10 +40,10 @@ impl<K: Eq + Hash, V: Allocative + Described> Model for Shelf<K, V> {
 
     ghost Value = { Shelved K V };
 
-    ghost view = { λ s. shelved s.entries.entries s.budget.limit s.overgrown s.measure };
+    ghost view = { λ s. shelved s.entries.entries s.budget.limit s.measure };
 
     ghost invariant = { λ s. (s.entries.cap ≡ 2 ^ 64 - 1) × (s.bytes ≡ bytes_of s.entries.entries)
-        × IsKept V.layout.size V.may_show (shelved s.entries.entries s.budget.limit s.overgrown s.measure) };
+        × IsKept V.layout.size V.may_show (shelved s.entries.entries s.budget.limit s.measure) };
 }
 
 /// The bytes of a value, if they are at most `room`. The error is `NotMeasured` if `Measure::size_of` returns an error,
@@ -70,7 +68,7 @@ fn figure_within<V: Allocative + Described>(
 impl<K: Eq + Hash + Drop, V: Allocative + Described> Shelf<K, V> {
     /// An empty shelf with a limit in bytes, as the measure counts them. The only error is that memory runs out.
     pub(crate) fn new(alloc: Global, measure: Measure, budget: Budget) -> Result<Self, AllocError>
-        ensures { IfOk result (λ s. s ≡ shelved [] budget.limit 0 measure) }
+        ensures { IfOk result (λ s. s ≡ shelved [] budget.limit measure) }
     {
         let entries = LruCache::unbounded(alloc)?;
         Ok(Shelf {
@@ -79,7 +77,6 @@ impl<K: Eq + Hash + Drop, V: Allocative + Described> Shelf<K, V> {
             entries,
             bytes: 0,
             budget,
-            overgrown: 0,
         })
     }
 
@@ -195,9 +192,6 @@ impl<K: Eq + Hash + Drop, V: Allocative + Described> Shelf<K, V> {
             Ok(bytes) => {
                 kept.bytes = bytes;
                 self.bytes = others + bytes;
-                self.overgrown = self
-                    .overgrown
-                    .max(self.bytes.saturating_sub(self.budget.limit));
                 return Ok(true);
             }
             Err(error) => error,
@@ -230,14 +224,14 @@ impl<K: Eq + Hash + Drop, V: Allocative + Described> Shelf<K, V> {
     /// Replaces the limit. The error is `OverBudget` exactly if the bytes of all values exceed the new one, and then the
     /// shelf is unchanged.
     pub(crate) fn set_budget(&mut self, budget: Budget) -> Result<(), Rejection>
-        ensures set { OnOk result (self.new ≡ shelved self.old.entries budget.limit 0 self.old.measure) }
+        ensures set { OnOk result (self.new ≡ shelved self.old.entries budget.limit self.old.measure) }
         ensures entries { self.new.entries ≡ self.old.entries }
+        ensures within { OnOk result (bytes_of self.old.entries ≤ budget.limit) }
         ensures rejected { IfErr result (IsOverBudget (bytes_of self.old.entries) budget.limit) }
         ensures unchanged { OnErr result (self.new ≡ self.old) }
     {
         budget.check(self.bytes)?;
         self.budget = budget;
-        self.overgrown = 0;
         Ok(())
     }
 

@@ -1,12 +1,13 @@
 //! Values of many tenants, kept with their bytes. Contracts see a store as its `shelves`, one for each tenant, its
-//! `limit`, how far growth exceeded that, and its `measure`.
-ghost use Rattle.std.specs.Prelude.{◌≡◌, ◌+◌, ◌-◌, ◌^◌, None, [], OnOk, OnErr, IfOk, IfErr, OnSome, IfSome, IfNone, MatchOption, option_copied};
+//! `limit` and its `measure`.
+ghost use Rattle.std.specs.Prelude.{◌≡◌, ◌+◌, ◌-◌, ◌^◌, ◌≤◌, None, [], OnOk, OnErr, IfOk, IfErr, OnSome, IfSome, IfNone, MatchOption, option_copied};
 ghost use Rattle.std.specs.Map.{lookup, remove_entry};
 ghost use Rattle.std.specs.Option.{option_and_then};
+ghost use Rattle.allocative_service.specs.Book.{is_tenant};
 ghost use Rattle.allocative_service.specs.Entries.{bytes_of, entry_at, value_at, ChangesTo};
 ghost use Rattle.allocative_service.specs.Rejected.{IsLedgerFull, IsOverBudget, RejectsIn, RejectsOpening};
 ghost use Rattle.allocative_service.specs.Shelf.{shelved, shelf_without, PutsOnShelf, KeepsChanged, RefusesChanged, RefusesKept};
-ghost use Rattle.allocative_service.specs.Store.{all_kept, is_tenant, shelf_of, stored, with_shelves, IsTotal, Opens, Replaces, StoreStands};
+ghost use Rattle.allocative_service.specs.Store.{all_kept, shelf_of, stored, with_shelves, IsTotal, Opens, Replaces, StoreStands};
 
 use crate::cache::error::Refused;
 use crate::ledger::{Budget, Rejection, Standing};
@@ -27,8 +28,6 @@ pub struct Store<K: Eq + Hash, V: Allocative + Described> {
     shelves: BTreeMap<String, Shelf<K, V>>,
     bytes: usize,
     limit: usize,
-    /// By how many bytes at most growth exceeded the limit since it was set.
-    overgrown: usize,
 }
 
 impl<K: Eq + Hash, V: Allocative + Described> Model for Store<K, V> {
@@ -36,15 +35,15 @@ impl<K: Eq + Hash, V: Allocative + Described> Model for Store<K, V> {
 
     ghost Value = { Stored K V };
 
-    ghost view = { λ s. stored s.shelves.entries s.limit s.overgrown s.measure };
+    ghost view = { λ s. stored s.shelves.entries s.limit s.measure };
 
-    ghost invariant = { λ s. IsTotal s.bytes (stored s.shelves.entries s.limit s.overgrown s.measure) };
+    ghost invariant = { λ s. IsTotal s.bytes (stored s.shelves.entries s.limit s.measure) };
 }
 
 impl<K: Eq + Hash + Drop, V: Allocative + Described> Store<K, V> {
     /// A store with no account and no limit of its own. It allocates nothing.
     pub fn new(alloc: Global, measure: Measure) -> Self
-        ensures { result ≡ stored [] (2 ^ 64 - 1) 0 measure }
+        ensures { result ≡ stored [] (2 ^ 64 - 1) measure }
     {
         Store {
             alloc,
@@ -52,7 +51,6 @@ impl<K: Eq + Hash + Drop, V: Allocative + Described> Store<K, V> {
             shelves: BTreeMap::new(alloc),
             bytes: 0,
             limit: usize::MAX,
-            overgrown: 0,
         }
     }
 
@@ -73,7 +71,8 @@ impl<K: Eq + Hash + Drop, V: Allocative + Described> Store<K, V> {
     /// Replaces the limit of the whole store. The error is `LedgerFull` exactly if the bytes of all values together
     /// exceed the new one, and then the store is unchanged.
     pub fn set_limit(&mut self, limit: usize) -> Result<(), Rejection>
-        ensures set { OnOk result (self.new ≡ stored self.old.shelves limit 0 self.old.measure) }
+        ensures set { OnOk result (self.new ≡ stored self.old.shelves limit self.old.measure) }
+        ensures within { OnOk result (all_kept self.old.shelves ≤ limit) }
         ensures rejected { IfErr result (IsLedgerFull (all_kept self.old.shelves) limit) }
         ensures unchanged { OnErr result (self.new ≡ self.old) }
     {
@@ -82,7 +81,6 @@ impl<K: Eq + Hash + Drop, V: Allocative + Described> Store<K, V> {
             return Err(Rejection::LedgerFull { bytes, limit });
         }
         self.limit = limit;
-        self.overgrown = 0;
         Ok(())
     }
 
@@ -131,7 +129,8 @@ impl<K: Eq + Hash + Drop, V: Allocative + Described> Store<K, V> {
     #[tactic(auto, using(crate::proofs::Storing::shelves))]
     pub fn set_budget(&mut self, tenant: &str, budget: Budget) -> Result<(), Rejection>
         ensures set { OnOk result (Replaces tenant.now
-            (λ h now. now ≡ shelved h.entries budget.limit 0 h.measure) self.old self.new) }
+            (λ h now. (now ≡ shelved h.entries budget.limit h.measure) × (bytes_of h.entries ≤ budget.limit))
+            self.old self.new) }
         ensures rejected { IfErr result
             (RejectsIn (λ h. IsOverBudget (bytes_of h.entries) budget.limit) (shelf_of tenant.now self.old)) }
         ensures unchanged { OnErr result (self.new ≡ self.old) }
@@ -230,7 +229,6 @@ impl<K: Eq + Hash + Drop, V: Allocative + Described> Store<K, V> {
         let (bytes, excess) = (shelf.bytes(), shelf.excess());
         self.bytes = rest + bytes;
         let ledger_excess = self.bytes.saturating_sub(self.limit);
-        self.overgrown = self.overgrown.max(ledger_excess);
         match changed {
             Err(refused) => return Err(refused),
             Ok(false) => return Ok(None),

@@ -144,8 +144,8 @@ class CommandTest(unittest.TestCase):
             ("BinaryHeap<u8>", "24 bytes"),
             ("FlameGraph", "40 bytes"),
             ("History", "40 bytes"),
-            ("Ledger", "56 bytes"),
-            ("Account", "64 bytes"),
+            ("Ledger", "48 bytes"),
+            ("Account", "56 bytes"),
             ("(u8, u8, u8, u8, u8, u8, u8, u32)", "12 bytes"),
             ("BoundedCache<u8, u8, RandomState>", "0 bytes, and 1 of a size that only the checker knows"),
         ):

@@ -14,12 +14,11 @@ use std::collections::BTreeMap;
 impl Described for Account {
     ghost layout = { pad_to_align (empty (codes "Account") with ⟦<BTreeMap<u64, usize> as Described>⟧.layout
         with ⟦<usize as Described>⟧.layout with ⟦<usize as Described>⟧.layout with ⟦<usize as Described>⟧.layout
-        with ⟦<usize as Described>⟧.layout with ⟦<usize as Described>⟧.layout) };
+        with ⟦<usize as Described>⟧.layout) };
 
     fn layout() -> Layout {
         Layout::empty("Account")
             .with(<BTreeMap<u64, usize>>::layout())
-            .with(usize::layout())
             .with(usize::layout())
             .with(usize::layout())
             .with(usize::layout())
@@ -47,13 +46,12 @@ impl Allocative for Account {
 impl Described for Ledger {
     ghost layout = { pad_to_align (empty (codes "Ledger") with ⟦<u8 as Described>⟧.layout
         with ⟦<BTreeMap<String, Account> as Described>⟧.layout with ⟦<usize as Described>⟧.layout
-        with ⟦<usize as Described>⟧.layout with ⟦<usize as Described>⟧.layout) };
+        with ⟦<usize as Described>⟧.layout) };
 
     fn layout() -> Layout {
         Layout::empty("Ledger")
             .with(u8::layout())
             .with(<BTreeMap<String, Account>>::layout())
-            .with(usize::layout())
             .with(usize::layout())
             .with(usize::layout())
             .pad_to_align()
@@ -63,12 +61,15 @@ impl Described for Ledger {
 impl Allocative for Ledger {
     ghost may_show = { λ l. shows.Field (codes "Ledger") ⟦<Ledger as Described>⟧.layout.size
         (shows.Field (codes "accounts") ⟦<BTreeMap<String, Account> as Described>⟧.layout.size
-        (⟦<BTreeMap<String, Account> as Allocative>⟧.may_show l.accounts)) };
+        (shows.Field (codes "BTreeMap") ⟦<BTreeMap<String, Account> as Described>⟧.layout.size
+        (shows.Inside (codes "data") 8 (shows.each_shows (pair_shows ⟦<String as Described>⟧.layout.size
+        ⟦<String as Allocative>⟧.may_show ⟦<Account as Described>⟧.layout.size ⟦<Account as Allocative>⟧.may_show)
+        l.accounts)))) };
 
     ghost is_strict = { true };
 
     fn visit(&self, visitor: &mut Visitor<'_>) -> Result<(), Refusal> {
-        let accounts = Field("accounts", &self.accounts);
+        let accounts = Field("accounts", self.accounts());
         Whole(self, accounts).enter(visitor)
     }
 }

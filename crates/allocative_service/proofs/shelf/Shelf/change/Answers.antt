@@ -1,11 +1,9 @@
 -- of Shelf::change: invariants, and what it ensures after a change and after a refusal
-use Rattle.std.proofs.Common.{◌≡◌, ◌∙◌, ℕ, ◌-◌, None, Some, ap, arith, max, rules, sym}
-use Rattle.std.specs.Map.{set_value}
+use Rattle.std.proofs.Common.{◌∙◌, None, Some, arith, refl, rules, sym}
 use Rattle.std.proofs.lemmas.Map.Views.{All-values-set_value}
-use Rattle.allocative_service.specs.Entries.{bytes_of, IsMeasured, kept}
-use Rattle.allocative_service.proofs.Inserting.{bytes_of-remove_entry, without-kept}
-use Rattle.allocative_service.proofs.Shelving.{found_again, remove_entry-set_value, written_bytes}
-use Rattle.allocative_service.specs.Shelf.{shelved}
+use Rattle.allocative_service.specs.Entries.{IsMeasured, kept}
+use Rattle.allocative_service.proofs.Inserting.{bytes_of-remove_entry}
+use Rattle.allocative_service.proofs.Shelving.{All-remove_entry, found_again, remove_entry-set_value, written_bytes}
 use Rattle.allocative_service.proofs.shelf.Shelf.change.Goals.{in-Some-pop_entry, in-None}
 use Rattle.allocative_service.proofs.shelf.Shelf.change.Goals as goal
 
@@ -15,9 +13,6 @@ returns-in-Ok-clause-ok g c =
     let es = c.self.inside.entries.entries in
     let test = g.K.PartialEq.eq c.args.key.now in
     let w = kept c.change.new.arg2 c.in-Ok.bytes in
-    let sums = written_bytes test es c.in-Some.kept.now w c.in-Some.ensures.value in
-    let over : c.max-self-inside.result ≡ max c.self.inside.overgrown (bytes_of (set_value test es w) - c.self.inside.budget.limit) =
-    omega (arith, sums, c.self.invariant.1) in
     rw (← c.self.view_is) (record {
       had = c.in-Some.kept.now;
       value = c.change.new.arg2;
@@ -25,7 +20,7 @@ returns-in-Ok-clause-ok g c =
       found = sym c.in-Some.ensures.value;
       changes = search rules;
       figure = c.in-Ok.ensures.figure;
-      is = ap (λ (o : ℕ). shelved (set_value test es w) c.self.inside.budget.limit o c.self.inside.measure) over;
+      is = refl;
     })
 
 -- The changed value has its figure, and the others have theirs.
@@ -37,12 +32,8 @@ invariant_of-self-in-Ok g c =
     let sums = written_bytes test es c.in-Some.kept.now w c.in-Some.ensures.value in (
       c.self.invariant.0,
       omega (arith, sums, c.self.invariant.1),
-      record {
-        within = omega (arith, sums, c.self.invariant.1);
-        measured = All-values-set_value test (IsMeasured g.V.Described.layout.size g.V.Allocative.may_show
-            c.self.inside.measure)
-            es w c.self.invariant.2.measured c.in-Ok.ensures.figure;
-      },
+      All-values-set_value test (IsMeasured g.V.Described.layout.size g.V.Allocative.may_show c.self.inside.measure) es w
+          c.self.invariant.2 c.in-Ok.ensures.figure,
     )
 
 -- Each value has its figure when it returns.
@@ -58,7 +49,8 @@ invariant_of-self-2 g c =
     rw is (
       c.self.invariant.0,
       omega (arith, part, c.self.invariant.1),
-      without-kept _ c.self.invariant.2,
+      All-remove_entry (IsMeasured g.V.Described.layout.size g.V.Allocative.may_show c.self.inside.measure) _
+          c.self.inside.entries.entries c.self.invariant.2,
     )
 
 -- A value that was found is found again.

@@ -2,7 +2,7 @@
 use Rattle.std.proofs.Common.{ℕ, ◌<◌, ◌≤◌, List, [], ◌∷◌, ◌++◌, append_assoc, arith, refl}
 use Rattle.std.proofs.lemmas.List.{map-append}
 use Rattle.std.proofs.lemmas.List.Elements.{All-append, All-cons, All-nil, All-push, All-weaker}
-use Rattle.allocative_service.specs.AccountData.{IsLargest}
+use Rattle.allocative_service.specs.Ledger.{IsLargest}
 use Rattle.allocative_service.proofs.ledger.account.Account.largest.Goals as goal
 use Rattle.allocative_service.proofs.ledger.account.Account.largest.Goals.{in_default-via-in-Some-largest+else-bytes-most, in_default-via-in_default}
 

@@ -1,7 +1,7 @@
 -- of Account::largest: the invariant of its loop
 use Rattle.std.proofs.Common.{◌≡◌, [], MatchOption, map}
 use Rattle.std.specs.Map.Iter.{deref_pair}
-use Rattle.allocative_service.specs.AccountData.{IsLargest}
+use Rattle.allocative_service.specs.Ledger.{IsLargest}
 use Rattle.allocative_service.proofs.ledger.account.Account.largest.Given as goal
 
 -- The largest of the entries so far.
