@@ -1,5 +1,5 @@
 //! What a finished collector returns: a flame graph and its warnings.
-ghost use Rattle.std.specs.Prelude.{◌≡◌, ◌++◌, IfOk, OnOk, MatchResult, string_bytes, map, filter, not};
+ghost use Rattle.std.specs.Prelude.{◌≡◌, ◌++◌, IfOk, MatchResult, string_bytes, map, filter, not};
 ghost use Rattle.allocative_collectors.specs.Warned.{warning_of, warning_lines, is_std_entry};
 
 use allocative_graph::flamegraph::FlameGraph;

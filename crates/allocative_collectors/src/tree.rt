@@ -8,7 +8,7 @@ ghost use Rattle.allocative_graph.specs.Visits.{IsProfile};
 ghost use Rattle.allocative_collectors.specs.Listed.{root_sum, put, path_at, map_of, IsEntered, IsAbove};
 ghost use Rattle.allocative_collectors.specs.Places.{AddedAt, TellsWhy};
 ghost use Rattle.allocative_collectors.specs.Warned.{size_at_place, is_short, MakesGraph, MakesGraphAlone, warning_of};
-ghost use Rattle.allocative_collectors.specs.Nodes.{leaf, bytes_at, keys_of, key_at, KeysRise, HasKey, IsKeyGap, numbers, numbers_in, flat, IsPlace, IsPlaceIn, place_in, flat_place, IsTree};
+ghost use Rattle.allocative_collectors.specs.Nodes.{leaf, bytes_at, keys_of, key_at, KeysRise, HasKey, IsKeyGap, numbers, flat, IsPlace, IsPlaceIn, place_in, flat_place, IsTree};
 
 use crate::children::{Children, Chunk, LONGEST_LIST, Place, last_in, number_at, start_of};
 use crate::output::{FlameGraphOutput, WarnedPath};

@@ -4,6 +4,7 @@ use Rattle.allocative_described.specs.Sizes.{size_sum, size_max, size_up}
 
 infixl 30 ◌with◌
 infixl 30 ◌or◌
+
 -- A name, a size in bytes or None if it does not fit a word, an alignment in bytes, and whether there is something to
 -- drop.
 pub record Declaration : Type 0 where
@@ -12,11 +13,11 @@ pub record Declaration : Type 0 where
   pub align : ℕ
   pub needs_drop : Bool
 
--- These four.
+-- What a type declares: its name, size, alignment, and whether there is something to drop.
 abbrev pub declaration : List ℕ → Option ℕ → ℕ → Bool → Declaration
 declaration name size align drop = record { name = name; size = size; align = align; needs_drop = drop }
 
--- What is given by its numbers.
+-- What a type of a known size declares.
 abbrev pub declared : List ℕ → ℕ → ℕ → Bool → Declaration
 declared name size align drop = declaration name (Some size) align drop
 

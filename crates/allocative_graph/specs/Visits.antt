@@ -126,7 +126,7 @@ pub record Profile : Type 0 where
   pub warned : List Warned
 
 -- How the collector of a flame graph ends: with its first cause; with Open if a visitor is open; or with what p says
--- of its sums, or Memory if memory runs out.
+-- of its sums, or Memory if memory runs out. No collector of a sum ends so.
 abbrev pub Ends : {T : Type 0} → (Sums → T → Type 0) → State → Result T Refusal → Type 0
 Ends p (Failed r) result = result ≡ Err r
 Ends p (Going (OfGraph c)) (Ok made) = IsClosed (OfGraph c) × p c.sums made

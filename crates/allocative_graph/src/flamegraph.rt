@@ -282,6 +282,16 @@ impl FlameGraph {
         self.children.as_slice()
     }
 
+    /// The children of the root, as [`children`](FlameGraph::children) has them. The bytes of the root itself are lost.
+    #[tactic(auto, using(crate::proofs::Nodes::own_of_node, crate::proofs::Nodes::smaller_child))]
+    pub fn into_children(self) -> Vec<Child>
+        ensures whole { self ≡ node (size_at self []) result.items }
+        ensures children { AreChildren result.items }
+        ensures smaller { AllSmaller result.items self }
+    {
+        self.children
+    }
+
     /// The graph at a path, whose root is that path. It returns `None` exactly if the graph has no such path.
     pub fn get(&self, path: &[&str]) -> Option<&FlameGraph>
         ensures found { IfSome result (λ found. IsBehind self.now (texts path.now) found.now) }
@@ -627,7 +637,8 @@ fn start_of(key: &str) -> u64 {
     u64::from_be_bytes(padded)
 }
 
-// A graph that has only the children. They are added in the order of their keys, so that each is put at the end.
+// A graph that has only the children. They are added in the order of their keys, so that each is put at the end. The
+// keys are compared by their first eight bytes first, which is quick.
 #[tactic(auto, using(std::proofs::lemmas::List::nil_from_length, crate::proofs::Graphs::all_permuted))]
 fn gather(alloc: Global, children: Vec<Child>) -> Result<FlameGraph, AllocError>
     requires { total_of children.items < 2 ^ 64 }
@@ -645,7 +656,7 @@ fn gather(alloc: Global, children: Vec<Child>) -> Result<FlameGraph, AllocError>
     let mut waiting = VecDeque::from(sorted);
     let mut graph = FlameGraph::default(alloc);
     while let Some(child) = waiting.pop_front() {
-        // The totals fit, so the only error is that memory runs out.
+        // The total of all children fits, so memory ran out.
         if graph.add_child(child.key, child.graph).is_err() {
             return Err(AllocError);
         }

@@ -1,5 +1,5 @@
 //! Keys: static texts.
-ghost use Rattle.std.specs.Prelude.{◌≡◌, List, ℕ, Some, ◌==◌, nat_eq};
+ghost use Rattle.std.specs.Prelude.{◌≡◌, List, ℕ, Some, ◌==◌, nat_eq, IfOk};
 ghost use Rattle.std.proofs.Common.{rules};
 ghost use Rattle.std.specs.Cmp.Rules.{comparing, hashing};
 ghost use Rattle.std.specs.Ordering.{nat_cmp};
@@ -10,7 +10,7 @@ ghost use Rattle.allocative_graph.specs.Path.{fnv};
 
 use crate::static_text::ReadRight;
 use allocative_described::Described;
-use std::alloc::AllocError;
+use std::alloc::{AllocError, Global};
 use std::cmp::Ordering;
 use std::hash::{Hash, Hasher};
 use std::marker::Model;
@@ -64,6 +64,20 @@ impl Key {
             len: text.len(),
             right,
         }
+    }
+
+    /// The key of a copy of the text, which stays in memory until the program ends. Make one key for each different
+    /// text, and copy it. The only error is that memory runs out.
+    pub fn leaked(alloc: Global, text: &str) -> Result<Key, AllocError>
+        ensures { IfOk result (λ key. key ≡ text.now) }
+    {
+        let bytes: &'static [u8] = String::from_str(alloc, text)?.into_bytes().leak();
+        let (at, right) = ReadRight::forever(bytes);
+        Ok(Key {
+            at,
+            len: bytes.len(),
+            right,
+        })
     }
 
     /// The key of the declared name of `T`.
