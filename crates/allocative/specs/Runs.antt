@@ -1,11 +1,13 @@
--- What is shown of the items that an iterator gives.
+-- What is shown of the items that an iterator gives, and the text of a profile.
 use Rattle.std.specs.Prelude.{◌≡◌, ℕ, ◌<◌, ◌^◌, Bool, IsTrue, List, map, length, Option, Some, Result, codes}
 use Rattle.std.specs.Iterator.{Drains, AlwaysYields}
 use Rattle.allocative_described.specs.Sizes.{checked}
 use Rattle.allocative_graph.specs.declared.refusal.Refusal.{Refusal}
 use Rattle.allocative_graph.specs.Path.{Key}
 use Rattle.allocative_graph.specs.Forest.{Forest}
+use Rattle.allocative_graph.specs.Graph.{text}
 use Rattle.allocative_graph.specs.Shows.{Showing, Both, Field}
+use Rattle.allocative_graph.specs.Visits.{Profile, IsProfileOf}
 use Rattle.allocative.specs.Strict.{FailsOnlyIfFull}
 use Rattle.allocative.specs.declared.visitor.Visitor.{Visitor}
 
@@ -46,3 +48,9 @@ pair_shows key_size p value_size q e =
 -- The number of items of some whole run, or None if it does not fit a word.
 abbrev pub CountsRun : {S A : Type 0} → (S → Option A → S → Type 0) → S → Option ℕ → Type 0
 CountsRun {A = A} steps s n = (xs : List A) × Drains steps s xs × (n ≡ checked (length xs))
+
+-- The bytes are the collapsed stack text of a profile of some whole showing that p allows.
+pub record IsTextOf (p : Showing) (bytes : List ℕ) : Type 0 where
+  pub profile : Profile
+  pub shown : IsProfileOf p profile
+  pub written : bytes ≡ text profile.graph

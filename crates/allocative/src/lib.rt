@@ -17,7 +17,7 @@ pub use crate::part::containers::{Buffer, Each, FieldEach, Items, Pairs, Text, U
 pub use crate::part::named::{Named, NamedRef};
 pub use crate::part::{Declared, Field, Inside, IntoKey, Part, Shared, Unique, Whole};
 pub use crate::run::builder::FlameGraphBuilder;
-pub use crate::run::profile::{profile_value, profile_values};
+pub use crate::run::profile::{profile_text, profile_value, profile_values};
 pub use crate::run::registry::{Registry, profile_roots};
 pub use crate::run::size_of::{
     size_of_entries, size_of_owned, size_of_shown, size_of_unique, size_of_unique_allocated_data,

@@ -2,9 +2,11 @@
 #![tactic(auto, using(crate::proofs::Roots::running))]
 
 ghost use Rattle.std.specs.Prelude.{◌<◌, ◌^◌, IfOk, IfErr};
+ghost use Rattle.allocative_graph.specs.Format.{IfText};
 ghost use Rattle.allocative_graph.specs.Graph.{total};
 ghost use Rattle.allocative_graph.specs.Shows.{each_shows};
 ghost use Rattle.allocative_graph.specs.Visits.{VisitsRoot, IsProfileOf};
+ghost use Rattle.allocative.specs.Runs.{IsTextOf};
 ghost use Rattle.allocative.specs.Strict.{MayRefuseProfile, RootFailsOnlyIfFull};
 
 use crate::{Allocative, FlameGraphBuilder, FlameGraphOutput, Refusal};
@@ -72,4 +74,18 @@ pub fn profile_values<T: Allocative>(
     let mut builder = FlameGraphBuilder::new(alloc)?;
     builder.visit_values(roots)?;
     builder.finish()
+}
+
+/// The collapsed stack text of one value: that of the graph of `profile_value`, as `FlameGraph::write` writes it.
+///
+/// The errors are those of `profile_value`; `Memory` also comes if there is none for the text.
+///
+/// ```
+/// assert_eq!(rt; profile_text(alloc, &Some(7u32))?.as_str(), "Option 4\nOption;Some;u32 4\n");
+/// ```
+pub fn profile_text<T: Allocative>(alloc: Global, root: &T) -> Result<String, Refusal>
+    ensures text { IfText result (IsTextOf (T.may_show root.now)) }
+    ensures refused { IfErr result (MayRefuseProfile T.is_strict (T.may_show root.now)) }
+{
+    profile_value(alloc, root)?.flamegraph().write()
 }
