@@ -5,7 +5,7 @@ use Rattle.std.specs.List.{list_any, starts_with}
 use Rattle.std.specs.Cmp.Lexicographic.{pointwise, texts_ties}
 use Rattle.allocative_picture.proofs.Common.{begins, texts}
 use Rattle.std.proofs.lemmas.Bool.Decides.{nat_tests}
-use Rattle.allocative_picture.proofs.Common.{Path, Graph, default, size_at, total, sum_of, entries, entries_sorted, get-entries}
+use Rattle.allocative_picture.proofs.Common.{Path, Sizes, Graph, default, size_at, total, sum_of, entries, entries_sorted, get-entries}
 use Rattle.allocative_picture.proofs.Common.{graph_of_path, total-path, size_at-path, sum_by-cons, fold-append, is_same_path, same_path}
 use Rattle.allocative_graph.proofs.Graphs.{total-sum_of, size_at-sum_of, size_at-default, total-default}
 use Rattle.allocative_picture.specs.Views.{chosen_onto, is_within, only, without, bytes_within, paths_of}
@@ -29,10 +29,6 @@ within_starts [] q = refl
 within_starts (p ∷ ps) q = λ i. begins-starts p.items q i || within_starts ps q i
 
 -- ---- the bytes of paths
--- Paths with their bytes.
-abbrev Sizes : Type 0
-Sizes = List (Path × ℕ)
-
 -- The graph with the bytes of one path, if it passes the test.
 abbrev one_chosen : (Path → Bool) → Graph → Path × ℕ → Graph
 one_chosen test h e = cond (nat_lt 0 e.1 && test e.0) (sum_of h (graph_of_path e.0 e.1)) h

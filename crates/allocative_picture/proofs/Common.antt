@@ -1,4 +1,5 @@
--- The names that proofs of this crate cite, passed on from one place. Declares nothing.
+-- The names that proofs of this crate cite, passed on from one place, and the type of paths with their bytes.
+use Rattle.std.proofs.Common.{ℕ, List}
 pub use Rattle.allocative_collectors.specs.Warned.{warning_of}
 pub use Rattle.allocative_graph.proofs.Basics.{on_test, same_path, each-append, path_total}
 pub use Rattle.allocative_graph.proofs.Children.{total_of-cons, total-node, total_of-rows}
@@ -26,3 +27,7 @@ pub use Rattle.std.proofs.lemmas.List.{take-map, drop-map, take_rest, get_or-map
 pub use Rattle.std.proofs.lemmas.List.Elements.{filter-append, all_zip_more}
 pub use Rattle.std.proofs.lemmas.List.Sorted.{IsPermutation-map}
 pub use Rattle.std.proofs.lemmas.List.Sums.{sum_by-le-sum_by, sum_by_more_le, sum_by_more, sum_by-take-le}
+
+-- Paths with their bytes.
+abbrev pub Sizes : Type 0
+Sizes = List (Path × ℕ)

@@ -5,7 +5,7 @@ use Rattle.allocative_picture.proofs.Common.{ordering_reverse, entries, entries_
 use Rattle.allocative_picture.proofs.Common.{path_cmp, Graph, total_at, Figures, before_in, frame_of, frames_from, len}
 use Rattle.allocative_picture.proofs.Common.{Child, total, figures_behind, total_of, FrameData, frame_from, sum_by-cons}
 use Rattle.allocative_picture.proofs.Common.{sum_by-append, sum_by_more, tied_itself, figures, node, first}
-use Rattle.allocative_picture.proofs.Common.{second, path_total, map-append, length-map, fold-map}
+use Rattle.allocative_picture.proofs.Common.{second, path_total, Sizes, map-append, length-map, fold-map}
 use Rattle.allocative_picture.proofs.Common.{len-entries, AreChildren, texts, child_figures, flat_map_more}
 use Rattle.allocative_picture.proofs.Common.{figures_of_node, total-node, drop-map, take_rest}
 use Rattle.allocative_picture.specs.declared.frame.Mark.{Mark}
@@ -13,10 +13,6 @@ use Rattle.allocative_graph.proofs.Sums.{is_lt-Less}
 use Rattle.std.proofs.lemmas.Option.{slice_get-map}
 use Rattle.allocative_picture.specs.Frames.{frames_of}
 use Rattle.allocative_picture.specs.Frames as picture
-
--- Paths with their sizes.
-abbrev Sizes : Type 0
-Sizes = List (Path × ℕ)
 
 -- A path that is less than all entries is less than the first one and than all others.
 pub less_than : (p : Path) (e : Path × ℕ) (es : Sizes) → T (below_all path_cmp p (e ∷ es)) →

@@ -10,7 +10,7 @@ use Rattle.allocative_graph.specs.Representation.NodeRows.{entries-node}
 use Rattle.std.specs.Cmp.{both_ways}
 use Rattle.std.proofs.lemmas.List.{reverse-append, reverse-reverse}
 use Rattle.std.proofs.lemmas.Bool.Decides.{nat_tests}
-use Rattle.allocative_picture.proofs.Common.{Path, Key, Graph, default, size_at, total, sum_of, under, entries, entries_sorted, find}
+use Rattle.allocative_picture.proofs.Common.{Path, Sizes, Key, Graph, default, size_at, total, sum_of, under, entries, entries_sorted, find}
 use Rattle.allocative_picture.proofs.Common.{get-entries, is_sorted, below_all, path_cmp, is_same_path, same_path, first, second}
 use Rattle.allocative_picture.proofs.Common.{graph_of_path, total-path, size_at-path, sum_by-cons}
 use Rattle.allocative_graph.proofs.Basics.{same_path_itself}
@@ -18,10 +18,6 @@ use Rattle.allocative_graph.proofs.Sums.{find-below_all}
 use Rattle.allocative_graph.proofs.Graphs.{total-sum_of, size_at-sum_of, size_at-default, total-default, sum_of-commutes, sum_of-default}
 use Rattle.allocative_graph.proofs.Nodes.{tree-path}
 use Rattle.allocative_picture.specs.Views.{bytes_alone, reversed, reversed_onto}
-
--- Paths with their bytes.
-abbrev Sizes : Type 0
-Sizes = List (Path × ℕ)
 
 -- ---- totals
 total-reversed_onto : (h : Graph) (es : Sizes) → total (reversed_onto h es) ≡ total h + sum_by (λ e. e.1) es

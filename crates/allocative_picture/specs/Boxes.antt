@@ -48,13 +48,13 @@ unfoldable pub amount_text : List ℕ → ℕ → List ℕ
 amount_text unit n = cond (is_bytes unit) (size_text n) (stepped n (step_of n).0 ++ (step_of n).1 ++ unit)
 
 -- Whether an amount in a unit is also said in full.
-abbrev pub is_stepped : List ℕ → ℕ → Bool
-is_stepped unit n = is_bytes unit || not (nat_lt n 1000)
+abbrev pub is_also_in_full : List ℕ → ℕ → Bool
+is_also_in_full unit n = is_bytes unit || not (nat_lt n 1000)
 
 -- An amount in a unit, also in full, for example as `1.5 KiB (1536 bytes)`.
 unfoldable pub full_text : List ℕ → ℕ → List ℕ
 full_text unit n =
-    amount_text unit n ++ cond (is_stepped unit n) (codes " (" ++ decimal n ++ codes " " ++ unit ++ codes ")") []
+    amount_text unit n ++ cond (is_also_in_full unit n) (codes " (" ++ decimal n ++ codes " " ++ unit ++ codes ")") []
 
 -- Millionths of all as a number of percent with two decimals, rounded down, for example `12.34`.
 unfoldable pub percent_text : ℕ → List ℕ
@@ -165,7 +165,7 @@ declared_text unit u r =
 unfoldable pub both_text : List ℕ → ℕ → ℕ → List ℕ
 both_text unit before after =
     (amount_text unit before ++ codes " before, " ++ amount_text unit after ++ codes " after")
-    ++ cond (is_stepped unit (max before after))
+    ++ cond (is_also_in_full unit (max before after))
     (codes " (" ++ decimal before ++ codes " and " ++ decimal after ++ codes " " ++ unit ++ codes ")") []
 
 -- The title of a frame's box after the key, by its mark, from the share of its bytes in millionths.

@@ -5,7 +5,7 @@ ghost use Rattle.allocative_picture.specs.Frames.{frame_data};
 ghost use Rattle.allocative_picture.specs.Boxes.{edge, width, is_drawn, figure_text, declared_text, title_text, viewport, element, shade, paint_text, change_text, both_text, class_text, change_class, fit_text};
 
 use crate::escape::escaped;
-use crate::figures::{Amount, Full, Percent, Place, is_stepped};
+use crate::figures::{Amount, Full, Percent, Place, is_also_in_full};
 use crate::frame::{Frame, Mark};
 use allocative_graph::key::Key;
 use std::alloc::{AllocError, Global};
@@ -58,7 +58,7 @@ impl fmt::Display for Comparison<'_> {
         let Difference(before, after, unit) = self.0;
         let (earlier, later) = (Amount(before, unit), Amount(after, unit));
         write!(f, "{earlier} before, {later} after")?;
-        if is_stepped(before.max(after), unit) {
+        if is_also_in_full(before.max(after), unit) {
             write!(f, " ({before} and {after} {unit})")?;
         }
         Ok(())

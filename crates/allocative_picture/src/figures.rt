@@ -1,6 +1,6 @@
 //! Figures as texts.
 ghost use Rattle.std.specs.Prelude.{◌≡◌, ◌*◌, ◌<◌, Some};
-ghost use Rattle.allocative_picture.specs.Boxes.{unit_of, step_of, amount_text, full_text, is_stepped, stepped, percent_text, place_text};
+ghost use Rattle.allocative_picture.specs.Boxes.{unit_of, step_of, amount_text, full_text, is_also_in_full, stepped, percent_text, place_text};
 
 use std::fmt;
 
@@ -54,8 +54,8 @@ fn step_of(number: usize) -> (usize, &'static str)
 }
 
 /// Whether an amount in a unit is also printed in full.
-pub(crate) fn is_stepped(amount: usize, unit: &str) -> bool
-    ensures { result ≡ is_stepped unit.now amount }
+pub(crate) fn is_also_in_full(amount: usize, unit: &str) -> bool
+    ensures { result ≡ is_also_in_full unit.now amount }
 {
     unit == "bytes" || amount >= 1000
 }
@@ -101,7 +101,7 @@ impl fmt::Display for Full<'_> {
     fn fmt<W: fmt::Write>(&self, f: &mut fmt::Formatter<W>) -> fmt::Result {
         let Full(amount, unit) = *self;
         write!(f, "{}", Amount(amount, unit))?;
-        if is_stepped(amount, unit) {
+        if is_also_in_full(amount, unit) {
             write!(f, " ({amount} {unit})")?;
         }
         Ok(())

@@ -6,9 +6,7 @@ ghost use Rattle.allocative_graph.specs.Path.{Key, Path, texts};
 ghost use Rattle.allocative_graph.specs.Graph.{default, size_at, sum_of, total, under};
 ghost use Rattle.allocative_graph.specs.Rows.{under_rows};
 ghost use Rattle.allocative_graph.specs.Representation.Children.{graph_of_path};
-ghost use Rattle.allocative_picture.specs.Views.{bytes_within, chosen_onto, is_chosen, is_within, only, paths_of};
-ghost use Rattle.allocative_picture.specs.Views.{without};
-ghost use Rattle.allocative_picture.specs.Views.{all_of, by_last_key, by_last_keys, bytes_alone, bytes_ending_in, joined, reversed, reversed_onto, GuidesChild, IsOutline};
+ghost use Rattle.allocative_picture.specs.Views.{all_of, by_last_key, by_last_keys, bytes_alone, bytes_ending_in, bytes_within, chosen_onto, is_chosen, is_within, joined, only, paths_of, reversed, reversed_onto, without, GuidesChild, IsOutline};
 ghost use Rattle.allocative_picture.specs.Table.{behind};
 
 use allocative_graph::flamegraph::{Child, FlameGraph, add_at};

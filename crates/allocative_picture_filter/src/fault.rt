@@ -30,7 +30,7 @@ pub enum Fault<'a> {
     NotText(Source<'a>),
     /// A text has a line that is not blank, and each such line ends in two counts.
     TwoCounts(Source<'a>),
-    /// The bytes of all lines together exceed `usize::MAX`.
+    /// The bytes of all lines of a profile, or those of what a change is made of, together exceed `usize::MAX`.
     TooLarge,
     /// The arguments are wrong, for this reason.
     Arguments(String),

@@ -4,8 +4,7 @@ ghost use Rattle.std.specs.Io.KnownBytes.{Appends};
 ghost use Rattle.allocative_graph.specs.Graph.{Graph, default, total};
 ghost use Rattle.allocative_io.specs.Streams.{AppendsBeginning};
 ghost use Rattle.allocative_picture_filter.specs.Fault.{IsReadingOf};
-ghost use Rattle.allocative_picture_filter.specs.Run.{sourced, without_mark, later_texts, Reads, Adds, AddUp, StopsReading, StopsAdding, StopsAddingUp, StopsProfile, Stops, IsMade, IsShown, Shows, Writes, guide_of, is_change, is_outlined, limit_of, turned};
-ghost use Rattle.allocative_picture_filter.specs.Run.{part_of, within};
+ghost use Rattle.allocative_picture_filter.specs.Run.{sourced, without_mark, later_texts, Reads, Adds, AddUp, StopsReading, StopsAdding, StopsAddingUp, StopsProfile, Stops, IsMade, IsShown, Shows, Writes, guide_of, is_change, is_outlined, limit_of, part_of, turned, within};
 ghost use Rattle.allocative_picture.specs.Views.{IsOutline};
 
 use crate::arguments::Arguments;
@@ -366,7 +365,8 @@ fn make<'a, R: Read>(
 /// After Ok what the arguments ask for is on the output: the picture of the graph that all texts add up to, that of the
 /// change to it from the graph of the earlier texts, or its text. After `Fault::Writing` a beginning of that is on the
 /// output. After any other fault nothing goes to the output. The earlier texts are added up first, then the others, and
-/// the input last; the fault is the first one. A graph or a sum whose bytes exceed `usize::MAX` is `Fault::TooLarge`.
+/// the input last; the fault is the first one. It is `Fault::TooLarge` if the bytes of all lines of a profile exceed
+/// `usize::MAX`, or those of both parts that a change is made of.
 #[tactic(auto, using(crate::proofs::Faults::stopping))]
 pub fn run<'a, R: Read, W: Write>(
     alloc: Global,
