@@ -3,7 +3,6 @@
 from __future__ import annotations
 
 import re
-import textwrap
 from functools import reduce
 from typing import NamedTuple
 
@@ -33,8 +32,8 @@ FOUND = {(home, name): size for home, sizes in SIZES.items() for size, names in 
 # What is taken for a field of which only the size is said.
 UNKNOWN = Bytes(0, 8, True)
 NAME = re.compile(r"\w+")
-# Where a line may end.
-SIGN = re.compile("\xa0(?=with\xa0|or\xa0)")
+# What stands before a sign: each has a line of its own.
+BREAK = "\n" + " " * 8
 
 
 class Layout(NamedTuple):
@@ -46,13 +45,7 @@ class Layout(NamedTuple):
     @property
     def operand(self) -> str:
         """The clause as what stands at a sign."""
-        return f"({self.clause})" if re.search(" with | or ", self.clause) else self.clause
-
-    def lines(self, indent: str) -> str:
-        """The clause on lines that are not long."""
-        words = SIGN.sub(" ", self.clause.replace(" ", "\xa0"))
-        lines = textwrap.wrap(words, 97, break_long_words=False, break_on_hyphens=False)
-        return f"\n{indent}".join(lines).replace("\xa0", " ")
+        return f"({self.clause})" if BREAK in self.clause else self.clause
 
 
 def of_type(kind: str) -> Layout:
@@ -69,12 +62,12 @@ def of_bytes(key: str, known: Bytes) -> Layout:
 def of_fields(name: str, fields: list[Layout]) -> Layout:
     """The layout of fields one after the other."""
     code = "".join(f".with({each.code})" for each in fields)
-    return Layout(f'Layout::empty("{name}"){code}', " with ".join((f'empty (codes "{name}")', *(each.operand for each in fields))))
+    return Layout(f'Layout::empty("{name}"){code}', f"{BREAK}with ".join((f'empty (codes "{name}")', *(each.operand for each in fields))))
 
 
 def either(one: Layout, other: Layout) -> Layout:
     """Room for the greater of two."""
-    return Layout(f"{one.code}.or({other.code})", f"{one.clause} or {other.operand}")
+    return Layout(f"{one.code}.or({other.code})", f"{one.clause}{BREAK}or {other.operand}")
 
 
 def padded(layout: Layout) -> Layout:

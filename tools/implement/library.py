@@ -12,20 +12,20 @@ TABLE = """
 String std 24/8 drop tally
 Vec std 24/8 drop tally many pointer
 VecDeque std 32/8 drop tally many pointer
-LinkedList std 24/8 drop pointer
-BinaryHeap std 24/8 drop pointer Ord
+LinkedList std 24/8 drop tally many pointer
+BinaryHeap std 24/8 drop tally many pointer Ord
 BTreeMap std 24/8 drop tally many pointer Ord
 BTreeSet std 24/8 drop tally many pointer Ord
 HashMap std 48/8 drop tally many pointer Eq Hash 2
 HashSet std 48/8 drop tally many pointer Eq Hash 1
 IndexMap indexmap 72/8 drop tally many pointer Eq Hash 2
 IndexSet indexmap 72/8 drop tally many pointer Eq Hash 1
-LruCache lru 72/8 drop pointer Eq Hash 2
+LruCache lru 72/8 drop tally many pointer Eq Hash 2
 Slab slab 40/8 drop tally pointer
 SmallVec smallvec - drop tally
 Box std 8/8 drop tally pointer
-BoxedSlice std 16/8 drop pointer
-BoxedStr std 16/8 drop
+BoxedSlice std 16/8 drop tally many pointer
+BoxedStr std 16/8 drop tally
 OnceBox once_cell 8/8 drop pointer loose
 IdRc allocative 8/8 drop pointer
 IdArc allocative 8/8 drop pointer

@@ -6,6 +6,7 @@ import re
 from itertools import chain, count
 from typing import TYPE_CHECKING, Sequence
 
+from .foreign import MODULES
 from .names import all_bound, bound, joined, lettered, one_word
 from .types import Member, Variant
 
@@ -18,16 +19,17 @@ WORD = re.compile(r"[\w-]+")
 SIZE = "(search rules)"
 # What answers cite, by its module.
 LEMMAS = {
-    "std.proofs.Common": "ap arith false refl rules ◌≡◌ ◌∙◌",
+    "std.proofs.Common": "ap arith false length refl rules ◌≡◌ ◌∙◌",
     "allocative.proofs.ByHand": "visited_at",
     "allocative.proofs.ContainerMeaning": "means_buffer",
     "allocative.proofs.Levels": "means_opened means_recursive",
     "allocative.proofs.Meaning": "entered_loosely strict_same means_both means_field means_same visited_as visited_if",
     "allocative.proofs.Parts": "strict",
     "allocative_tally.proofs.Counting": "first_counted second_counted",
-    "allocative_tally.proofs.Fields": "both_count case_counted field_counts fixed_counted holding holding_tuples next_as "
-    "next_both next_case next_fixed next_nothing next_whole nothing_counted own_counted sure_first sure_second told_by "
+    "allocative_tally.proofs.Fields": "both_count case_counted field_counts holding holding_tuples next_as next_at "
+    "next_both next_case next_fixed next_foreign next_nothing next_whole nothing_counted own_counted sure_first sure_second told_by "
     "told_then whole_counts",
+    "allocative_tally.proofs.Items": "foreign_counts",
     "allocative_tally.proofs.Sizes": "holds_bytes",
     "allocative_tally.specs.Whole": "as_itself",
 }
@@ -135,7 +137,8 @@ class Proofs:
         given = f"{'g ' * bool(is_generic)}{'t ' * bool(self.cycle)}c"
         body = lemma + "".join(f"\npub {goal} : goal.{goal}\n{goal} {given} =\n    {proof}\n" for goal, proof in proofs)
         words = {*WORD.findall(body), *(f"◌{sign}◌" for sign in "≡∙" if sign in body)}
-        modules = self.uses | {f"Rattle.{each}": names.split() for each, names in LEMMAS.items()}
+        known = {each: names.split() for each, names in LEMMAS.items()} | {each: [*names] for each, names in MODULES.items()}
+        modules = self.uses | {f"Rattle.{each}": names for each, names in known.items()}
         uses = {each: [name for name in names if name.split()[-1] in words] for each, names in modules.items()}
         self.files["/".join((*self.writer.source.text_at, *folder.split("/")))] = uses, body
 

@@ -14,7 +14,7 @@ from .foreign import Foreign
 from .known import Scope, is_lasting
 from .layouts import Layouts, is_wide
 from .names import NAME
-from .tally import HOMES, MANY, Tally, find_tallied, reason
+from .tally import HOMES, MANY, Tally, find_tallied, untallied
 from .text import Writer
 from .tokens import Fault, Tokens
 from .types import Definition, Member, Module, Type, module_of, type_of
@@ -40,7 +40,7 @@ WORDS = {
     "allocative.specs.Levels": "both both_levels box_of btree_map_of child field first hash_map_of opened option_in pair_in plain "
     "recursive second vec_in",
     "allocative_tally.specs.Whole": "is_whole starting",
-    "allocative_tally.specs.Shapes": "Beside NoEntry entries",
+    "allocative_tally.specs.Shapes": "Beside NoEntry entries pointers_shape",
 }
 GHOST = re.compile(r"^    ghost (?!use )\w+ = (\{.*?\});$", re.MULTILINE | re.DOTALL)
 # What names no word of a clause: a text, what stands for a type, and what is behind a dot.
@@ -331,7 +331,7 @@ class Source:
 
     def counts(self, kind: Type) -> bool:
         """Whether fields of a type are counted first: if it has a tally, and holds any number of items."""
-        return self.chosen.counted and kind.name in MANY and not reason(self.scope, kind, ())
+        return self.chosen.counted and kind.name in MANY and not untallied(self.scope, kind, ())
 
     def texts(self, found: list[Writer]) -> list[str]:
         """The text of the module `shown`, or of each piece of the file."""

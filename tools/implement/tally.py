@@ -7,6 +7,7 @@ from functools import reduce
 from itertools import count
 from typing import TYPE_CHECKING, Any, Callable, NamedTuple
 
+from .foreign import Foreign
 from .known import Scope, split_at_hasher
 from .library import NUMBERS, having
 from .names import bound, holds, in_angles, joined, pattern_of, size_in_clause
@@ -20,13 +21,13 @@ INDENT = " " * 8
 # The containers of any number of items.
 MANY = having("many")
 # The modules of the library that have the words of the code.
-HOMES = {"field": {"CountedField", "FieldMany", "OwnTally", "SizedMany", "count_own"}}
-HOMES["tally"] = {"CountError", "Entries", "Tallied", "added", "declared"}
+HOMES = {"field": {"CountedField", "FieldMany", "OwnTally", "PointersMany", "SizedMany", "count_own"}}
+HOMES["tally"] = {"CountError", "Entries", "Tallied", "added", "count_bytes", "declared"}
 # What a field adds to the weight of a tally, by the name of its type and those of its parts: a number 1, a map 6, a set
 # or what other crates have for many items 10, any other 3. The checker's borrow checker covers what shows 32 texts, of
 # the weight 96, and stops with 36. It covers all others of that weight that were tried.
 WEIGHTS = dict.fromkeys(NUMBERS, 1) | dict.fromkeys(("BTreeMap", "HashMap"), 6)
-WEIGHTS |= dict.fromkeys(("BTreeSet", "HashSet", "IndexMap", "IndexSet", "Slab", "SmallVec"), 10)
+WEIGHTS |= dict.fromkeys(("BTreeSet", "HashSet", "IndexMap", "IndexSet", "LruCache", "Slab", "SmallVec"), 10)
 LARGEST_TALLY = 96
 # With more parts the entries of a tally need an answer.
 LARGEST_AUTO = 3
@@ -38,7 +39,7 @@ DECLARED = "c.in_ok-declared.ensures"
 # Gives the name of a step in an arm, from its name alone.
 Step = Callable[[str], str]
 # What the code of a tally names.
-TAKEN = "self tally count_own added declared"
+TAKEN = "self tally count_bytes count_own added declared"
 
 
 class Part(NamedTuple):
@@ -46,7 +47,7 @@ class Part(NamedTuple):
 
     It is a field, with its type and that of its tally, or what has other parts inside it, with the type of its size.
     `is_own` says that the values of a field have a number of their own. `bytes` has the size of a field that is shown by
-    its size alone.
+    its size; the tally of one that is `foreign` and has a length is the bytes of the buffers.
     """
 
     name: str
@@ -56,6 +57,7 @@ class Part(NamedTuple):
     is_own: bool = False
     inside: tuple[Part, ...] = ()
     bytes: int | None = None
+    foreign: Foreign | None = None
 
     @property
     def size(self) -> str:
@@ -67,9 +69,23 @@ class Part(NamedTuple):
         size = f"<{self.type}>::size()" if self.bytes is None else f"Some({self.bytes})"
         return f'SizedMany("{self.key}", {size}, {count}, {inside})'
 
+    def foreign_shape(self, count: str) -> str:
+        """What stands inside the entries of a field that is shown by its size."""
+        if not self.foreign:
+            return "NoEntry"
+        inside = f'(pointers_shape 8 (codes "u8") {count} t.{self.name})' if self.kind else "NoEntry"
+        return f'(entries (codes "{self.foreign.name}") (Some {self.bytes}) {count}\n{INDENT}{inside})'
 
-def reason(scope: Scope, kind: Type, parameters: tuple[str, ...]) -> str:
-    """Why the values of a type have no tally, or nothing."""
+    def foreign_many(self, count: str) -> str:
+        """The same, in code."""
+        if not self.foreign:
+            return "()"
+        inside = f'PointersMany(8, "u8", {count}, tally.{self.name})' if self.kind else "()"
+        return f'SizedMany("{self.foreign.name}", Some({self.bytes}), {count}, {inside})'
+
+
+def untallied(scope: Scope, kind: Type, parameters: tuple[str, ...]) -> str:
+    """The type, of one and its parts, whose values have no tally, or nothing."""
     kind = scope.real(kind)
     has_tally = kind.form in ("path", "array", "constant") or (kind.form == "tuple" and len(kind.parts) in (0, 2, 3, 4, 5))
     own = scope.own(kind)
@@ -78,8 +94,8 @@ def reason(scope: Scope, kind: Type, parameters: tuple[str, ...]) -> str:
     elif kind.form == "path" and kind.name not in parameters:
         is_known = scope.is_of_library(kind) and scope.has(kind, "tally") and not split_at_hasher(kind)[1]
         has_tally = is_known or (len(scope.path(kind)) > 1 and not scope.outside(scope.path(kind), ("Tallied",)))
-    whys = (reason(scope, part, parameters) for part in kind.parts)
-    return next(filter(None, whys), "") if has_tally else f"`{kind.text}` has none"
+    held = (untallied(scope, part, parameters) for part in kind.parts)
+    return next(filter(None, held), "") if has_tally else f"`{kind.text}`"
 
 
 def weight(scope: Scope, kind: Type) -> int:
@@ -89,20 +105,23 @@ def weight(scope: Scope, kind: Type) -> int:
 
 
 def reason_of(source: Source, definition: Definition) -> str:
-    """Why a type that is written gets no tally, or nothing."""
+    """Why a type that is written gets no tally, with all fields that stop it, or nothing."""
     types = definition.names("type")
     whys = ["it holds itself"] if definition.name in source.reached(definition.name) else []
     whys += ["it has a lifetime"] if definition.names("lifetime") else []
     whys += ["it has a const parameter"] if definition.names("const") else []
-    whys += [f"the field {each.name} is not shown whole" for each in definition.shown if each.foreign]
-    whys += filter(None, (reason(source.scope, each.type, types) for each in definition.shown if each.is_whole))
+    for variant, each in ((variant, each) for variant in definition.variants for each in variant.members):
+        held = untallied(source.scope, each.type, types) if each.is_whole else ""
+        is_alone = definition.is_enum and not variant.is_entry and each.is_read and not each.is_whole
+        name = f"{variant.name}.{each.name}" if definition.is_enum else each.name
+        whys += [f"the field {name} holds {held or f'a lone `{each.type.text}`'}"] if held or is_alone else []
     entries = sum(each.is_entry for each in definition.variants) if definition.is_enum else 0
     whys += ["it has parameters, and a variant of several fields"] if entries and types else []
     is_long = len(definition.shown) > LARGEST_OPEN and not definition.is_enum
     whys += ["its size depends on a name, and it has more than seven fields"] if is_long and is_open(definition) else []
     weights = (weight(source.scope, each.type) if each.is_whole else 2 for each in definition.shown)
     whys += ["it has too many fields for the checker"] if 2 * entries + sum(weights) > LARGEST_TALLY else []
-    return whys[0] if whys else ""
+    return ", and ".join(whys)
 
 
 def is_open(definition: Definition) -> bool:
@@ -140,7 +159,7 @@ class Tally:
         self.root = Part("", writer.name, writer.name + writer.applied, inside=inside)
         self.flat = [each for part in inside for each in (part, *part.inside)]
         # Those with a field of the tally: a field that is shown by its size alone has none, but a variant counts.
-        self.kept = [each for each in self.flat if each.bytes is None or (self.definition.is_enum and each in inside)]
+        self.kept = [each for each in self.flat if each.kind or each.bytes is None or (self.definition.is_enum and each in inside)]
         self.parameters = [f"S{number + 1}" for number in range(len(self.kinds))]
         # The sizes are numbers, unless a parameter or the length of an array has a name.
         self.room = "(search (rules, holding))" if is_open(self.definition) else "(holds_bytes (omega arith))"
@@ -160,8 +179,9 @@ class Tally:
 
     def field(self, member: Member, key: str, name: str, is_own: bool = False) -> Part:
         """The part of a field. If its type has parameters, what counts it is a parameter of the tally."""
-        if member.size is not None:
-            return Part(self.free(name), key, "", bytes=member.size)
+        if not member.is_whole:
+            size = member.foreign.bytes.size if member.size is None else member.size
+            return Part(self.free(name), key, "", "usize" * member.is_read, bytes=size, foreign=member.foreign)
         kind = f"<{member.type.text} as Tallied>::Tally"
         if any(holds(member.type, each) for each in self.writer.types):
             self.kinds.append(kind)
@@ -198,8 +218,8 @@ class Tally:
             count = value
         head = f'(entries (codes "{part.key}") {part.size} {count}'
         shapes = [self.shape(each, count) for each in part.inside]
-        inside = paired(shapes, f"(Beside {{}}\n{INDENT}{{}})".format, "NoEntry")
-        return f"{head} (⟦<{part.type} as Tallied>⟧.shape {value} {count}))" if part.kind else f"{head}\n{INDENT}{inside})"
+        inside = paired(shapes, f"(Beside {{}}\n{INDENT}{{}})".format, part.foreign_shape(count))
+        return f"{head} (⟦<{part.type} as Tallied>⟧.shape {value} {count}))" if part.type and part.kind else f"{head}\n{INDENT}{inside})"
 
     def tallied(self) -> str:
         writer, kind = self.writer, self.name + in_angles(self.kinds)
@@ -238,17 +258,18 @@ class Tally:
         """The entries of a part of so many values."""
         if part.is_own:
             return f'FieldMany::<{part.type}>("{part.key}", &tally.{part.name}.values, tally.{part.name}.count)'
-        if part.kind:
+        if part.type and part.kind:
             return f'FieldMany::<{part.type}>("{part.key}", &tally.{part.name}, {count})'
-        return part.many(count, paired([names[each] for each in part.inside], "({}, {})".format, "()"))
+        return part.many(count, paired([names[each] for each in part.inside], "({}, {})".format, part.foreign_many(count)))
 
     def together(self, parts: tuple[Part, ...], names: list[str], values: list[str], indent: str) -> str:
         """The lines that count fields and join what each comes to. A field that is shown by its size alone needs none."""
-        lines = "".join(
-            f"{indent}let {name} = Tallied::tally({value}, &mut tally.{part.name});\n"
-            for part, name, value in zip(parts, names, values)
-            if part.kind
-        )
+        lines = ""
+        for part, name, value in zip(parts, names, values):
+            call = f"Tallied::tally({value}, &mut tally.{part.name})"
+            if part.foreign:
+                call = f"count_bytes(&mut tally.{part.name}, {value.removeprefix('&')}.{part.foreign.call})"
+            lines += f"{indent}let {name} = {call};\n" if part.kind else ""
         results = [name if part.kind else "" for part, name in zip(parts, names)]
         return f"{lines}{indent}{chained(joined(results, joined_by_and)) or 'Ok(())'}\n"
 
@@ -272,7 +293,8 @@ class Tally:
     def counted(self) -> list[tuple[str, str]]:
         """The proofs of what is counted, each with the name of its goal."""
         if not self.definition.is_enum:
-            proof, is_sure = fields(self.root.inside, locals_of(self.definition.variants[0]), str)
+            values = [f"c.args.self.now.{part.key}" for part in self.root.inside]
+            proof, is_sure = fields(self.root.inside, locals_of(self.definition.variants[0]), values, str)
             whole = f"whole_counts _ {DECLARED} {self.room}\n    {proof}"
             return [("returns", self.whole("next_whole", proof) if is_sure else whole)]
         found = []
@@ -281,7 +303,7 @@ class Tally:
         for (variant, part), fact in zip(self.arms, self.writer.proofs.facts):
             arm, names = f"-in-{variant.name}" if self.arms[1:] else "", locals_of(variant)
             found += self.counted_arm(part, names, arm, fact, lambda step: step + arm if step in before else step)
-            counted = [f"tally-{name}" for each, name in zip(part.inside, names) if each.kind] if part else []
+            counted = [f"{calls(each)}-{name}" for each, name in zip(part.inside, names) if each.kind] if part else []
             before |= {*counted, *["and"] * (len(counted) > 1), *["count_own"] * bool(part and part.is_own)}
         return found
 
@@ -303,8 +325,9 @@ class Tally:
         added = f"tally{arm}"
         goal = f"returns-in_ok-{added}" if arm else "returns"
         if part.bytes is not None:
-            return [(goal, counted("(fixed_counted _ _ (omega arith))"))]
-        proof, is_sure = fields(part.inside, names, step, arm)
+            return [(goal, counted(f"(next_at (omega arith) {sure(part)})"))]
+        values = [f"c{arm.replace('-', '.', 1)}.{name}" for name in names]
+        proof, is_sure = fields(part.inside, names, values, step, arm)
         declared = f"c.in_ok-declared{arm or '-2'}.ensures"
         case = f"(case_counted {declared} (omega arith)\n    {{}}\n    {self.room})".format
         return [(goal, counted(case(proof)) if is_sure else told(proof, case("told")))]
@@ -312,6 +335,16 @@ class Tally:
     def whole(self, lemma: str, inside: str) -> str:
         """The proof for the entry of a value, from that for what is inside it."""
         return f"{lemma} {DECLARED}\n    {inside}\n    {self.room}"
+
+
+def calls(part: Part) -> str:
+    """The call that counts a field."""
+    return "count_bytes" if part.foreign else "tally"
+
+
+def sure(part: Part) -> str:
+    """The proof for a field that is shown by its size alone."""
+    return "next_foreign" if part.foreign else "next_fixed"
 
 
 def ordinal(at: int) -> str:
@@ -345,9 +378,9 @@ def chained(tree: Any) -> str:
     return tree if isinstance(tree, str) else f"{chained(tree[0])}.and({chained(tree[1])})"
 
 
-def fields(parts: tuple[Part, ...], names: list[str], step: Step, arm: str = "") -> tuple[str, bool]:
-    """The proof for fields, which are counted under these names, and whether they are surely counted. `arm` is what the
-    names of steps have of their arm, if it is one of several.
+def fields(parts: tuple[Part, ...], names: list[str], values: list[str], step: Step, arm: str = "") -> tuple[str, bool]:
+    """The proof for fields of some values, which are counted under these names, and whether they are surely counted. `arm`
+    is what the names of steps have of their arm, if it is one of several.
     """
     # The steps that join results, in the order in which they are taken.
     numbers = count(1)
@@ -361,8 +394,13 @@ def fields(parts: tuple[Part, ...], names: list[str], step: Step, arm: str = "")
             lemma = "sure_second" if is_last_sure else f"both_count c.{joining(step('and'), next(numbers), arm)}.ensures"
         return f"({lemma}\n    {one}\n    {last})", is_first_sure and is_last_sure
 
-    counted = [(f"(field_counts _ _ _ _ _ _ c.{step(f'tally-{name}')}.ensures)", False) for name in names]
-    steps = [each if part.kind else ("next_fixed", True) for part, each in zip(parts, counted)]
+    def counted(part: Part, name: str, value: str) -> tuple[str, bool]:
+        lemma = "field_counts _ _ _ _ _ _"
+        if part.foreign and part.kind:
+            lemma = f"foreign_counts {{m = {part.foreign.length.format(value)}}} (omega arith) (search rules)"
+        return (f"({lemma} c.{step(f'{calls(part)}-{name}')}.ensures)", False) if part.kind else (sure(part), True)
+
+    steps = [*map(counted, parts, names, values)]
     return within(paired(steps, lambda one, last: [one, last], ("next_nothing", True)))
 
 

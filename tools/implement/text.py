@@ -274,10 +274,9 @@ class Writer:
         parts = [self.part(each, each.name, name, f"&self.{each.name}", INDENT) for each, name in zip(self.members, names)]
         words = [] if self.cycle else self.words(self.members, "x")
         inside = f"({self.inside(words)})" if words else self.nothing
-        gap = " " if len(words) > 1 else f"\n{INDENT}"
         if self.cycle or self.is_borrowed:
             self.proofs.of_struct()
-        return self.implementation(self.shown(gap + inside), f"{''.join(parts)}{INDENT}{self.enter(names)}\n")
+        return self.implementation(self.shown(f"\n{INDENT}{inside}"), f"{''.join(parts)}{INDENT}{self.enter(names)}\n")
 
     # ---- enums
     def enumeration(self) -> str:
@@ -307,9 +306,8 @@ class Writer:
         words = self.inside([self.word(*each) for each in self.kept(variant, letters)], " " * 10)
         if variant.is_entry:
             word = "field" if self.cycle else "shows.Field"
-            gap = " " if words.startswith(("both", "shows.Both")) else f"\n{' ' * 10}"
             size = self.variant_size(variant, definition).clause
-            words = f'{word} (codes "{variant.name}") {size}{gap}({words})'
+            words = f'{word} (codes "{variant.name}") {size}\n          ({words})'
         return f"      | {' '.join([case, *letters])} ↦ {words}\n"
 
     def code_arm(self, variant: Variant) -> str:
@@ -330,4 +328,4 @@ class Writer:
 
 def described(layout: Layout) -> str:
     """What an implementation of `Described` has."""
-    return f"    ghost layout = {{ {layout.lines(INDENT)} }};\n\n    fn layout() -> Layout {{\n{INDENT}{layout.code}\n    }}\n"
+    return f"    ghost layout = {{ {layout.clause} }};\n\n    fn layout() -> Layout {{\n{INDENT}{layout.code}\n    }}\n"

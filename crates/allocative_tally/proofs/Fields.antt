@@ -5,7 +5,7 @@ use Rattle.std.specs.Result.{result_and}
 use Rattle.allocative_tally.specs.{ShapeCounts, Shape, NoEntry, Beside}
 use Rattle.allocative_tally.specs.{entries, sum_of, sum_times, TalliesNext, TalliesFields, TalliesOwn}
 use Rattle.allocative_tally.specs.{AddsEntry, IsDeclared, both_bounds, ShownAs, Told}
-use Rattle.allocative_tally.proofs.Counting.{counted_leaf, counted_field, counted_inline, tallies_both, tallies_none}
+use Rattle.allocative_tally.proofs.Counting.{counted_field, counted_inline, tallies_both, tallies_none}
 use Rattle.allocative_tally.proofs.Counting.{tallies_as}
 use Rattle.allocative_tally.proofs.Sizes.{HoldsBound, holds_up, holds_both, holds_first, holds_second, holds_first_of}
 use Rattle.allocative_tally.proofs.Sizes.{holds_second_of, holds_itself, holds_bytes, holds_nothing, holds_grouped}
@@ -52,15 +52,28 @@ nothing_counted = tallies_none refl
 pub next_nothing : TalliesFields (Some 0) Nothing (λ n. NoEntry) (λ n. NoEntry)
 next_nothing = record { next = λ n. nothing_counted }
 
--- An entry of a size that is written, with nothing inside it.
-pub fixed_counted : {k : Key} {z : ℕ} (n m : ℕ) → m ≡ n + 1 →
-    Tallies (Some z) (Inside k z Nothing) (entries k (Some z) n NoEntry) (entries k (Some z) m NoEntry)
-fixed_counted {z = z} n m e = counted_leaf (one_more (Some z) n m refl e)
+-- An entry of a size that is written, with fields inside it.
+pub next_sized : {k : Key} {z : ℕ} {w : Option ℕ} {p : Showing} {s t : ℕ → Shape} → HoldsBound (Some z) w →
+    TalliesFields w p s t →
+    TalliesFields (Some z) (Inside k z p) (λ n. entries k (Some z) n (s n)) (λ n. entries k (Some z) n (t n))
+next_sized {z = z} holds f =
+    record { next = λ n. counted_inline (one_more (Some z) n (n + 1) refl refl) (f.next n) holds }
 
 -- A field of a size that is written.
 pub next_fixed : {k : Key} {z : ℕ} → TalliesFields (Some z) (Inside k z Nothing) (λ n. entries k (Some z) n NoEntry)
     (λ n. entries k (Some z) n NoEntry)
-next_fixed = record { next = λ n. fixed_counted n (n + 1) refl }
+next_fixed = next_sized (holds_nothing _) next_nothing
+
+-- A field of a size that is written, with an entry of the name of its type.
+pub next_foreign : {k name : Key} {z : ℕ} → TalliesFields (Some z) (Inside k z (Inside name z Nothing))
+    (λ n. entries k (Some z) n (entries name (Some z) n NoEntry))
+    (λ n. entries k (Some z) n (entries name (Some z) n NoEntry))
+next_foreign = next_sized holds_itself next_fixed
+
+-- Fields of a number of values, which has become one more.
+pub next_at : {w : Option ℕ} {p : Showing} {n m : ℕ} {s t : ℕ → Shape} → m ≡ n + 1 → TalliesFields w p s t →
+    Tallies w p (s n) (t m)
+next_at {n = n} more f = rw more (f.next n)
 
 -- A value is its own entry with its fields inside it.
 pub next_whole : {size w : Option ℕ} {k : Key} {p : Showing} {s t : ℕ → Shape} → IsDeclared size →

@@ -6,14 +6,14 @@ use Rattle.std.{proofs.lemmas.Iterator.YieldsList, proofs.lemmas.Iterator.items_
 use Rattle.std.{proofs.lemmas.Nat.mul-le, specs.Result.result_and, proofs.lemmas.Bool.Decides.nat_tests}
 use Rattle.allocative_described.specs.Sizes.{checked, size_product, IsRawTableSize, size_sum}
 use Rattle.allocative_graph.{specs.Owned.direct, proofs.Owned.direct-following}
-use Rattle.allocative.proofs.Common.{Key, Showing, Inside, InsideAs, Field, buffer_shows, Forest, Both}
+use Rattle.allocative.proofs.Common.{Key, Showing, Nothing, Inside, InsideAs, Field, buffer_shows, Forest, Both}
 use Rattle.allocative.proofs.Common.{sized, each_shows, table_shows, Refusal, Entered, slice_shows}
 use Rattle.allocative.specs.Bodies.{text_shows, are_shown_each, bytes_shown}
 use Rattle.allocative.{proofs.ContainerMeaning.checked_fits, specs.Runs.field_of}
-use Rattle.allocative.{specs.Runs.pair_shows, specs.PackShows.index_data_shows, specs.declared.visitor.Visitor.Visitor}
-use Rattle.allocative_tally.proofs.Shown.{text_as, each_in, cut_as, buffer_as, index_data_as, table_as, each_as}
+use Rattle.allocative.{specs.Runs.pair_shows, specs.declared.visitor.Visitor.Visitor}
+use Rattle.allocative_tally.proofs.Shown.{text_as, each_in, cut_as, buffer_as, table_as, each_as}
 use Rattle.allocative_tally.specs.{Shape, Wide, NoEntry, Beside, EntryAt, forest_of, sum_of, sum_times, entries}
-use Rattle.allocative_tally.specs.{bytes_times, top_bytes, items_shape, buffer_shape, unused_shape, pairs_shape}
+use Rattle.allocative_tally.specs.{bytes_times, top_bytes, pointers_shape, slices_shape, AddsBytes, items_shape, buffer_shape, bytes_shape, pairs_shape}
 use Rattle.allocative_tally.specs.{table_shape, shape_shows, IsNothing, ShownAs, TalliesNext, size_times}
 use Rattle.allocative_tally.specs.{AddsPlaces, buffer_of, in_slices, TalliesMany, FitsWord, IsWithin}
 use Rattle.allocative_tally.specs.{both_bounds, TalliesFields, AddsItems, AreFields, HoldsOfEveryRun, IsWhole, Width}
@@ -22,10 +22,11 @@ use Rattle.allocative_tally.specs.{starts_sum, no_bytes}
 use Rattle.allocative_tally.proofs.Counting.{counted_field, counted_inline, counted_unique, counted_leaf, tallies_both}
 use Rattle.allocative_tally.proofs.Counting.{tallies_as, tallies_then, tallies_none, entry_direct, shape_direct}
 use Rattle.allocative_tally.proofs.Counting.{tallies_to, tallies_entry}
-use Rattle.allocative_tally.proofs.Sizes.{holds_bytes, room_checked, HoldsBound}
-use Rattle.allocative_tally.proofs.Fields.{adds_of, one_more, and_told, shown_counts, told_then}
+use Rattle.allocative_tally.proofs.Sizes.{holds_bytes, holds_itself, room_checked, HoldsBound}
+use Rattle.allocative_tally.proofs.Fields.{adds_of, one_more, and_told, shown_counts, told_by, told_then, next_sized}
+use Rattle.allocative_tally.proofs.Fields.{FieldsCount}
 use Rattle.allocative_tally.proofs.Entering.{entered_counted, counts}
-use Rattle.allocative_tally.specs.{Tallies.Tallies, declared.places.Places.Places}
+use Rattle.allocative_tally.specs.{Tallies.Tallies, declared.places.Places.Places, declared.tally.CountError.CountError}
 
 -- ---- texts
 -- A text is five entries.
@@ -41,12 +42,38 @@ text_counted {l} {c} {a} {b} {u} {a'} {b'} {u'} room capacity used unused fits =
       (counted_leaf {k = codes "unused_capacity"} (adds_of n (n + 1) refl unused)))
       (holds_bytes (omega (arith, room))) in
       let before = entry_direct Wide (codes "capacity") (sum_of n a)
-      (Beside (EntryAt Wide (codes "u8") (sum_of n b) NoEntry) (unused_shape n u)) in
+      (Beside (bytes_shape (codes "u8") n b) (bytes_shape (codes "unused_capacity") n u)) in
       let pointer = counted_unique {k = codes "ptr"} (one_more (Some 8) n (n + 1) refl refl) inside
       (λ r. omega (arith, before, inside.within, capacity, fits)) in
       counted_field refl (counted_inline (one_more (Some 24) n (n + 1) refl refl) (tallies_as text_as pointer)
       (holds_bytes (omega arith)));
 }
+
+-- A pointer to bytes is a unique entry with these inside it.
+pub bytes_counted : {p l a b : ℕ} {k : Key} (n : ℕ) → AddsBytes l a b →
+    Tallies (Some p) (InsideAs true (codes "ptr") p (Inside k l Nothing)) (pointers_shape p k n a)
+    (pointers_shape p k (n + 1) b)
+bytes_counted {p} {l} {a} {k = k} n more =
+    let bytes = counted_leaf {k = k} (adds_of n (n + 1) refl more.all) in
+    let before = entry_direct Wide k (sum_of n a) NoEntry in
+    counted_unique (one_more (Some p) n (n + 1) refl refl) bytes
+    (λ r. omega (arith, before, bytes.within, more.all, more.fits))
+
+-- Bytes behind a pointer are counted, if they were added.
+pub bytes_counts : {p l m a b : ℕ} {k : Key} {r : Result (Unit {0}) CountError} → l ≡ m → OnOk r (AddsBytes l a b) →
+    FieldsCount (Some p) (InsideAs true (codes "ptr") p (Inside k m Nothing)) (λ n. pointers_shape p k n a)
+    (λ n. pointers_shape p k n b) r
+bytes_counts same told =
+    rw (← same) (told_then (told_by _ told) (λ more. record { next = λ n. bytes_counted n more }))
+
+-- A field of bytes behind a pointer is its entry, that of its type, and the pointer with the bytes.
+pub foreign_counts : {k name : Key} {z l m a b : ℕ} {r : Result (Unit {0}) CountError} → 8 ≤ z → l ≡ m →
+    OnOk r (AddsBytes l a b) → FieldsCount (Some z)
+    (Inside k z (Inside name z (InsideAs true (codes "ptr") 8 (Inside (codes "u8") m Nothing))))
+    (λ n. entries k (Some z) n (entries name (Some z) n (pointers_shape 8 (codes "u8") n a)))
+    (λ n. entries k (Some z) n (entries name (Some z) n (pointers_shape 8 (codes "u8") n b))) r
+foreign_counts fits same told =
+    told_then (bytes_counts same told) (λ f. next_sized holds_itself (next_sized (holds_bytes fits) f))
 
 -- ---- containers
 -- A container is counted as its own entry of n bytes, with what it shows inside it.
@@ -91,21 +118,22 @@ entry_counts x {k} {old} {new} {size = Some z} {l = l} e within fits run added =
 
 -- A buffer with unused places is counted with its items, which were counted, if it was added. The items have at most
 -- their bytes at the top.
-pub places_added : {X E : Type 0} (k : Key) {old new : Places} {z y l u : ℕ} {p : Showing} {s : Shape}
+pub places_added : {X E : Type 0} (k other : Key) {old new : Places} {z y l u : ℕ} {p : Showing} {s : Shape}
     (t : ℕ → ℕ → Shape) {r : Result X E} → direct (forest_of s) ≤ z * old.items →
     Tallies (Some (z * l)) p s (t (old.buffers + 1) (old.items + l)) →
     Told r (AddsPlaces (Some z) (Some y) l u old new) →
-    ShapeCounts (Some 8) (InsideAs true k 8 (Both p (bytes_shown (codes "unused_capacity") (Some y) u)))
-    (buffer_shape k old.buffers s old.unused) (buffer_shape k new.buffers (t new.buffers new.items) new.unused) r
-places_added k {old} {new} {z} {y} {l} {u} {s = s} t top items added = told_then added (λ a.
+    ShapeCounts (Some 8) (InsideAs true k 8 (Both p (bytes_shown other (Some y) u)))
+    (buffer_shape k other old.buffers s old.unused)
+    (buffer_shape k other new.buffers (t new.buffers new.items) new.unused) r
+places_added k other {old} {new} {z} {y} {l} {u} {s = s} t top items added = told_then added (λ a.
     let spare = fits_some a.spare_room in
     let bytes = checked_fits (y * u) spare in
-    let left = counted_field {k = codes "unused_capacity"} bytes (counted_leaf
+    let left = counted_field {k = other} bytes (counted_leaf
     (adds_of old.buffers new.buffers a.adds.buffers (omega (arith, a.unused, spare)))) in
     let inside = tallies_both (rw (← a.adds.buffers, ← a.adds.items) at items) left in
     let within : direct inside.counted ≤ z * l + y * u = grind (arith, inside.within, bytes) in
-    let before = direct-following (forest_of s) (forest_of (unused_shape old.buffers old.unused)) in
-    let unused = entry_direct Wide (codes "unused_capacity") (sum_of old.buffers old.unused) NoEntry in
+    let before = direct-following (forest_of s) (forest_of (bytes_shape other old.buffers old.unused)) in
+    let unused = entry_direct Wide other (sum_of old.buffers old.unused) NoEntry in
     counted_unique {k = k} (one_more (Some 8) old.buffers new.buffers refl a.adds.buffers) inside (λ r. omega
     (arith, before, unused, within, top, spare, a.unused, a.room, fits_some a.adds.room, items_all z a.adds)))
 
@@ -121,6 +149,12 @@ one_in true name z needs_drop p xs n is adds =
     tallies_to (holds_bytes {m = z * length xs + z * 0} (omega arith)) (cut_as name z needs_drop p xs is)
     (tallies_then (counted_leaf adds)
     (counted_leaf {n = z * 0} (record { is_there = grind arith; bytes = λ room. omega arith })))
+
+-- One more slice of items has more bytes.
+adds_slice : (n z i l : ℕ) → AddsEntry (z * l) (sum_of n (bytes_times (Some z) i))
+    (sum_of (n + 1) (bytes_times (Some z) (i + l)))
+adds_slice n z i l =
+    let all = mul-add z i l in record { is_there = grind arith; bytes = λ room. omega (arith, room, all) }
 
 -- One more slice of items is counted, after n slices of i items: each item, or one entry of all bytes.
 pub record SliceCounts {T E : Type 0} (cut : Bool) (name : Key) (z : ℕ) (needs_drop : Bool) (p : T → Showing)
@@ -148,11 +182,7 @@ pub slice_one : {T E : Type 0} (cut : Bool) {name : Key} {z : ℕ} {needs_drop :
     {s : ℕ → Shape} {n i : ℕ} → are_shown_each needs_drop (Some z) ≡ false →
     SliceCounts {E = E} cut name z needs_drop p xs s s n i (Ok tt)
 slice_one cut {name} {z} {needs_drop} {p} {xs} {n = n} {i} is =
-    let all = mul-add z i (length xs) in
-    let bytes = bytes_times (Some z) in
-    let adds : AddsEntry (z * length xs) (sum_of n (bytes i)) (sum_of (n + 1) (bytes (i + length xs))) =
-    record { is_there = grind arith; bytes = λ room. omega (arith, room, all) } in
-    record { slice = rw is (record { told = one_in cut name z needs_drop p xs n is adds }) }
+    record { slice = rw is (record { told = one_in cut name z needs_drop p xs n is (adds_slice n z i (length xs)) }) }
 
 -- ---- buffers
 -- A buffer is counted with its items, if they were counted and added.
@@ -168,7 +198,7 @@ buffer_counts cut {z} {old = old} {name = name} {needs_drop} {xs = xs} {g} {u} {
     let items = λ (b : Bool) (n m : ℕ) (s : Shape). items_shape b name n (bytes_times (Some z) m) s in
     let each = are_shown_each needs_drop (Some z) in
     shown_counts (buffer_as refl some room) (and_told e slice.slice
-    (λ c. places_added (codes "ptr") (λ n m. items each n m (g v m))
+    (λ c. places_added (codes "ptr") (codes "unused_capacity") (λ n m. items each n m (g v m))
     (elim each as (λ b. direct (forest_of (items b old.buffers i (g u i))) ≤ z * i) [
       | true ↦ omega (arith, shape_direct (g u i), whole.most u i)
       | false ↦ omega (arith, entry_direct Wide name (sum_of old.buffers (bytes_times (Some z) i)) NoEntry)
@@ -286,6 +316,48 @@ pub fields_within : {A S : Type 0} {size : Option ℕ} {p : A → Showing} {s : 
     AreFields size p s → AreWithin size (s u)
 fields_within u a = record { most = a.most u }
 
+-- A buffer of fields is counted with them and its other places, if they were counted and it was added.
+pub fields_counts : {A S E : Type 0} {item size : Option ℕ} {u : ℕ} {p : A → Showing} (k other : Key) (xs : List A)
+    {g : S → ℕ → Shape} {v v' : S} {old new : Places} {a b r : Result (Unit {0}) E} → r ≡ result_and a b →
+    AreFields item p g → Told a (TalliesMany item (length xs) (each_shows p xs) (g v) (g v')) →
+    Told b (AddsPlaces item size (length xs) u old new) →
+    ShapeCounts (Some 8) (InsideAs true k 8 (Both (each_shows p xs) (bytes_shown other size u)))
+    (buffer_shape k other old.buffers (g v old.items) old.unused)
+    (buffer_shape k other new.buffers (g v' new.items) new.unused) r
+fields_counts {size = None} k other xs e fields run added =
+    and_told e run (λ _. told_then added (λ a. let missing = a.spare_room.sized in absurd (cc)))
+fields_counts {item = None} {size = Some y} k other xs e fields run added =
+    and_told e run (λ _. told_then added (λ a. let missing = a.adds.room.sized in absurd (cc)))
+fields_counts {item = Some z} {size = Some y} k other xs {g} {v} {v'} {old} e fields run added =
+    let i = old.items in
+    let j = i + length xs in
+    and_told e run
+    (λ items. places_added k other (λ _ m. g v' m) (fields.most v z i refl) (items.next i j refl) added)
+
+-- A slice in a box is counted with its fields, if they were counted and added.
+pub boxed_counts : {A S E : Type 0} {size : Option ℕ} {p : A → Showing} {name : Key} (xs : List A) {g : S → ℕ → Shape}
+    {v v' : S} {old new : Places} {a b r : Result (Unit {0}) E} → r ≡ result_and a b → AreFields size p g →
+    Told a (TalliesMany size (length xs) (each_shows p xs) (g v) (g v')) → Told b (AddsItems size (length xs) old new) →
+    ShapeCounts (Some 16)
+    (InsideAs true (codes "ptr") 16 (Field name (size_product size (Some (length xs))) (each_shows p xs)))
+    (slices_shape name size old.buffers old.items (g v old.items))
+    (slices_shape name size new.buffers new.items (g v' new.items)) r
+boxed_counts {size = None} xs e fields run added =
+    and_told e run (λ y. told_then added (λ a. let none = a.room.sized in absurd (cc)))
+boxed_counts {size = Some z} {name = name} xs {g} {v} {v'} {old} {new} e fields run added = and_told e run
+    (λ items. told_then added (λ a.
+    let i = old.items in
+    let l = length xs in
+    let all = rw (← a.buffers, ← a.items) at (adds_slice old.buffers z i l) in
+    let room = fits_some a.room in
+    let inside = items.next i new.items a.items in
+    let bytes = checked_fits (z * l) (omega (arith, room, items_all z a)) in
+    let slice = counted_field {k = name} bytes (counted_inline all inside (holds_bytes (le_refl _))) in
+    let within : direct slice.counted ≤ z * l = subst (IsWithin (direct slice.counted)) bytes slice.within in
+    let before = entry_direct Wide name (sum_of old.buffers (bytes_times (Some z) i)) (g v i) in
+    counted_unique (one_more (Some 16) old.buffers new.buffers refl a.buffers) slice
+    (λ r. omega (arith, before, within, room, items_all z a))))
+
 -- ---- the entry `data`
 -- No item shows nothing.
 pub none_counted : {T : Type 0} (p : T → Showing) (xs : List T) {s : Shape} → 0 ≡ length xs →
@@ -304,24 +376,6 @@ table_counted a a' c c' {b = b} {bytes} some is size more buckets fits =
     let within : direct inside.counted ≤ b = subst (IsWithin (direct inside.counted)) size inside.within in
     tallies_as (table_as some is) (counted_unique (one_more (Some 8) a a' refl more) inside
     (λ r. omega (arith, before, within, buckets, fits)))
-
--- The buffer of a container in the order of insertion is counted, if its items were counted and added.
-pub index_counts : {A S E : Type 0} {item size : Option ℕ} {u : ℕ} {p : A → Showing} (xs : List A) {g : S → ℕ → Shape}
-    {v v' : S} {old new : Places} {a b r : Result (Unit {0}) E} → r ≡ result_and a b → AreFields item p g →
-    Told a (TalliesMany item (length xs) (each_shows p xs) (g v) (g v')) →
-    Told b (AddsPlaces item size (length xs) u old new) →
-    ShapeCounts (Some 8) (index_data_shows size (each_shows p xs) u)
-    (buffer_shape (codes "data") old.buffers (g v old.items) old.unused)
-    (buffer_shape (codes "data") new.buffers (g v' new.items) new.unused) r
-index_counts {size = None} xs e fields run added =
-    and_told e run (λ _. told_then added (λ a. let missing = a.spare_room.sized in absurd (cc)))
-index_counts {item = None} {size = Some y} xs e fields run added =
-    and_told e run (λ _. told_then added (λ a. let missing = a.adds.room.sized in absurd (cc)))
-index_counts {item = Some z} {size = Some y} xs {g} {v} {v'} {old} e fields run added =
-    let i = old.items in
-    let j = i + length xs in
-    shown_counts index_data_as (and_told e run
-    (λ items. places_added (codes "data") (λ _ m. g v' m) (fields.most v z i refl) (items.next i j refl) added))
 
 -- ---- what is entered
 -- The fields of no pairs.

@@ -120,29 +120,39 @@ data_shape t s =
     (EntryAt Narrow (codes "data") (sum_times (Some 8) t.large.places.buffers)
     (s t.large.values t.large.places.items))
 
+-- So many inline entries with some bytes together, and nothing inside them.
+abbrev pub bytes_shape : Key → ℕ → ℕ → Shape
+bytes_shape k n bytes = EntryAt Wide k (sum_of n bytes) NoEntry
+
 -- The items of so many slices: what they show, or one entry of their bytes.
 abbrev pub items_shape : Bool → Key → ℕ → ℕ → Shape → Shape
 items_shape true name n bytes s = s
-items_shape false name n bytes s = EntryAt Wide name (sum_of n bytes) NoEntry
+items_shape false name n bytes s = bytes_shape name n bytes
 
--- The unused places of so many buffers, with some bytes together.
-abbrev pub unused_shape : ℕ → ℕ → Shape
-unused_shape n bytes = EntryAt Wide (codes "unused_capacity") (sum_of n bytes) NoEntry
+-- So many pointers of a size, with entries under a key inside them, which have some bytes together.
+abbrev pub pointers_shape : ℕ → Key → ℕ → ℕ → Shape
+pointers_shape size k n bytes = EntryAt Unique (codes "ptr") (sum_times (Some size) n) (bytes_shape k n bytes)
 
 -- So many texts, with buffers of some bytes together, of which so many are used and unused.
 abbrev pub text_shape : ℕ → ℕ → ℕ → ℕ → Shape
 text_shape n capacity used unused = EntryAt Unique (codes "ptr") (sum_times (Some 8) n)
     (EntryAt Wide (codes "capacity") (sum_of n capacity)
-    (Beside (EntryAt Wide (codes "u8") (sum_of n used) NoEntry) (unused_shape n unused)))
+    (Beside (bytes_shape (codes "u8") n used) (bytes_shape (codes "unused_capacity") n unused)))
 
--- So many buffers under a key, with their items inside them, and unused places of some bytes together.
-abbrev pub buffer_shape : Key → ℕ → Shape → ℕ → Shape
-buffer_shape k n items unused = EntryAt Unique k (sum_times (Some 8) n) (Beside items (unused_shape n unused))
+-- So many buffers under a key, with their items inside them, and entries under another key, of some bytes together.
+abbrev pub buffer_shape : Key → Key → ℕ → Shape → ℕ → Shape
+buffer_shape k other n items bytes =
+    EntryAt Unique k (sum_times (Some 8) n) (Beside items (bytes_shape other n bytes))
+
+-- So many pointers of 16 bytes to slices of so many items, with an entry of their bytes for each slice, and inside that
+-- the items.
+abbrev pub slices_shape : Key → Option ℕ → ℕ → ℕ → Shape → Shape
+slices_shape name size n count items = EntryAt Unique (codes "ptr") (sum_times (Some 16) n)
+    (EntryAt Wide name (sum_of n (bytes_times size count)) items)
 
 -- So many hash tables, with buckets of some bytes together.
 abbrev pub table_shape : ℕ → ℕ → Shape
-table_shape n bytes = EntryAt Unique (codes "raw_table") (sum_times (Some 8) n)
-    (EntryAt Wide (codes "alloc") (sum_of n bytes) NoEntry)
+table_shape n bytes = EntryAt Unique (codes "raw_table") (sum_times (Some 8) n) (bytes_shape (codes "alloc") n bytes)
 
 -- The bytes of a shape's sums at its top.
 abbrev pub top_bytes : Shape → ℕ

@@ -94,13 +94,18 @@ pub record AddsEntry (n : ℕ) (old new : Sum) : Type 0 where
   pub is_there : is_there new ≡ true
   pub bytes : old.bytes + n < 2 ^ 64 → new.bytes ≡ old.bytes + n
 
+-- So many bytes more were added to a number, and all fit a word.
+pub record AddsBytes (more old new : ℕ) : Type 0 where
+  pub all : new ≡ old + more
+  pub fits : new < 2 ^ 64
+
 -- The shape was entered, exactly.
 pub record EntersShape (s : Shape) (old new : Visitor) (r : Result (Unit {0}) Refusal) : Type 0 where
   pub entered : Entered true (shape_shows s) old new r
 
 -- Buffers of items of a declared name and size, by what so many items show.
 abbrev pub buffer_of : Key → Option ℕ → Bool → Places → (ℕ → Shape) → Shape
-buffer_of name size needs_drop places s = buffer_shape (codes "ptr") places.buffers
+buffer_of name size needs_drop places s = buffer_shape (codes "ptr") (codes "unused_capacity") places.buffers
     (items_shape (are_shown_each needs_drop size) name places.buffers (bytes_times size places.items) (s places.items))
     places.unused
 

@@ -1,11 +1,11 @@
 //! Entries of declared sizes, and values with a number of their own.
 
 ghost use Rattle.std.specs.Prelude.{◌≡◌, OnOk};
-ghost use Rattle.allocative_tally.specs.{entries, TalliesOwn};
+ghost use Rattle.allocative_tally.specs.{entries, pointers_shape, TalliesOwn};
 ghost use Rattle.allocative.specs.Shows as shows;
 
 use crate::counted::Counted;
-use crate::tally::{CountError, Entries, InlineSum, Sum, Tallied, added};
+use crate::tally::{CountError, Entries, InlineSum, Sum, Tallied, UniqueSum, added};
 use allocative::{Declared, IntoKey, Part, Refusal, Visitor};
 
 /// What so many values show, by their tally.
@@ -42,6 +42,19 @@ impl<K: IntoKey, P: Entries> Entries for SizedMany<K, P> {
 
     fn enter(self, visitor: &mut Visitor<'_>) -> Result<(), Refusal> {
         InlineSum(self.0, Sum::times(self.1, self.2), self.3).enter(visitor)
+    }
+}
+
+/// Pointers of a size, so many, with entries under a key inside them, which have some bytes together.
+#[derive(Drop)]
+pub struct PointersMany(pub usize, pub &'static str, pub usize, pub usize);
+
+impl Entries for PointersMany {
+    ghost shape = { λ e. pointers_shape e.0 (⟦<&'static str as IntoKey>⟧.key e.1) e.2 e.3 };
+
+    fn enter(self, visitor: &mut Visitor<'_>) -> Result<(), Refusal> {
+        let bytes = InlineSum(self.1, Sum::of(self.2, self.3), ());
+        UniqueSum("ptr", Sum::times(Some(self.0), self.2), bytes).enter(visitor)
     }
 }
 

@@ -1,4 +1,4 @@
-//! `IndexMap`, `IndexSet`, `SmallVec` and `Slab`.
+//! `IndexMap`, `IndexSet`, `LruCache`, `SmallVec` and `Slab`.
 
 ghost use Rattle.std.specs.Prelude.{codes, Some};
 ghost use Rattle.allocative.specs.Bodies.{table_shows};
@@ -8,74 +8,79 @@ ghost use Rattle.allocative_tally.specs.{pairs_shape, table_shape, ShapeCounts, 
 use crate::counted::{FieldUnder, KeyAndValue, count_run};
 use crate::field::{FieldMany, OwnTally, SizedMany};
 use crate::map::{PairsMany, pair_size};
-use crate::places::Buffers;
+use crate::places::{Buffers, PlacesMany};
 use crate::sequence::{BuffersMany, count_buffer};
 use crate::tally::{CountError, Entries, InlineSum, Sum, Tallied, UniqueSum, added, declared};
 use allocative::{Described, Refusal, Visitor, raw_table_alloc_size_for_len};
 use indexmap::{IndexMap, IndexSet};
+use lru::LruCache;
 use slab::Slab;
 use smallvec::SmallVec;
 use std::hash::Hash;
 
-/// Containers in the order of insertion, counted: their items, how many hash tables there are, and the bytes of their
-/// buckets.
-#[derive(Default, Drop)]
-pub struct IndexTally<S> {
-    items: Buffers<S>,
-    tables: usize,
+/// Hash tables, counted: how many there are, and the bytes of their buckets.
+#[derive(Clone, Copy, Default)]
+pub(crate) struct Tables {
+    count: usize,
     buckets: usize,
 }
 
-/// What containers in the order of insertion show inside their entries: by their tally, and the entries of their items.
-#[derive(Drop)]
-struct IndexMany<'a, S, P>(&'a IndexTally<S>, P);
-
-impl<'a, S, P: Entries> Entries for IndexMany<'a, S, P> {
-    ghost shape = { λ e. Beside (buffer_shape (codes "data") e.0.now.items.places.buffers (P.shape e.1)
-        e.0.now.items.places.unused) (table_shape e.0.now.tables e.0.now.buckets) };
-
-    fn enter(self, visitor: &mut Visitor<'_>) -> Result<(), Refusal> {
-        let places = self.0.items.places;
-        let unused = Sum::of(places.buffers, places.unused);
-        let inside = (self.1, InlineSum("unused_capacity", unused, ()));
-        let data = UniqueSum("data", Sum::times(Some(8), places.buffers), inside);
-        let buckets = InlineSum("alloc", Sum::of(self.0.tables, self.0.buckets), ());
-        let table = UniqueSum("raw_table", Sum::times(Some(8), self.0.tables), buckets);
-        (data, table).enter(visitor)
+impl Tables {
+    // Counts the hash table of so many items. It returns `Err` as `Tallied::tally` does.
+    fn add(&mut self, items: usize) -> Result<(), CountError>
+        ensures { ShapeCounts (Some 8) (table_shows items)
+            (table_shape self.old.count self.old.buckets) (table_shape self.new.count self.new.buckets) result }
+    {
+        if items == 0 {
+            return Ok(());
+        }
+        let Some(bytes) = raw_table_alloc_size_for_len::<u64>(items) else {
+            return Err(CountError);
+        };
+        self.count = added(self.count, 1)?;
+        self.buckets = added(self.buckets, bytes)?;
+        Ok(())
     }
 }
 
-// Counts the hash table of `count` items. It returns `Err` as `Tallied::tally` does.
-fn count_table(count: usize, tables: &mut usize, buckets: &mut usize) -> Result<(), CountError>
-    ensures { ShapeCounts (Some 8) (table_shows count)
-        (table_shape tables.old buckets.old) (table_shape tables.new buckets.new) result }
-{
-    if count == 0 {
-        return Ok(());
+impl Entries for Tables {
+    ghost shape = { λ e. table_shape e.count e.buckets };
+
+    fn enter(self, visitor: &mut Visitor<'_>) -> Result<(), Refusal> {
+        let buckets = InlineSum("alloc", Sum::of(self.count, self.buckets), ());
+        UniqueSum("raw_table", Sum::times(Some(8), self.count), buckets).enter(visitor)
     }
-    let Some(bytes) = raw_table_alloc_size_for_len::<u64>(count) else {
-        return Err(CountError);
-    };
-    *tables = added(*tables, 1)?;
-    *buckets = added(*buckets, bytes)?;
-    Ok(())
+}
+
+/// Containers with a hash table beside their items, counted.
+#[derive(Default, Drop)]
+pub struct TableTally<S> {
+    items: Buffers<S>,
+    tables: Tables,
 }
 
 impl<K: Tallied + Eq + Hash, V: Tallied> Tallied for IndexMap<K, V> {
-    type Tally = IndexTally<(K::Tally, V::Tally)>;
+    type Tally = TableTally<(K::Tally, V::Tally)>;
 
-    ghost shape = { λ t n. entries (codes "IndexMap") (Some 72) n (Beside (buffer_shape (codes "data") t.items.places.buffers
+    ghost shape = { λ t n. entries (codes "IndexMap") (Some 72) n (Beside (buffer_shape (codes "data")
+        (codes "unused_capacity") t.items.places.buffers
         (pairs_shape K.layout.size V.layout.size (K.shape t.items.values.0) (V.shape t.items.values.1)
         t.items.places.items)
         t.items.places.unused)
-        (table_shape t.tables t.buckets)) };
+        (table_shape t.tables.count t.tables.buckets)) };
 
     ghost whole = { is_whole (Prim.search starting) };
 
     fn show(tally: &Self::Tally, count: usize, visitor: &mut Visitor<'_>) -> Result<(), Refusal> {
         let items = PairsMany::<K, V>(&tally.items.values, tally.items.places.items);
-        let inside = IndexMany(tally, items);
-        SizedMany("IndexMap", <IndexMap<K, V>>::size(), count, inside).enter(visitor)
+        let data = PlacesMany("data", "unused_capacity", tally.items.places, items);
+        SizedMany(
+            "IndexMap",
+            <IndexMap<K, V>>::size(),
+            count,
+            (data, tally.tables),
+        )
+        .enter(visitor)
     }
 
     fn tally(&self, tally: &mut Self::Tally) -> Result<(), CountError> {
@@ -84,24 +89,31 @@ impl<K: Tallied + Eq + Hash, V: Tallied> Tallied for IndexMap<K, V> {
         let sizes = (pair_size::<K, V>(), <(K, V)>::size());
         let run = count_run(KeyAndValue, self.iter(), &mut tally.items.values);
         let data = run.and(tally.items.places.add(sizes, count, unused));
-        data.and(count_table(count, &mut tally.tables, &mut tally.buckets))
+        data.and(tally.tables.add(count))
     }
 }
 
 impl<T: Tallied + Eq + Hash> Tallied for IndexSet<T> {
-    type Tally = IndexTally<T::Tally>;
+    type Tally = TableTally<T::Tally>;
 
-    ghost shape = { λ t n. entries (codes "IndexSet") (Some 72) n (Beside (buffer_shape (codes "data") t.items.places.buffers
+    ghost shape = { λ t n. entries (codes "IndexSet") (Some 72) n (Beside (buffer_shape (codes "data")
+        (codes "unused_capacity") t.items.places.buffers
         (entries (codes "value") T.layout.size t.items.places.items (T.shape t.items.values t.items.places.items))
         t.items.places.unused)
-        (table_shape t.tables t.buckets)) };
+        (table_shape t.tables.count t.tables.buckets)) };
 
     ghost whole = { is_whole (Prim.search starting) };
 
     fn show(tally: &Self::Tally, count: usize, visitor: &mut Visitor<'_>) -> Result<(), Refusal> {
         let items = FieldMany::<T>("value", &tally.items.values, tally.items.places.items);
-        let inside = IndexMany(tally, items);
-        SizedMany("IndexSet", <IndexSet<T>>::size(), count, inside).enter(visitor)
+        let data = PlacesMany("data", "unused_capacity", tally.items.places, items);
+        SizedMany(
+            "IndexSet",
+            <IndexSet<T>>::size(),
+            count,
+            (data, tally.tables),
+        )
+        .enter(visitor)
     }
 
     fn tally(&self, tally: &mut Self::Tally) -> Result<(), CountError> {
@@ -110,7 +122,34 @@ impl<T: Tallied + Eq + Hash> Tallied for IndexSet<T> {
         let sizes = (T::size(), T::size());
         let run = count_run(FieldUnder("value"), self.iter(), &mut tally.items.values);
         let data = run.and(tally.items.places.add(sizes, count, unused));
-        data.and(count_table(count, &mut tally.tables, &mut tally.buckets))
+        data.and(tally.tables.add(count))
+    }
+}
+
+impl<K: Tallied + Eq + Hash, V: Tallied> Tallied for LruCache<K, V> {
+    type Tally = TableTally<(K::Tally, V::Tally)>;
+
+    ghost shape = { λ t n. entries (codes "LruCache") (Some 72) n (Beside
+        (EntryAt unique_width (codes "ptr") (sum_times (Some 8) t.items.places.buffers)
+        (pairs_shape K.layout.size V.layout.size (K.shape t.items.values.0) (V.shape t.items.values.1)
+        t.items.places.items))
+        (table_shape t.tables.count t.tables.buckets)) };
+
+    ghost whole = { is_whole (Prim.search starting) };
+
+    fn show(tally: &Self::Tally, count: usize, visitor: &mut Visitor<'_>) -> Result<(), Refusal> {
+        let places = tally.items.places;
+        let items = PairsMany::<K, V>(&tally.items.values, places.items);
+        let pointer = UniqueSum("ptr", Sum::times(Some(8), places.buffers), items);
+        let inside = (pointer, tally.tables);
+        SizedMany("LruCache", <LruCache<K, V>>::size(), count, inside).enter(visitor)
+    }
+
+    fn tally(&self, tally: &mut Self::Tally) -> Result<(), CountError> {
+        let count = self.len();
+        let run = count_run(KeyAndValue, self.iter(), &mut tally.items.values);
+        let pairs = run.and(tally.items.places.add_full(pair_size::<K, V>(), count));
+        pairs.and(tally.tables.add(count))
     }
 }
 
@@ -137,8 +176,8 @@ impl<T: Tallied, const N: usize> Tallied for SmallVec<T, N> {
         let in_place = FieldMany::<T>("data", &tally.in_place.values, tally.in_place.count);
         let spilled = FieldMany::<T>("data", &tally.spilled.values, places.items);
         let pointer = UniqueSum("ptr", Sum::times(Some(8), places.buffers), spilled);
-        let size = Sum::times(<SmallVec<T, N>>::layout().size(), count);
-        InlineSum("SmallVec", size, (in_place, pointer)).enter(visitor)
+        let inside = (in_place, pointer);
+        SizedMany("SmallVec", <SmallVec<T, N>>::layout().size(), count, inside).enter(visitor)
     }
 
     fn tally(&self, tally: &mut Self::Tally) -> Result<(), CountError> {

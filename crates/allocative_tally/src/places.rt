@@ -1,11 +1,13 @@
-//! Numbers of buffers and of their items, and the bytes of their unused places.
+//! Numbers of buffers and of their items, and the bytes of their other places.
 
 ghost use Rattle.std.specs.Prelude.{◌≡◌, OnOk};
-ghost use Rattle.allocative_tally.specs.{AddsPlaces, AddsItems};
+ghost use Rattle.allocative_tally.specs.{AddsPlaces, AddsItems, buffer_shape};
 
-use crate::tally::{CountError, added, bytes_of, product};
+use crate::tally::{CountError, Entries, InlineSum, Sum, UniqueSum, added, bytes_of, product};
+use allocative::{IntoKey, Refusal, Visitor};
 
-/// How many buffers there are, how many items are in them, and the bytes of their unused places.
+/// How many buffers there are, how many items are in them, and the bytes of their other places: those that are unused,
+/// or the links of lists.
 #[derive(Clone, Copy, Default)]
 pub(crate) struct Places {
     pub(crate) buffers: usize,
@@ -28,7 +30,7 @@ impl Places {
         Ok(())
     }
 
-    /// Adds a buffer of so many items and unused places. The first size is that of an item, the second that of a place.
+    /// Adds a buffer of so many items and other places. The first size is that of an item, the second that of a place.
     /// It returns `Err` if a size is missing, or a number or the bytes of all do not fit a word. Discard the numbers
     /// then.
     #[inline(always)]
@@ -55,4 +57,23 @@ impl Places {
 pub struct Buffers<S> {
     pub(crate) places: Places,
     pub(crate) values: S,
+}
+
+/// Buffers under a key, with their items inside them, and beside these, under another key, the bytes of their other places.
+#[derive(Drop)]
+pub(crate) struct PlacesMany<K, P>(pub K, pub K, pub Places, pub P);
+
+impl<K: IntoKey, P: Entries> Entries for PlacesMany<K, P> {
+    ghost shape = { λ e. buffer_shape (K.key e.0) (K.key e.1) e.2.buffers (P.shape e.3) e.2.unused };
+
+    fn enter(self, visitor: &mut Visitor<'_>) -> Result<(), Refusal> {
+        let places = self.2;
+        let others = InlineSum(self.1, Sum::of(places.buffers, places.unused), ());
+        UniqueSum(
+            self.0,
+            Sum::times(Some(8), places.buffers),
+            (self.3, others),
+        )
+        .enter(visitor)
+    }
 }

@@ -1,20 +1,22 @@
-//! Texts, boxes, vectors, deques and arrays.
+//! Texts, boxes, vectors, deques, lists, heaps and arrays.
 
-ghost use Rattle.std.specs.Prelude.{◌≡◌, None, Bool, codes, OnOk, Some, length};
+ghost use Rattle.std.specs.Prelude.{◌≡◌, Bool, codes, OnOk, Some, length};
 ghost use Rattle.std.specs.{Iterator.IsFinite, Map.Iter.deref};
 ghost use Rattle.allocative.specs.Bodies.{buffer_shows};
-ghost use Rattle.allocative_tally.specs.{Unique, EntryAt, entries, sum_times, text_shape};
+ghost use Rattle.allocative_tally.specs.{Unique, EntryAt, entries, sum_times, text_shape, buffer_shape};
+ghost use Rattle.allocative_tally.specs.{pointers_shape, slices_shape};
 ghost use Rattle.allocative_tally.specs.{HoldsOfEveryRun, buffer_of, in_slices, is_whole, starting};
 ghost use Rattle.allocative_tally.specs.Tallies.{Tallies};
 
 use crate::counted::{FieldUnder, Itself, count_run};
-use crate::field::{FieldMany, Many, OwnTally, SizedMany};
-use crate::places::Buffers;
+use crate::field::{FieldMany, Many, OwnTally, PointersMany, SizedMany};
+use crate::places::{Buffers, PlacesMany};
 use crate::tally::{
-    CountError, Entries, InlineSum, Sum, Tallied, UniqueSum, added, bytes_of, declared,
+    CountError, Entries, InlineSum, Sum, Tallied, UniqueSum, added, bytes_of, count_bytes, declared,
 };
 use allocative::{Described, Refusal, Visitor, are_shown_each};
-use std::collections::VecDeque;
+use std::boxed::{BoxedSlice, BoxedStr};
+use std::collections::{BinaryHeap, LinkedList, VecDeque};
 
 /// Texts, counted: the bytes of their buffers, and how many of these are used and unused.
 #[derive(Default, Drop)]
@@ -58,16 +60,13 @@ impl<'a, T: Tallied> Entries for BuffersMany<'a, T> {
 
     fn enter(self, visitor: &mut Visitor<'_>) -> Result<(), Refusal> {
         let places = self.0.places;
-        let pointer = Sum::times(Some(8), places.buffers);
-        let unused = Sum::of(places.buffers, places.unused);
-        let unused = InlineSum("unused_capacity", unused, ());
         if are_shown_each::<T>() {
             let items = Many::<T>(&self.0.values, places.items);
-            return UniqueSum("ptr", pointer, (items, unused)).enter(visitor);
+            return PlacesMany("ptr", "unused_capacity", places, items).enter(visitor);
         }
-        let slice = Sum::of(places.buffers, bytes_of(T::size(), places.items));
-        let items = InlineSum(T::name(), slice, ());
-        UniqueSum("ptr", pointer, (items, unused)).enter(visitor)
+        let bytes = Sum::of(places.buffers, bytes_of(T::size(), places.items));
+        let items = InlineSum(T::name(), bytes, ());
+        PlacesMany("ptr", "unused_capacity", places, items).enter(visitor)
     }
 }
 
@@ -128,6 +127,50 @@ impl<T: Tallied> Tallied for Box<T> {
     }
 }
 
+impl<T: Tallied> Tallied for BoxedSlice<T> {
+    type Tally = Buffers<T::Tally>;
+
+    ghost shape = { λ t n. entries (codes "Box") (Some 16) n
+        (slices_shape T.layout.name T.layout.size t.places.buffers t.places.items
+        (entries (codes "data") T.layout.size t.places.items (T.shape t.values t.places.items))) };
+
+    ghost whole = { is_whole (Prim.search starting) };
+
+    fn show(tally: &Self::Tally, count: usize, visitor: &mut Visitor<'_>) -> Result<(), Refusal> {
+        let places = tally.places;
+        let items = FieldMany::<T>("data", &tally.values, places.items);
+        let bytes = Sum::of(places.buffers, bytes_of(T::size(), places.items));
+        let slices = InlineSum(T::name(), bytes, items);
+        let pointer = UniqueSum("ptr", Sum::times(Some(16), places.buffers), slices);
+        SizedMany("Box", <BoxedSlice<T>>::size(), count, pointer).enter(visitor)
+    }
+
+    #[inline(always)]
+    fn tally(&self, tally: &mut Self::Tally) -> Result<(), CountError> {
+        let items = self.as_slice();
+        let run = count_run(FieldUnder("data"), items.iter(), &mut tally.values);
+        run.and(tally.places.add_full(T::size(), items.len()))
+    }
+}
+
+impl Tallied for BoxedStr {
+    type Tally = usize;
+
+    ghost shape = { λ t n. entries (codes "Box") (Some 16) n (pointers_shape 16 (codes "str") n t) };
+
+    ghost whole = { is_whole (Prim.search starting) };
+
+    fn show(tally: &usize, count: usize, visitor: &mut Visitor<'_>) -> Result<(), Refusal> {
+        let pointers = PointersMany(16, "str", count, *tally);
+        SizedMany("Box", <BoxedStr>::size(), count, pointers).enter(visitor)
+    }
+
+    #[inline(always)]
+    fn tally(&self, tally: &mut usize) -> Result<(), CountError> {
+        count_bytes(tally, self.len())
+    }
+}
+
 impl<T: Tallied> Tallied for Vec<T> {
     type Tally = Buffers<T::Tally>;
 
@@ -165,6 +208,49 @@ impl<T: Tallied> Tallied for VecDeque<T> {
     }
 }
 
+impl<T: Tallied + Ord> Tallied for BinaryHeap<T> {
+    type Tally = Buffers<T::Tally>;
+
+    ghost shape = { λ t n. entries (codes "BinaryHeap") (Some 24) n
+        (buffer_of T.layout.name T.layout.size T.layout.needs_drop t.places (T.shape t.values)) };
+
+    ghost whole = { is_whole (Prim.search starting) };
+
+    fn show(tally: &Self::Tally, count: usize, visitor: &mut Visitor<'_>) -> Result<(), Refusal> {
+        let buffers = BuffersMany::<T>(tally);
+        SizedMany("BinaryHeap", <BinaryHeap<T>>::size(), count, buffers).enter(visitor)
+    }
+
+    #[inline(always)]
+    fn tally(&self, tally: &mut Self::Tally) -> Result<(), CountError> {
+        count_buffer(self.as_slice().iter(), self.len(), self.capacity(), tally)
+    }
+}
+
+impl<T: Tallied> Tallied for LinkedList<T> {
+    type Tally = Buffers<T::Tally>;
+
+    ghost shape = { λ t n. entries (codes "LinkedList") (Some 24) n
+        (buffer_shape (codes "ptr") (codes "links") t.places.buffers
+        (entries (codes "data") T.layout.size t.places.items (T.shape t.values t.places.items)) t.places.unused) };
+
+    ghost whole = { is_whole (Prim.search starting) };
+
+    fn show(tally: &Self::Tally, count: usize, visitor: &mut Visitor<'_>) -> Result<(), Refusal> {
+        let items = FieldMany::<T>("data", &tally.values, tally.places.items);
+        let nodes = PlacesMany("ptr", "links", tally.places, items);
+        SizedMany("LinkedList", <LinkedList<T>>::size(), count, nodes).enter(visitor)
+    }
+
+    fn tally(&self, tally: &mut Self::Tally) -> Result<(), CountError> {
+        let count = self.len();
+        // Each item has two pointers beside it.
+        let sizes = (T::size(), Some(16));
+        let run = count_run(FieldUnder("data"), self.iter(), &mut tally.values);
+        run.and(tally.places.add(sizes, count, count))
+    }
+}
+
 impl<T: Tallied, const N: usize> Tallied for [T; N] {
     type Tally = OwnTally<T::Tally>;
 
@@ -175,12 +261,7 @@ impl<T: Tallied, const N: usize> Tallied for [T; N] {
 
     fn show(tally: &Self::Tally, count: usize, visitor: &mut Visitor<'_>) -> Result<(), Refusal> {
         let items = FieldMany::<T>("data", &tally.values, tally.count);
-        InlineSum(
-            T::name(),
-            Sum::times(<[T; N]>::layout().size(), count),
-            items,
-        )
-        .enter(visitor)
+        SizedMany(T::name(), <[T; N]>::layout().size(), count, items).enter(visitor)
     }
 
     #[inline(always)]

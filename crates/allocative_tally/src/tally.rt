@@ -3,7 +3,7 @@
 ghost use Rattle.std.specs.Prelude.{◌≡◌, ◌+◌, ◌*◌, ◌^◌, ◌≤◌, ℕ, true, IfOk, OnOk};
 ghost use Rattle.allocative_tally.specs.{Shape, NoEntry, Beside, EntryAt, Wide, Unique as unique_width};
 ghost use Rattle.allocative_tally.specs.{shape_shows, bytes_times, sum_of, sum_times, TalliesNext};
-ghost use Rattle.allocative_tally.specs.{IsWhole, EntersShape, IsDeclared, FitsWord};
+ghost use Rattle.allocative_tally.specs.{AddsBytes, IsWhole, EntersShape, IsDeclared, FitsWord};
 
 use allocative::{Allocative, Described, Inside, IntoKey, Part, Refusal, Unique, Visitor};
 use thiserror::Error;
@@ -97,6 +97,15 @@ pub fn added(number: usize, more: usize) -> Result<usize, CountError>
     ensures { IfOk result (λ n. n ≡ number + more) }
 {
     number.checked_add(more).ok_or(CountError)
+}
+
+/// Adds the bytes of one more buffer. It returns `Err` if they do not fit a word.
+#[inline(always)]
+pub fn count_bytes(bytes: &mut usize, more: usize) -> Result<(), CountError>
+    ensures { OnOk result (AddsBytes more bytes.old bytes.new) }
+{
+    *bytes = added(*bytes, more)?;
+    Ok(())
 }
 
 /// What a tally shows, made of sums.

@@ -71,7 +71,7 @@ fn lists_and_tables(rt: HostRuntime) -> Result<(), Fail> {
     counted::<IndexSet<u16>, _>(alloc, [1, 2, 3, 4, 5].into_iter().collect(alloc), text)?;
     let text =
         "LruCache 56\nLruCache;ptr 8\nLruCache;ptr;key;u8 2\nLruCache;ptr;value;u64 16\nLruCache;raw_table 8\nLruCache;raw_table;alloc 36\n";
-    made(alloc, two_recent(alloc), text)?;
+    counted(alloc, two_recent(alloc), text)?;
     let text = "FlameGraph 32\nFlameGraph;ptr 8\nFlameGraph;ptr;Child 112\n";
     made(alloc, FlameGraph::read(alloc, "a 1\na;b 2\n"), text)
 }

@@ -156,9 +156,9 @@ fn pointers(rt: HostRuntime) -> Result<(), Fail> {
     made(alloc, Ok::<CowStr<'static>, AllocError>(text), "Cow 24\n")?;
     counted(alloc, Box::new(alloc, 1u64), "Box;ptr 8\nBox;ptr;u64 8\n")?;
     let three = BoxedSlice::from_slice(alloc, &[1u16, 2, 3]);
-    made(alloc, three, "Box;ptr 16\nBox;ptr;u16;data;u16 6\n")?;
+    counted(alloc, three, "Box;ptr 16\nBox;ptr;u16;data;u16 6\n")?;
     let text = BoxedStr::from_str(alloc, "abc");
-    made(alloc, text, "Box;ptr 16\nBox;ptr;str 3\n")
+    counted(alloc, text, "Box;ptr 16\nBox;ptr;str 3\n")
 }
 
 /// A pointer and its clone.
@@ -214,9 +214,9 @@ fn lists(rt: HostRuntime) -> Result<(), Fail> {
     counted::<VecDeque<[u16; 2]>, _>(alloc, [[1, 2], [3, 4]].into_iter().collect(alloc), text)?;
     let text =
         "LinkedList 16\nLinkedList;ptr 8\nLinkedList;ptr;data;u64 16\nLinkedList;ptr;links 32\n";
-    made(alloc, LinkedList::from_array(alloc, [1u64, 2]), text)?;
+    counted(alloc, LinkedList::from_array(alloc, [1u64, 2]), text)?;
     let text = "BinaryHeap 16\nBinaryHeap;ptr 8\nBinaryHeap;ptr;u32 8\n";
-    made(alloc, BinaryHeap::from_array(alloc, [1u32, 2]), text)?;
+    counted(alloc, BinaryHeap::from_array(alloc, [1u32, 2]), text)?;
     let text =
         "tuple5 4\ntuple5;0;String 16\ntuple5;0;String;ptr 8\ntuple5;0;String;ptr;capacity;u8 2\ntuple5;1;Either 2\ntuple5;1;Either;Right;Result 2\ntuple5;1;Either;Right;Result;Err;u16 2\ntuple5;2;tuple2;0;u8 1\ntuple5;2;tuple2;1;u8 1\ntuple5;3;tuple3 1\ntuple5;3;tuple3;0;u8 1\ntuple5;3;tuple3;1;u16 2\ntuple5;3;tuple3;2;u32 4\ntuple5;4;tuple4;0;bool 1\ntuple5;4;tuple4;1;bool 1\ntuple5;4;tuple4;2;bool 1\ntuple5;4;tuple4;3;bool 1\n";
     counted(alloc, parts(alloc), text)

@@ -20,7 +20,7 @@ use std::rc::Rc;
 use std::sync::{Mutex, RwLock};
 use std::test::Fail;
 use test_generated_types::placed::OfOne;
-use test_generated_types::received::Received;
+use test_generated_types::received::{Origin, Received};
 use test_generated_types::types::{Event, Found, Json, Placed};
 use url::Url;
 use uuid::Uuid;
@@ -153,13 +153,24 @@ fn roots_of_one_type(rt: HostRuntime) -> Result<(), Fail> {
     is_text(text_of_sensors(rt.alloc())?.as_str(), text)
 }
 
+/// The address of the host itself.
+fn home() -> SocketAddr {
+    SocketAddr::new(IpAddr::V4(Ipv4Addr::new(127, 0, 0, 1)), 80)
+}
+
+/// An address and a file.
+fn origins(alloc: Global) -> Result<Vec<Origin>, AllocError> {
+    let path = PathBuf::from_str(alloc, "a/b")?;
+    Ok(vec![in alloc; Origin::Peer(home()), Origin::File { path, line: 7 }]?)
+}
+
 fn received(alloc: Global) -> Result<Received, AllocError> {
     let callback = Url::parse(alloc, "http://a/").or(Err(AllocError))?;
     Ok(Received {
         id: Uuid::nil(),
         callback,
         body: Bytes::from_static(b"abcd"),
-        peer: SocketAddr::new(IpAddr::V4(Ipv4Addr::new(127, 0, 0, 1)), 80),
+        peer: home(),
         file: PathBuf::from_str(alloc, "a/b")?,
         tried: None,
     })
@@ -187,7 +198,10 @@ fn written_types(rt: HostRuntime) -> Result<(), Fail> {
     let alloc = rt.alloc();
     let text =
         "Received 7\nReceived;body;Bytes 24\nReceived;body;Bytes;ptr 8\nReceived;body;Bytes;ptr;u8 4\nReceived;callback;Url 80\nReceived;callback;Url;ptr 8\nReceived;callback;Url;ptr;u8 9\nReceived;file;PathBuf 16\nReceived;file;PathBuf;ptr 8\nReceived;file;PathBuf;ptr;u8 3\nReceived;id;Uuid 16\nReceived;peer;SocketAddr 32\nReceived;tried;Option 17\n";
-    made(alloc, received(alloc), text)?;
+    counted(alloc, received(alloc), text)?;
+    let text =
+        "Vec 16\nVec;ptr 8\nVec;ptr;Origin 16\nVec;ptr;Origin;File;line;u64 8\nVec;ptr;Origin;File;path;PathBuf 16\nVec;ptr;Origin;File;path;PathBuf;ptr 8\nVec;ptr;Origin;File;path;PathBuf;ptr;u8 3\nVec;ptr;Origin;Peer;SocketAddr 32\n";
+    counted(alloc, origins(alloc), text)?;
     let text =
         "Event 8\nEvent;Sale 8\nEvent;Sale;place 16\nEvent;Sale;prices;Vec 16\nEvent;Sale;prices;Vec;ptr 8\nEvent;Sale;prices;Vec;ptr;u64 16\nEvent;Sale;shelf;u64 8\n";
     counted(alloc, event(alloc), text)?;

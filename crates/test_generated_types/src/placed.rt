@@ -15,7 +15,8 @@ ghost use Rattle.allocative.specs.Layouts.{empty, pad_to_align, ◌with◌};
 use allocative::{Described, Layout, Part, Refusal, Visitor, Whole};
 
 impl Described for OfOne {
-    ghost layout = { pad_to_align (empty (codes "OfOne") with ⟦<u64 as Described>⟧.layout) };
+    ghost layout = { pad_to_align (empty (codes "OfOne")
+        with ⟦<u64 as Described>⟧.layout) };
 
     fn layout() -> Layout {
         Layout::empty("OfOne").with(u64::layout()).pad_to_align()

@@ -8,6 +8,13 @@ use std::path::PathBuf;
 use url::Url;
 use uuid::Uuid;
 
+/// Where a request came from.
+#[derive(Drop)]
+pub enum Origin {
+    Peer(SocketAddr),
+    File { path: PathBuf, line: u64 },
+}
+
 /// A request that was received.
 #[derive(Drop)]
 pub struct Received {

@@ -9,8 +9,10 @@ use super::*;
 use allocative::{Allocative, Described, Field, Layout, Part, Refusal, Visitor, Whole};
 
 impl Described for Order {
-    ghost layout = { pad_to_align (empty (codes "Order") with ⟦<u64 as Described>⟧.layout
-        with ⟦<String as Described>⟧.layout with ⟦<Vec<u32> as Described>⟧.layout) };
+    ghost layout = { pad_to_align (empty (codes "Order")
+        with ⟦<u64 as Described>⟧.layout
+        with ⟦<String as Described>⟧.layout
+        with ⟦<Vec<u32> as Described>⟧.layout) };
 
     fn layout() -> Layout {
         Layout::empty("Order")
@@ -22,7 +24,8 @@ impl Described for Order {
 }
 
 impl Allocative for Order {
-    ghost may_show = { λ x. shows.Field (codes "Order") ⟦<Order as Described>⟧.layout.size (shows.Both
+    ghost may_show = { λ x. shows.Field (codes "Order") ⟦<Order as Described>⟧.layout.size
+        (shows.Both
         (shows.Field (codes "number") ⟦<u64 as Described>⟧.layout.size (⟦<u64 as Allocative>⟧.may_show x.number)) (shows.Both
         (shows.Field (codes "name") ⟦<String as Described>⟧.layout.size (⟦<String as Allocative>⟧.may_show x.name))
         (shows.Field (codes "marks") ⟦<Vec<u32> as Described>⟧.layout.size (⟦<Vec<u32> as Allocative>⟧.may_show x.marks)))) };

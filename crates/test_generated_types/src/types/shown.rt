@@ -20,7 +20,15 @@ use allocative_tally::field::{CountedField, FieldMany, OwnTally, SizedMany, coun
 use allocative_tally::tally::{CountError, Entries, Tallied, added, declared};
 
 impl<'a, const N: usize> Allocative for Found<'a, N> {
-    ghost may_show = { λ x. shows.Field (codes "Found") (pad_to_align (empty (codes "Found") with ⟦<u8 as Described>⟧.layout with ⟦<u8 as Described>⟧.layout with ⟦<u8 as Described>⟧.layout with ⟦<[u32; N] as Described>⟧.layout with ⟦<BTreeMap<u64, Vec<Event>> as Described>⟧.layout with declared (codes "part5") 8 8 false with declared (codes "part6") 16 8 false)).size (shows.Both
+    ghost may_show = { λ x. shows.Field (codes "Found") (pad_to_align (empty (codes "Found")
+        with ⟦<u8 as Described>⟧.layout
+        with ⟦<u8 as Described>⟧.layout
+        with ⟦<u8 as Described>⟧.layout
+        with ⟦<[u32; N] as Described>⟧.layout
+        with ⟦<BTreeMap<u64, Vec<Event>> as Described>⟧.layout
+        with declared (codes "part5") 8 8 false
+        with declared (codes "part6") 16 8 false)).size
+        (shows.Both
         (shows.Both
         (shows.Field (codes "0") ⟦<u8 as Described>⟧.layout.size (⟦<u8 as Allocative>⟧.may_show x.0)) (shows.Both
         (shows.Field (codes "1") ⟦<u8 as Described>⟧.layout.size (⟦<u8 as Allocative>⟧.may_show x.1)) (shows.Both
@@ -60,7 +68,8 @@ impl<K: Allocative + Described, V: Allocative + Described> Described for Table<K
 where
     K: Eq + Hash,
 {
-    ghost layout = { pad_to_align (empty (codes "Table") with ⟦<HashMap<K, V> as Described>⟧.layout
+    ghost layout = { pad_to_align (empty (codes "Table")
+        with ⟦<HashMap<K, V> as Described>⟧.layout
         with ⟦<V as Described>⟧.layout) };
 
     fn layout() -> Layout {
@@ -75,7 +84,8 @@ impl<K: Allocative + Described, V: Allocative + Described> Allocative for Table<
 where
     K: Eq + Hash,
 {
-    ghost may_show = { λ x. shows.Field (codes "Table") ⟦<Table<K, V> as Described>⟧.layout.size (shows.Both
+    ghost may_show = { λ x. shows.Field (codes "Table") ⟦<Table<K, V> as Described>⟧.layout.size
+        (shows.Both
         (shows.Field (codes "values") ⟦<HashMap<K, V> as Described>⟧.layout.size (⟦<HashMap<K, V> as Allocative>⟧.may_show x.values))
         (shows.Field (codes "last") ⟦<V as Described>⟧.layout.size (⟦<V as Allocative>⟧.may_show x.last))) };
 
@@ -123,8 +133,10 @@ where
 }
 
 impl<T: Allocative + Described> Described for Placed<T> {
-    ghost layout = { pad_to_align (empty (codes "Placed") with ⟦<u8 as Described>⟧.layout
-        with (empty (codes "Somewhere") with ⟦<T as Described>⟧.layout
+    ghost layout = { pad_to_align (empty (codes "Placed")
+        with ⟦<u8 as Described>⟧.layout
+        with (empty (codes "Somewhere")
+        with ⟦<T as Described>⟧.layout
         with declared (codes "part1") 8 8 false)) };
 
     fn layout() -> Layout {
@@ -144,7 +156,9 @@ impl<T: Allocative + Described> Allocative for Placed<T> {
 
     ghost may_show = { λ x. shows.Field (codes "Placed") ⟦<Placed<T> as Described>⟧.layout.size (elim x [
       | Nowhere ↦ shows.Nothing
-      | Somewhere a b ↦ shows.Field (codes "Somewhere") (pad_to_align (empty (codes "Somewhere") with ⟦<T as Described>⟧.layout with declared (codes "part1") 8 8 false)).size
+      | Somewhere a b ↦ shows.Field (codes "Somewhere") (pad_to_align (empty (codes "Somewhere")
+          with ⟦<T as Described>⟧.layout
+          with declared (codes "part1") 8 8 false)).size
           (shows.Field (codes "0") ⟦<T as Described>⟧.layout.size (⟦<T as Allocative>⟧.may_show a))
     ]) };
 
@@ -174,8 +188,10 @@ impl<T: Allocative + Described> Allocative for Placed<T> {
 struct EventSaleFields;
 
 impl Described for EventSaleFields {
-    ghost layout = { pad_to_align (empty (codes "Sale") with declared (codes "place") 16 8 false
-        with declared (codes "weight") 8 8 false with ⟦<u64 as Described>⟧.layout
+    ghost layout = { pad_to_align (empty (codes "Sale")
+        with declared (codes "place") 16 8 false
+        with declared (codes "weight") 8 8 false
+        with ⟦<u64 as Described>⟧.layout
         with ⟦<Vec<u64> as Described>⟧.layout) };
 
     fn layout() -> Layout {
@@ -189,10 +205,14 @@ impl Described for EventSaleFields {
 }
 
 impl Described for Event {
-    ghost layout = { pad_to_align (empty (codes "Event") with ⟦<u8 as Described>⟧.layout
-        with (⟦<String as Described>⟧.layout or declared (codes "part0") 8 8 false
-        or (empty (codes "Sale") with declared (codes "place") 16 8 false
-        with declared (codes "weight") 8 8 false with ⟦<u64 as Described>⟧.layout
+    ghost layout = { pad_to_align (empty (codes "Event")
+        with ⟦<u8 as Described>⟧.layout
+        with (⟦<String as Described>⟧.layout
+        or declared (codes "part0") 8 8 false
+        or (empty (codes "Sale")
+        with declared (codes "place") 16 8 false
+        with declared (codes "weight") 8 8 false
+        with ⟦<u64 as Described>⟧.layout
         with ⟦<Vec<u64> as Described>⟧.layout))) };
 
     fn layout() -> Layout {
@@ -218,7 +238,8 @@ impl Allocative for Event {
       | Quiet ↦ shows.Nothing
       | Note a ↦ shows.Field (codes "Note") ⟦<String as Described>⟧.layout.size (⟦<String as Allocative>⟧.may_show a)
       | Marked a ↦ shows.Inside (codes "Marked") 8 shows.Nothing
-      | Sale a b c d ↦ shows.Field (codes "Sale") ⟦<EventSaleFields as Described>⟧.layout.size (shows.Both
+      | Sale a b c d ↦ shows.Field (codes "Sale") ⟦<EventSaleFields as Described>⟧.layout.size
+          (shows.Both
           (shows.Inside (codes "place") 16 shows.Nothing) (shows.Both
           (shows.Field (codes "shelf") ⟦<u64 as Described>⟧.layout.size (⟦<u64 as Allocative>⟧.may_show c))
           (shows.Field (codes "prices") ⟦<Vec<u64> as Described>⟧.layout.size (⟦<Vec<u64> as Allocative>⟧.may_show d))))
@@ -323,7 +344,8 @@ impl Tallied for Event {
 struct CartBoughtItemsFields;
 
 impl Described for CartBoughtItemsFields {
-    ghost layout = { pad_to_align (empty (codes "BoughtItems") with ⟦<Vec<String> as Described>⟧.layout) };
+    ghost layout = { pad_to_align (empty (codes "BoughtItems")
+        with ⟦<Vec<String> as Described>⟧.layout) };
 
     fn layout() -> Layout {
         Layout::empty("BoughtItems")
@@ -333,7 +355,8 @@ impl Described for CartBoughtItemsFields {
 }
 
 impl Described for Cart {
-    ghost layout = { pad_to_align (empty (codes "Cart") with ⟦<u8 as Described>⟧.layout
+    ghost layout = { pad_to_align (empty (codes "Cart")
+        with ⟦<u8 as Described>⟧.layout
         with ⟦<Vec<String> as Described>⟧.layout) };
 
     fn layout() -> Layout {
@@ -411,10 +434,14 @@ impl Tallied for Cart {
 }
 
 impl Described for Json {
-    ghost layout = { pad_to_align (empty (codes "Json") with ⟦<u8 as Described>⟧.layout
-        with (⟦<BTreeMap<String, Json> as Described>⟧.layout or (empty (codes "Pair")
-        with ⟦<Option<Box<Json>> as Described>⟧.layout with ⟦<Vec<Json> as Described>⟧.layout)
-        or (empty (codes "Part") with declared (codes "part0") 16 8 false
+    ghost layout = { pad_to_align (empty (codes "Json")
+        with ⟦<u8 as Described>⟧.layout
+        with (⟦<BTreeMap<String, Json> as Described>⟧.layout
+        or (empty (codes "Pair")
+        with ⟦<Option<Box<Json>> as Described>⟧.layout
+        with ⟦<Vec<Json> as Described>⟧.layout)
+        or (empty (codes "Part")
+        with declared (codes "part0") 16 8 false
         with ⟦<Box<Json> as Described>⟧.layout))) };
 
     fn layout() -> Layout {
@@ -441,10 +468,16 @@ impl Allocative for Json {
     ghost may_show = { recursive (opened out-Json (λ x. field (codes "Json") ⟦<Json as Described>⟧.layout.size (elim x [
       | Json-F.Null ↦ plain shows.Nothing
       | Json-F.Table a ↦ field (codes "Table") ⟦<BTreeMap<String, Json> as Described>⟧.layout.size (btree_map_of (pair_in ⟦<String as Described>⟧.layout.size ⟦<String as Allocative>⟧.may_show ⟦<Json as Described>⟧.layout.size child) a.entries)
-      | Json-F.Pair a b ↦ field (codes "Pair") (pad_to_align (empty (codes "Pair") with ⟦<Option<Box<Json>> as Described>⟧.layout with ⟦<Vec<Json> as Described>⟧.layout)).size (both
+      | Json-F.Pair a b ↦ field (codes "Pair") (pad_to_align (empty (codes "Pair")
+          with ⟦<Option<Box<Json>> as Described>⟧.layout
+          with ⟦<Vec<Json> as Described>⟧.layout)).size
+          (both
           (field (codes "first") ⟦<Option<Box<Json>> as Described>⟧.layout.size (option_in ⟦<Option<Box<Json>> as Described>⟧.layout.size ⟦<Box<Json> as Described>⟧.layout.size (λ y. box_of (child y.value)) a))
           (field (codes "rest") ⟦<Vec<Json> as Described>⟧.layout.size (vec_in ⟦<Json as Described>⟧.layout.size child b)))
-      | Json-F.Part a b ↦ field (codes "Part") (pad_to_align (empty (codes "Part") with declared (codes "part0") 16 8 false with ⟦<Box<Json> as Described>⟧.layout)).size (both
+      | Json-F.Part a b ↦ field (codes "Part") (pad_to_align (empty (codes "Part")
+          with declared (codes "part0") 16 8 false
+          with ⟦<Box<Json> as Described>⟧.layout)).size
+          (both
           (plain (shows.Inside (codes "0") 16 (shows.Inside (codes "Range") 16 shows.Nothing)))
           (field (codes "1") ⟦<Box<Json> as Described>⟧.layout.size (box_of (child b.value))))
     ]))) };
@@ -491,7 +524,8 @@ impl Allocative for Json {
 }
 
 impl<const N: usize> Described for Ring<N> {
-    ghost layout = { pad_to_align (empty (codes "Ring") with ⟦<[u64; N] as Described>⟧.layout
+    ghost layout = { pad_to_align (empty (codes "Ring")
+        with ⟦<[u64; N] as Described>⟧.layout
         with ⟦<&'static str as Described>⟧.layout) };
 
     fn layout() -> Layout {
@@ -503,7 +537,8 @@ impl<const N: usize> Described for Ring<N> {
 }
 
 impl<const N: usize> Allocative for Ring<N> {
-    ghost may_show = { λ x. shows.Field (codes "Ring") ⟦<Ring<N> as Described>⟧.layout.size (shows.Both
+    ghost may_show = { λ x. shows.Field (codes "Ring") ⟦<Ring<N> as Described>⟧.layout.size
+        (shows.Both
         (shows.Field (codes "points") ⟦<[u64; N] as Described>⟧.layout.size (⟦<[u64; N] as Allocative>⟧.may_show x.points))
         (shows.Field (codes "name") ⟦<&'static str as Described>⟧.layout.size (⟦<&'static str as Allocative>⟧.may_show x.name))) };
 
@@ -517,7 +552,8 @@ impl<const N: usize> Allocative for Ring<N> {
 }
 
 impl Described for Rope {
-    ghost layout = { pad_to_align (empty (codes "Rope") with ⟦<u8 as Described>⟧.layout
+    ghost layout = { pad_to_align (empty (codes "Rope")
+        with ⟦<u8 as Described>⟧.layout
         with ⟦<Vec<Rope> as Described>⟧.layout) };
 
     fn layout() -> Layout {
@@ -546,7 +582,8 @@ impl Allocative for Rope {
 }
 
 impl Described for Job {
-    ghost layout = { pad_to_align (empty (codes "Job") with ⟦<Payload as Described>⟧.layout
+    ghost layout = { pad_to_align (empty (codes "Job")
+        with ⟦<Payload as Described>⟧.layout
         with ⟦<HashMap<u64, Job> as Described>⟧.layout) };
 
     fn layout() -> Layout {
@@ -564,7 +601,10 @@ impl Allocative for Job {
         (field (codes "earlier_by_number") ⟦<HashMap<u64, Job> as Described>⟧.layout.size (hash_map_of (pair_in ⟦<u64 as Described>⟧.layout.size ⟦<u64 as Allocative>⟧.may_show ⟦<Job as Described>⟧.layout.size (λ y. child (first y))) (out-Job x).earlier_by_number.entries))))
         (opened out-Payload (λ x. field (codes "Payload") ⟦<Payload as Described>⟧.layout.size (elim x [
           | Payload-F.Nothing ↦ plain shows.Nothing
-          | Payload-F.Done a b ↦ field (codes "Done") (pad_to_align (empty (codes "Done") with ⟦<Box<Job> as Described>⟧.layout with ⟦<u64 as Described>⟧.layout)).size (both
+          | Payload-F.Done a b ↦ field (codes "Done") (pad_to_align (empty (codes "Done")
+              with ⟦<Box<Job> as Described>⟧.layout
+              with ⟦<u64 as Described>⟧.layout)).size
+              (both
               (field (codes "job") ⟦<Box<Job> as Described>⟧.layout.size (box_of (child (first a.value))))
               (plain (shows.Field (codes "within_seconds") ⟦<u64 as Described>⟧.layout.size (⟦<u64 as Allocative>⟧.may_show b))))
         ])))) (first x) };
@@ -585,8 +625,11 @@ impl Allocative for Job {
 }
 
 impl Described for Payload {
-    ghost layout = { pad_to_align (empty (codes "Payload") with ⟦<u8 as Described>⟧.layout with (empty (codes "Done")
-        with ⟦<Box<Job> as Described>⟧.layout with ⟦<u64 as Described>⟧.layout)) };
+    ghost layout = { pad_to_align (empty (codes "Payload")
+        with ⟦<u8 as Described>⟧.layout
+        with (empty (codes "Done")
+        with ⟦<Box<Job> as Described>⟧.layout
+        with ⟦<u64 as Described>⟧.layout)) };
 
     fn layout() -> Layout {
         Layout::empty("Payload")
@@ -607,7 +650,10 @@ impl Allocative for Payload {
         (field (codes "earlier_by_number") ⟦<HashMap<u64, Job> as Described>⟧.layout.size (hash_map_of (pair_in ⟦<u64 as Described>⟧.layout.size ⟦<u64 as Allocative>⟧.may_show ⟦<Job as Described>⟧.layout.size (λ y. child (first y))) (out-Job x).earlier_by_number.entries))))
         (opened out-Payload (λ x. field (codes "Payload") ⟦<Payload as Described>⟧.layout.size (elim x [
           | Payload-F.Nothing ↦ plain shows.Nothing
-          | Payload-F.Done a b ↦ field (codes "Done") (pad_to_align (empty (codes "Done") with ⟦<Box<Job> as Described>⟧.layout with ⟦<u64 as Described>⟧.layout)).size (both
+          | Payload-F.Done a b ↦ field (codes "Done") (pad_to_align (empty (codes "Done")
+              with ⟦<Box<Job> as Described>⟧.layout
+              with ⟦<u64 as Described>⟧.layout)).size
+              (both
               (field (codes "job") ⟦<Box<Job> as Described>⟧.layout.size (box_of (child (first a.value))))
               (plain (shows.Field (codes "within_seconds") ⟦<u64 as Described>⟧.layout.size (⟦<u64 as Allocative>⟧.may_show b))))
         ])))) (second x) };

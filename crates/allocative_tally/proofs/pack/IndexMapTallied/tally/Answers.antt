@@ -1,7 +1,7 @@
 -- of the tally of `IndexMap`: its pairs, its unused places and its table
 use Rattle.indexmap.specs.IndexMap.{spare}
-use Rattle.allocative_tally.proofs.{◌≡◌, ◌-◌, arith, rules, length, YieldsList-from_rest, field_as, of_every}
-use Rattle.allocative_tally.proofs.{container, both_shapes, index_counts, pairs_are_fields, told_by}
+use Rattle.allocative_tally.proofs.{◌≡◌, ◌-◌, arith, codes, rules, length, YieldsList-from_rest, field_as, of_every}
+use Rattle.allocative_tally.proofs.{container, both_shapes, shown_counts, index_data_as, fields_counts, pairs_are_fields, told_by}
 use Rattle.allocative_tally.proofs.pack.IndexMapTallied.tally.Goals as goal
 
 pub returns : goal.returns
@@ -11,7 +11,8 @@ returns g c =
     let run = of_every (YieldsList-from_rest _ c.iter.ensures.rest) c.count_run-run.ensures in
     let fields = pairs_are_fields g.K.Described.layout.size g.V.Described.layout.size g.K.Allocative.may_show
     g.V.Allocative.may_show g.K.Tallied.shape g.V.Tallied.shape in
-    container 72 _ (omega arith) (omega arith) field_as (both_shapes c.and.ensures (index_counts c.args.self.now.entries
-    {v = c.args.tally.now.items.values} {v' = c.count_run-run.new.tally} c.and-data.ensures fields run
-    (told_by c.add.result (rw (c.pair_size.ensures, c.size.ensures, unused, count) at c.add.ensures)))
-    (rw count at c.count_table.ensures))
+    container 72 _ (omega arith) (omega arith) field_as (both_shapes c.and.ensures (shown_counts index_data_as
+    (fields_counts (codes "data") (codes "unused_capacity") c.args.self.now.entries {v = c.args.tally.now.items.values}
+    {v' = c.count_run-run.new.tally} c.and-data.ensures fields run
+    (told_by c.add.result (rw (c.pair_size.ensures, c.size.ensures, unused, count) at c.add.ensures))))
+    (rw count at c.add-2.ensures))

@@ -1,7 +1,7 @@
 -- Written by bin/implement.
 use Rattle.std.proofs.Common.{arith}
 use Rattle.allocative_tally.proofs.Counting.{first_counted, second_counted}
-use Rattle.allocative_tally.proofs.Fields.{both_count, case_counted, field_counts, fixed_counted, next_as, next_case, next_fixed, nothing_counted, own_counted, sure_first, told_by, told_then}
+use Rattle.allocative_tally.proofs.Fields.{both_count, case_counted, field_counts, next_as, next_at, next_case, next_fixed, nothing_counted, own_counted, sure_first, told_by, told_then}
 use Rattle.allocative_tally.proofs.Sizes.{holds_bytes}
 use Rattle.allocative_tally.specs.Whole.{as_itself}
 use Rattle.test_generated_types.proofs.types.shown.EventTallied.tally.Goals as goal
@@ -25,7 +25,7 @@ pub returns-in_ok-tally-in-Marked : goal.returns-in_ok-tally-in-Marked
 returns-in_ok-tally-in-Marked c =
     next_as (rw c.in-Marked.is as_itself)
     (next_case c.in_ok-declared.ensures
-    (second_counted (first_counted (fixed_counted _ _ (omega arith))))
+    (second_counted (first_counted (next_at (omega arith) next_fixed)))
     (holds_bytes (omega arith)))
 
 pub returns-in_ok-tally-in-Sale : goal.returns-in_ok-tally-in-Sale
