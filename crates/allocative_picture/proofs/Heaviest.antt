@@ -1,9 +1,9 @@
 -- The heaviest paths: what keeping one more leaves, and that all paths can be put into the order of a table.
 use Rattle.std.proofs.Common.{◌≡◌, ℕ, ◌+◌, ◌-◌, ◌<◌, ◌≤◌, zero, suc, true, false, cond, Bor, List, [], ◌∷◌, ◌++◌, map, length, get_or, take}
 use Rattle.std.proofs.Common.{AllPairs, IsPermutation, All, refl, sym, ap, subst, ◌∙◌, arith, is_lt, nat_cmp, flat_map, Greater}
-use Rattle.std.proofs.Common.{append_assoc, append-nil, Option, Some, None, IsSome, IfSome}
+use Rattle.std.proofs.Common.{append_assoc, append-nil, Option, Some, None, IsSome, IfSome, Bool, nat_lt, filter}
 use Rattle.allocative_picture.proofs.Common.{Path, Child, Graph, entries, on_test, path_cmp, ordering_then, texts, node, AreChildren}
-use Rattle.allocative_picture.proofs.Common.{table_line, map-append, length-map, get_or-map}
+use Rattle.allocative_picture.proofs.Common.{filter-append, map-append, length-map, get_or-map}
 use Rattle.allocative_graph.proofs.Basics.{path_total}
 use Rattle.allocative_graph.specs.Rows.{under_rows, rows_of, rows_of_child}
 use Rattle.allocative_graph.specs.Representation.NodeRows.{entries-node}
@@ -15,7 +15,6 @@ use Rattle.std.specs.declared.collections.BinaryHeap.{BinaryHeap}
 use Rattle.std.specs.declared.alloc.Global.{Global}
 use Rattle.std.proofs.lemmas.Cmp.{nat_cmp_total, on_total, then_total, back_total, tied_itself}
 use Rattle.std.proofs.Math.Seq.{take-append-add}
-use Rattle.std.proofs.lemmas.Grind.{flat_map-append}
 use Rattle.std.proofs.lemmas.List.Sorted.{IsPermutation-refl, IsPermutation-sym, IsPermutation-cons, IsPermutation-trans}
 use Rattle.std.proofs.lemmas.List.Sorted.{IsPermutation-append_left, IsPermutation-append_right, IsPermutation-middle}
 use Rattle.std.proofs.lemmas.List.Sorted.{IsPermutation-to_front, IsPermutation-map, length_permutation, ranks_by, sorted_far}
@@ -27,7 +26,7 @@ use Rattle.std.proofs.lemmas.List.Kept.{AllPairs-cons}
 use Rattle.std.proofs.lemmas.Bool.Decides.{nat_tests}
 use Rattle.allocative_picture.specs.declared.table.Heavy.{Heavy}
 use Rattle.allocative_picture.specs.Table.{weight_cmp, weight_of, weights_of, heavy_cmp, IsNotAfter, AreHeaviest, IsKept}
-use Rattle.allocative_picture.specs.Table.{Keeps, IsPushed, behind}
+use Rattle.allocative_picture.specs.Table.{Keeps, IsPushed, IsTop, behind}
 
 -- A path with its bytes.
 abbrev pub Weighed : Type 0
@@ -276,35 +275,42 @@ pairs-append (e ∷ es) fs a b c = AllPairs-cons IsNotAfter e (es ++ fs)
     (All-append (IsNotAfter e) es fs (pairs_head e es a) (λ k d w. All-head (λ (x : Weighed). IsNotAfter x (get_or fs k d)) e es (c k d w)))
     (pairs-append es fs (pairs_tail e es a) b (λ k d w. All-tail (λ (x : Weighed). IsNotAfter x (get_or fs k d)) e es (c k d w)))
 
--- Paths without bytes have no lines.
-no_lines : (all : ℕ) (es : List Weighed) → All (λ e. e.1 ≡ 0) es → flat_map (table_line all) es ≡ []
-no_lines all [] h = refl
-no_lines all (e ∷ es) h =
-    let none : e.1 ≡ 0 = All-head (λ (x : Weighed). x.1 ≡ 0) e es h in
-    let rest = no_lines all es (All-tail (λ (x : Weighed). x.1 ≡ 0) e es h) in
-    grind (arith, none, rest)
+-- Whether a path has bytes.
+abbrev has_bytes : Weighed → Bool
+has_bytes e = nat_lt 0 e.1
 
--- The first n lines of all paths in order are those of the heaviest in order.
-pub record Rows (n : ℕ) (es sorted : List Weighed) : Type 0 where
-  pub rows : List Weighed
-  pub same : IsPermutation es rows
-  pub falling : AllPairs IsNotAfter rows
-  pub lines : (all : ℕ) → flat_map (table_line all) sorted ≡ flat_map (table_line all) (take n rows)
+-- Paths that all have bytes stay.
+all_stay : (es : List Weighed) → All (λ e. 0 < e.1) es → filter has_bytes es ≡ es
+all_stay [] h = refl
+all_stay (e ∷ es) h =
+    let some : 0 < e.1 = All-head (λ (x : Weighed). 0 < x.1) e es h in
+    let rest = all_stay es (All-tail (λ (x : Weighed). 0 < x.1) e es h) in
+    grind (arith, nat_tests, some, rest)
+
+-- Of paths without bytes none stays.
+none_stays : (es : List Weighed) → All (λ e. e.1 ≡ 0) es → filter has_bytes es ≡ []
+none_stays [] h = refl
+none_stays (e ∷ es) h =
+    let none : e.1 ≡ 0 = All-head (λ (x : Weighed). x.1 ≡ 0) e es h in
+    let rest = none_stays es (All-tail (λ (x : Weighed). x.1 ≡ 0) e es h) in
+    grind (arith, none, rest)
 
 -- If paths have no bytes, or none of them is taken, none that is taken has.
 take_empty : (n : ℕ) (es : List Weighed) → (0 < n → All (λ e. e.1 ≡ 0) es) → All (λ e. e.1 ≡ 0) (take n es)
 take_empty zero es h = λ k d w. absurd (omega arith)
 take_empty (suc n) es h = All-take (λ (e : Weighed). e.1 ≡ 0) (suc n) es (h (omega arith))
 
-pub rows_of_heaviest : (n : ℕ) (es kept sorted : List Weighed) → AreHeaviest n es kept → IsPermutation kept sorted →
-    AllPairs IsNotAfter sorted → Rows n es sorted
-rows_of_heaviest n es kept sorted h same falls =
+-- The heaviest paths in order are the first ones of all paths in order.
+pub top_of_heaviest : (n : ℕ) (es kept sorted : List Weighed) → AreHeaviest n es kept → IsPermutation kept sorted →
+    AllPairs IsNotAfter sorted → IsTop n es sorted
+top_of_heaviest n es kept sorted h same falls =
     let rest = in_order h.rest in
     let count : length sorted ≡ length kept = length_permutation kept sorted same in
     let more = n - length sorted in
     let sum : length sorted + more ≡ n = omega (arith, count, h.within) in
     let empty : All (λ (e : Weighed). e.1 ≡ 0) (take more rest) = take_empty more rest
     (λ some. All-permutation (λ (e : Weighed). e.1 ≡ 0) h.rest rest (in_order-same h.rest) (h.empty (omega (arith, some, count)))) in
+    let heavy = All-permutation (λ (e : Weighed). 0 < e.1) kept sorted same h.heavy in
     record {
       rows = sorted ++ rest;
       same = IsPermutation-trans _ _ _ h.same (IsPermutation-trans _ _ _ (IsPermutation-append_left h.rest kept sorted same)
@@ -312,11 +318,11 @@ rows_of_heaviest n es kept sorted h same falls =
       falling = pairs-append sorted rest falls (in_order-falls h.rest)
           (All-permutation (λ (f : Weighed). All (λ (e : Weighed). IsNotAfter e f) sorted) h.rest rest (in_order-same h.rest)
           (λ k d w. All-permutation (λ (e : Weighed). IsNotAfter e (get_or h.rest k d)) kept sorted same (h.after k d w)));
-      lines = λ all. sym (ap (λ m. flat_map (table_line all) (take m (sorted ++ rest))) (sym sum)
-          ∙ ap (flat_map (table_line all)) (take-append-add sorted rest more)
-          ∙ flat_map-append (table_line all) sorted (take more rest)
-          ∙ ap (λ ls. flat_map (table_line all) sorted ++ ls) (no_lines all (take more rest) empty)
-          ∙ append-nil _);
+      is = sym (ap (λ m. filter has_bytes (take m (sorted ++ rest))) (sym sum)
+          ∙ ap (filter has_bytes) (take-append-add sorted rest more)
+          ∙ filter-append has_bytes sorted (take more rest)
+          ∙ (λ i. all_stay sorted heavy i ++ none_stays (take more rest) empty i)
+          ∙ append-nil sorted);
     }
 
 -- Heavy paths that are sorted are in the order of a table.

@@ -7,3 +7,4 @@ pub mod Viewing
 pub mod Heaviest
 pub mod Reversing
 pub mod Choosing
+pub mod Growing

@@ -1,12 +1,11 @@
--- Marks by the bytes of another graph, and the graph of the paths that have a warning.
+-- The bytes of paths in another graph, and the graph of the paths that have a warning.
 use Rattle.std.proofs.Common.{◌≡◌, ℕ, ◌≤◌, Bor, IfSome, IfNone, option_copied, cond, [], ◌∷◌, Option, Some, None}
 use Rattle.std.proofs.Common.{refl, sym, unwrap_or, arith, ◌==◌, not, List, map, sum_by}
 use Rattle.allocative_picture.proofs.Common.{entries, Path, Graph, total_at, is_same_path, sum_by-le-sum_by}
 use Rattle.allocative_picture.proofs.Common.{sum_by-cons, Key, size_at, begins, IsBehind, HasNothing, default}
-use Rattle.allocative_picture.proofs.Common.{mark_with, mark_by, mark_in, warned_mark, warning_of, list_any}
+use Rattle.allocative_picture.proofs.Common.{mark_by, size_in, total_in, warned_mark, warning_of, list_any}
 use Rattle.allocative_picture.proofs.Common.{graph_of_path, path_total, size_at-path, eq_by_cmp_equiv}
 use Rattle.allocative_collectors.specs.declared.output.WarnedPath.{WarnedPath}
-use Rattle.allocative_picture.specs.declared.frames.Marks.{Marks}
 use Rattle.allocative_picture.specs.declared.frames.Marks.TheVariants as marks
 use Rattle.allocative_picture.specs.Frames.{is_warned}
 use Rattle.allocative_graph.proofs.Graphs.{added_up, size_at-added_up, size_at-default}
@@ -16,18 +15,22 @@ fewer : (p q : Path) (k : Key) (n : ℕ) → cond (begins (k ∷ p) q) n 0 ≤ c
 fewer p [] k n = omega arith
 fewer p (l ∷ q) k n = grind arith
 
--- What is found below a key of the graph marks each path below the key. If nothing is found, each is marked as one
--- with 0 bytes.
-pub marks_found : (g : Graph) (k : Key) (o : Option (Bor Graph)) → IfSome o (λ h. IsBehind g (k ∷ []) h.now) →
-    IfNone o (HasNothing g (k ∷ [])) → (m : Marks) (p : Path) → mark_by m g (k ∷ p) ≡ mark_in m (option_copied o) p
-marks_found g k None some h m p =
-    let size : size_at g (k ∷ p) ≡ 0 = grind (arith, h.below p) in
+-- What is found below a key of the graph has each path below the key with its own bytes. If nothing is found, there are
+-- none.
+pub sizes_found : (g : Graph) (k : Key) (o : Option (Bor Graph)) → IfSome o (λ h. IsBehind g (k ∷ []) h.now) →
+    IfNone o (HasNothing g (k ∷ [])) → (p : Path) → size_at g (k ∷ p) ≡ size_in (option_copied o) p
+sizes_found g k None some h p = grind (arith, h.below p)
+sizes_found g k (Some b) h none p = λ i. unwrap_or (sym (h.sizes p) i) 0
+
+-- So it is with the bytes of a path and of all paths below it.
+pub totals_found : (g : Graph) (k : Key) (o : Option (Bor Graph)) → IfSome o (λ h. IsBehind g (k ∷ []) h.now) →
+    IfNone o (HasNothing g (k ∷ [])) → (p : Path) → total_at g (k ∷ p) ≡ total_in (option_copied o) p
+totals_found g k None some h p =
     let le : total_at g (k ∷ p) ≤ total_at g (k ∷ []) =
     sum_by-le-sum_by (λ e. cond (begins (k ∷ p) e.0) e.1 0) (λ e. cond (begins (k ∷ []) e.0) e.1 0) (entries g)
     (λ e. fewer p e.0 k e.1) in
-    let total : total_at g (k ∷ p) ≡ 0 = omega (arith, le, h.nothing) in
-    λ i. mark_with m (size i) (total i)
-marks_found g k (Some b) h none m p = λ i. mark_with m (unwrap_or (sym (h.sizes p) i) 0) (sym (h.totals p) i)
+    omega (arith, le, h.nothing)
+totals_found g k (Some b) h none p = sym (h.totals p)
 
 -- The graph with a byte at the path of a warning.
 abbrev byte_at : WarnedPath → Graph

@@ -77,7 +77,16 @@ mark_with marks.Earlier own whole = Changed whole
 abbrev pub mark_by : Marks → Graph → Path → Mark
 mark_by m g p = mark_with m (size_at g p) (total_at g p)
 
+-- The own bytes of a path in a graph, if there is one, and otherwise none.
+abbrev pub size_in : Option Graph → Path → ℕ
+size_in None p = 0
+size_in (Some g) p = size_at g p
+
+-- The bytes of a path and of all paths below it in a graph, if there is one, and otherwise none.
+abbrev pub total_in : Option Graph → Path → ℕ
+total_in None p = 0
+total_in (Some g) p = total_at g p
+
 -- The mark of a path, by its bytes in a graph if there is one, and else by none.
 abbrev pub mark_in : Marks → Option Graph → Path → Mark
-mark_in m None p = mark_with m 0 0
-mark_in m (Some g) p = mark_by m g p
+mark_in m o p = mark_with m (size_in o p) (total_in o p)

@@ -3,10 +3,9 @@ ghost use Rattle.std.specs.Prelude.{◌≡◌, ◌+◌, ◌<◌, ◌^◌, ◌++�
 ghost use Rattle.allocative_graph.specs.Graph.{total, size_at};
 ghost use Rattle.allocative_graph.specs.Rows.{figures_behind};
 ghost use Rattle.allocative_graph.specs.Path.{Path};
-ghost use Rattle.allocative_picture.specs.Frames.{frame_data, shown_key, frames_from, frame_from, mark_by, mark_in, warned_mark};
+ghost use Rattle.allocative_picture.specs.Frames.{frame_data, shown_key, frames_from, frame_from, mark_by, mark_in, size_in, total_in, warned_mark};
 ghost use Rattle.allocative_picture.specs.Boxes.{is_drawn};
 ghost use Rattle.allocative_collectors.specs.Warned.{warning_of};
-ghost use Rattle.allocative_picture.specs.declared.frames.Marks.{Marks};
 ghost use Rattle.allocative_graph.specs.Rows as frames;
 
 use crate::boxes::is_drawn;
@@ -54,10 +53,10 @@ impl Marks {
 }
 
 /// What the other graph has at a key and below it.
-#[tactic(auto, using(crate::proofs::Marking::marks_found))]
-fn below<'a>(other: Option<&'a FlameGraph>, key: &Key) -> Option<&'a FlameGraph>
-    ensures { (marks : Marks) (p : Path)
-        → mark_in marks (option_copied other.entry) (key.now ∷ p) ≡ mark_in marks (option_copied result) p }
+#[tactic(auto, using(crate::proofs::Marking::sizes_found, crate::proofs::Marking::totals_found))]
+pub(crate) fn below<'a>(other: Option<&'a FlameGraph>, key: &Key) -> Option<&'a FlameGraph>
+    ensures sizes { (p : Path) → size_in (option_copied other.entry) (key.now ∷ p) ≡ size_in (option_copied result) p }
+    ensures totals { (p : Path) → total_in (option_copied other.entry) (key.now ∷ p) ≡ total_in (option_copied result) p }
 {
     other?.get(&[key.as_str()])
 }

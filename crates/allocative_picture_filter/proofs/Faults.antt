@@ -1,7 +1,7 @@
 -- Faults and their status.
 use Rattle.std.proofs.Common.{◌≡◌, inl, inr, ℕ, ◌^◌, ◌≤◌, List, [], ◌∷◌, Option, None, Some, Ok, Err, Result, refl}
 use Rattle.std.proofs.Common.{IfSome, IfErr, IsErrOf, IsErrAnd}
-use Rattle.allocative_picture_filter.proofs.Common.{Graph, Fault, Text, Memory, Writing}
+use Rattle.allocative_picture_filter.proofs.Common.{Graph, Fault, Text, Writing}
 use Rattle.allocative_picture_filter.proofs.Common.{fault_of}
 use Rattle.allocative_picture_filter.specs.Run.{Sourced, StopsAddingUp, StopsJoining, Stops}
 use Rattle.allocative_graph.specs.declared.refusal.Refusal as refusal

@@ -7,11 +7,10 @@ use Rattle.allocative_picture_filter.proofs.Common.{Input, IsReadingOf, text, If
 use Rattle.allocative_picture_filter.proofs.Faults.{holds-of, of_each}
 use Rattle.allocative_picture.specs.declared.options.Options.{Options}
 use Rattle.allocative_picture_filter.specs.Run.{Sourced, sourced, AddUp, StopsAddingUp, without_mark, Adds, AddUpOnto}
-use Rattle.allocative_picture_filter.specs.Run.{StopsAdding, StopsProfile, IsShown, IsOptions, Writes}
+use Rattle.allocative_picture_filter.specs.Run.{StopsAdding, StopsProfile, IsShown, IsOptions, IsTableOf, Writes}
 use Rattle.allocative_picture_filter.specs.Run.{is_outlined, limit_of}
 use Rattle.allocative_picture_filter.specs.declared.arguments.Arguments.{Arguments}
 use Rattle.allocative_picture.specs.Picture.{change_drawing, profile_drawing}
-use Rattle.allocative_picture.specs.Table.{IsTable}
 use Rattle.allocative_picture.specs.Views.{IsOutline, by_last_key}
 
 -- ---- one text after another
@@ -87,5 +86,5 @@ writes-picture asked change g h o made no_text no_lines options is =
     let Pictures : Type 0 = (p : Options) × IsOptions asked p × (made ≡ cond change (change_drawing p g h) (profile_drawing p h)) in
     let e : asked.top ≡ 0 = omega arith in
     let no_table : nat_lt 0 asked.top ≡ false = ap (λ n. nat_lt 0 n) e in
-    subst (λ (b : Bool). MatchBool b (made ≡ text h) (MatchBool (nat_lt 0 asked.top) (IsTable asked.top h made) Pictures)) (sym no_text)
-    (subst (λ (b : Bool). MatchBool b (IsTable asked.top h made) Pictures) (sym no_table) (o, options, is))
+    subst (λ (b : Bool). MatchBool b (made ≡ text h) (MatchBool (nat_lt 0 asked.top) (IsTableOf asked change g h made) Pictures)) (sym no_text)
+    (subst (λ (b : Bool). MatchBool b (IsTableOf asked change g h made) Pictures) (sym no_table) (o, options, is))

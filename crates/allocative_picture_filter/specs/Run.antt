@@ -5,9 +5,11 @@ use Rattle.std.specs.List.{starts_with}
 use Rattle.allocative_graph.specs.Graph.{Graph, default, sum_of, text, total}
 use Rattle.allocative_graph.specs.Read.{IsRead, IsFault, Exceeds}
 use Rattle.allocative_picture.specs.Picture.{profile_drawing, change_drawing}
-use Rattle.allocative_picture.specs.Table.{IsTable}
+use Rattle.allocative_picture.specs.Table.{IsGrowthTable, IsTable}
 use Rattle.allocative_picture.specs.Views.{IsOutline, by_last_key, only, paths_of, reversed, without}
 use Rattle.allocative_picture.specs.declared.options.Options.{Options}
+use Rattle.allocative_picture.specs.declared.table.Size.{Size}
+use Rattle.allocative_picture.specs.declared.table.Size.TheVariants.{Own, Total}
 use Rattle.allocative_picture_filter.specs.Differential.{IsDifferential}
 use Rattle.allocative_picture_filter.specs.Fault.{IsReadingOf}
 use Rattle.allocative_picture_filter.specs.declared.arguments.Arguments.{Arguments}
@@ -60,9 +62,9 @@ abbrev pub AddUp : List Sourced → Graph → Type 0
 AddUp ts h = AddUpOnto default ts h
 
 -- ---- what is shown
--- Whether the picture of a change is asked for, if there are so many earlier texts.
+-- Whether a change is asked for, if there are so many earlier texts.
 abbrev pub is_change : Arguments → ℕ → Bool
-is_change asked before = not (asked.as_text || nat_lt 0 asked.top || (before == 0))
+is_change asked before = not (asked.as_text || (before == 0))
 
 -- What g has within the paths that are asked for, or g if none is.
 abbrev pub within : Arguments → Graph → Graph
@@ -105,11 +107,20 @@ pub record IsOptions (asked : Arguments) (o : Options) : Type 0 where
   pub narrowest : o.narrowest ≡ asked.narrowest
   pub unit : o.unit ≡ asked.unit
 
+-- Which bytes a table shows: those of a path with all paths below it if they are asked for, and otherwise its own.
+abbrev pub size_of : Arguments → Size
+size_of asked = cond asked.inclusive Total Own
+
+-- The text is the table that the arguments ask for: of the paths of h that grew most since g, or of its heaviest paths.
+abbrev pub IsTableOf : Arguments → Bool → Graph → Graph → List ℕ → Type 0
+IsTableOf asked change g h made =
+    MatchBool change (IsGrowthTable (size_of asked) asked.top g h made) (IsTable (size_of asked) asked.top h made)
+
 -- What is written of the earlier graph and of the later one is what the arguments ask for: the text of the later graph;
--- the table of its heaviest paths; the picture of the change; or its own picture.
+-- the table; the picture of the change; or the later graph's own picture.
 abbrev pub Writes : Arguments → Bool → Graph → Graph → List ℕ → Type 0
 Writes asked change g h made = MatchBool asked.as_text (made ≡ text h)
-    (MatchBool (nat_lt 0 asked.top) (IsTable asked.top h made)
+    (MatchBool (nat_lt 0 asked.top) (IsTableOf asked change g h made)
     ((o : Options) × IsOptions asked o × (made ≡ cond change (change_drawing o g h) (profile_drawing o h))))
 
 -- What is written of the graphs g and h is what the arguments ask for, of what is shown of them.

@@ -30,6 +30,8 @@ pub struct Arguments<'a> {
     pub fold: u32,
     /// How many lines of a table are written in place of the picture, or 0 if the picture is.
     pub top: u32,
+    /// Whether a table shows the bytes of a path with all paths below it, and not its own.
+    pub inclusive: bool,
     /// Whether to add up the paths that end in a key.
     pub by_last_key: bool,
     /// The files of the earlier profile. If there is one, the picture is that of a change.
@@ -59,6 +61,7 @@ fn command<'a>(alloc: Global) -> Result<Command<'a>, AllocError> {
         .arg(flag(alloc, "text"))?
         .arg(flag(alloc, "not-empty"))?
         .arg(flag(alloc, "by-last-key"))?
+        .arg(flag(alloc, "inclusive"))?
         .arg(flag(alloc, "reverse"))?
         .arg(option(alloc, "title", "TEXT"))?
         .arg(option(alloc, "narrowest", "WIDTH"))?
@@ -114,18 +117,23 @@ fn paths_of<'a>(
 }
 
 // What is wrong with arguments that ask for this together.
-fn discord_of(inputs: usize, as_text: bool, top: u32, before: &[&str]) -> Option<&'static str> {
-    let is_change = !before.is_empty();
+fn discord_of(
+    inputs: usize,
+    as_text: bool,
+    top: u32,
+    inclusive: bool,
+    before: &[&str],
+) -> Option<&'static str> {
     if inputs > 1 {
         Some("repeated argument -")
     } else if before.iter().any(|name| *name == "-") {
         Some("--before takes the name of a file, not -")
-    } else if as_text && is_change {
+    } else if as_text && !before.is_empty() {
         Some("--text does not go with --before")
-    } else if top > 0 && is_change {
-        Some("--top does not go with --before")
     } else if as_text && top > 0 {
         Some("--text does not go with --top")
+    } else if inclusive && top == 0 {
+        Some("--inclusive goes with --top alone")
     } else {
         None
     }
@@ -151,8 +159,8 @@ fn asked_by<'a>(alloc: Global, matches: &ArgMatches<'a>) -> Result<Arguments<'a>
     let after = files_among(alloc, names)?;
     let inputs = names.iter().filter(|name| **name == "-").count();
     let before = matches.get_strs("before").unwrap_or(&[]);
-    let as_text = matches.get_flag("text");
-    if let Some(discord) = discord_of(inputs, as_text, top, before) {
+    let (as_text, inclusive) = (matches.get_flag("text"), matches.get_flag("inclusive"));
+    if let Some(discord) = discord_of(inputs, as_text, top, inclusive, before) {
         return Err(Fault::Arguments(String::from_str(alloc, discord)?));
     }
     let unit = matches.get_str("unit").unwrap_or("bytes");
@@ -173,6 +181,7 @@ fn asked_by<'a>(alloc: Global, matches: &ArgMatches<'a>) -> Result<Arguments<'a>
         depth,
         fold,
         top,
+        inclusive,
         by_last_key: matches.get_flag("by-last-key"),
         before: Vec::from_slice(alloc, before)?,
         reads_input: inputs > 0 || after.is_empty(),
@@ -180,12 +189,13 @@ fn asked_by<'a>(alloc: Global, matches: &ArgMatches<'a>) -> Result<Arguments<'a>
     })
 }
 
-/// Reads the arguments by `clap`: `--text`, `--not-empty`, `--by-last-key`, `--reverse`, `--title` and `--unit` with a
-/// text, `--narrowest`, `--depth`, `--fold` and `--top` with a number, `--only` and `--without` with a path, `--before`
-/// with the name of a file, names of files, and `-` for the input, which is also read if no file of the profile is
-/// named. Of several uses of one with a text or a number the last one counts. It fails with `Fault::Arguments` if
-/// `clap` refuses the words, if a number is not below 2^32 in decimal digits alone, if `-` is repeated or given to
-/// `--before`, or if two of a text, a table and a change are asked for. The only other error is `Fault::Memory`.
+/// Reads the arguments by `clap`: `--text`, `--not-empty`, `--by-last-key`, `--inclusive`, `--reverse`, `--title` and
+/// `--unit` with a text, `--narrowest`, `--depth`, `--fold` and `--top` with a number, `--only` and `--without` with a
+/// path, `--before` with the name of a file, names of files, and `-` for the input, which is also read if no file of
+/// the profile is named. Of several uses of one with a text or a number the last one counts. It fails with
+/// `Fault::Arguments` if `clap` refuses the words, if a number is not below 2^32 in decimal digits alone, if `-` is
+/// repeated or given to `--before`, if a text is asked for with a table or a change, or if `--inclusive` is, but no
+/// table. The only other error is `Fault::Memory`.
 pub fn read_arguments<'a>(alloc: Global, words: &'a [String]) -> Result<Arguments<'a>, Fault<'a>> {
     match command(alloc)?.try_get_matches_from(words) {
         Ok(matches) => asked_by(alloc, &matches),

@@ -4,7 +4,7 @@ ghost use Rattle.std.specs.Io.KnownBytes.{Appends};
 ghost use Rattle.allocative_graph.specs.Graph.{Graph, default, total};
 ghost use Rattle.allocative_io.specs.Streams.{AppendsBeginning};
 ghost use Rattle.allocative_picture_filter.specs.Fault.{IsReadingOf};
-ghost use Rattle.allocative_picture_filter.specs.Run.{sourced, without_mark, later_texts, Reads, Adds, AddUp, StopsReading, StopsAdding, StopsAddingUp, StopsProfile, Stops, IsMade, IsShown, Shows, Writes, guide_of, is_change, is_outlined, limit_of, part_of, turned, within};
+ghost use Rattle.allocative_picture_filter.specs.Run.{sourced, without_mark, later_texts, Reads, Adds, AddUp, StopsReading, StopsAdding, StopsAddingUp, StopsProfile, Stops, IsMade, IsShown, IsTableOf, Shows, Writes, guide_of, is_change, is_outlined, limit_of, part_of, size_of, turned, within};
 ghost use Rattle.allocative_picture.specs.Views.{IsOutline};
 
 use crate::arguments::Arguments;
@@ -16,7 +16,7 @@ use allocative_graph::refusal::Refusal;
 use allocative_io::{ReadError, read_input, write_text};
 use allocative_picture::options::Options;
 use allocative_picture::picture::{change_picture, picture};
-use allocative_picture::table::table;
+use allocative_picture::table::{Size, growth_table, table};
 use allocative_picture::views::{by_last_key, only, outline, reverse, without};
 use std::alloc::{AllocError, Global};
 use std::io::{Read, Write};
@@ -169,11 +169,11 @@ fn part_of(
     without(alloc, &kept, asked.without.as_slice())
 }
 
-// Whether the picture of a change is asked for, if there are so many earlier texts.
+// Whether a change is asked for, if there are so many earlier texts.
 fn is_change(asked: &Arguments<'_>, before: usize) -> bool
     ensures { result ≡ is_change asked.now before }
 {
-    !(asked.as_text || asked.top > 0 || before == 0)
+    !(asked.as_text || before == 0)
 }
 
 // Whether graphs are outlined.
@@ -258,6 +258,35 @@ fn shown(
     Ok(outlined)
 }
 
+// Which bytes a table shows.
+fn size_of(asked: &Arguments<'_>) -> Size
+    ensures { result ≡ size_of asked.now }
+{
+    if asked.inclusive {
+        Size::Total
+    } else {
+        Size::Own
+    }
+}
+
+// The table of what is shown, or of how it grew.
+fn table_of(
+    alloc: Global,
+    asked: &Arguments<'_>,
+    change: bool,
+    earlier: &FlameGraph,
+    later: &FlameGraph,
+) -> Result<String, AllocError>
+    ensures { IfOk result (λ made. IsTableOf asked.now change earlier.now later.now (string_bytes made)) }
+{
+    let (size, most) = (size_of(asked), asked.top as usize);
+    if change {
+        growth_table(alloc, earlier, later, size, most)
+    } else {
+        table(alloc, later, size, most)
+    }
+}
+
 // What is written of what is shown: the text, the table, the picture, or that of a change.
 fn written(
     alloc: Global,
@@ -280,7 +309,7 @@ fn written(
     if asked.as_text {
         later.write()
     } else if asked.top > 0 {
-        Ok(table(alloc, later, asked.top as usize)?)
+        Ok(table_of(alloc, asked, change, earlier, later)?)
     } else if change {
         change_picture(alloc, earlier, later, &options)
     } else {
@@ -363,7 +392,7 @@ fn make<'a, R: Read>(
 /// Runs the program but for reading its arguments and files.
 ///
 /// After Ok what the arguments ask for is on the output: the picture of the graph that all texts add up to, that of the
-/// change to it from the graph of the earlier texts, or its text. After `Fault::Writing` a beginning of that is on the
+/// change to it from the graph of the earlier texts, the table of either, or its text. After `Fault::Writing` a beginning of that is on the
 /// output. After any other fault nothing goes to the output. The earlier texts are added up first, then the others, and
 /// the input last; the fault is the first one. It is `Fault::TooLarge` if the bytes of all lines of a profile exceed
 /// `usize::MAX`, or those of both parts that a change is made of.

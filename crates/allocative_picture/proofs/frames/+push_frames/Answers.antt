@@ -3,7 +3,7 @@ use Rattle.std.proofs.Common.{◌≡◌, refl, ◌+◌, ◌^◌, ◌<◌, ◌++�
 use Rattle.std.proofs.Common.{append-nil, ◌∙◌, filter, flat_map, take_all}
 use Rattle.allocative_picture.proofs.Common.{is_drawn, len, Child, Path, total, total_of, FrameData}
 use Rattle.allocative_picture.proofs.Common.{frame_data, frames_from, frame_from, filter-append, size_at}
-use Rattle.allocative_picture.proofs.Common.{total-node, texts, popped, child_figures, sum_by-take-le, mark_by}
+use Rattle.allocative_picture.proofs.Common.{total-node, texts, popped, child_figures, sum_by-take-le, mark_by, mark_with}
 use Rattle.allocative_picture.proofs.Placing.{pushed_key, total_of_more, child_rows, node_rows}
 use Rattle.allocative_picture.proofs.frames.+push_frames.Goals as goal
 
@@ -26,7 +26,8 @@ push_frames-requires t c =
       (
         omega (arith, ap total c.children-children.ensures.whole, total-node (size_at g []) cs c.children-children.ensures.children.sorted, c.self_size.ensures, c.requires.fits, c.loop-child.invariant.before, total_of_more cs i d (omega arith) c.child-item.is, sum_by-take-le (λ (x : Child). total x.graph) cs (i + 1)),
         λ p. ap (λ (q : Path). M (q ++ p)) behind_it ∙ ap M (append_assoc ks (d.key ∷ []) p)
-            ∙ c.requires.other (d.key ∷ p) ∙ c.below-below.ensures c.args.shown.now.marks p,
+            ∙ c.requires.other (d.key ∷ p)
+            ∙ (λ j. mark_with c.args.shown.now.marks (c.below-below.ensures.sizes p j) (c.below-below.ensures.totals p j)),
       ),
     )
 

@@ -1,5 +1,5 @@
 -- of only: its total and its sizes
-use Rattle.std.proofs.Common.{ap, ◌∙◌, IfOk}
+use Rattle.std.proofs.Common.{ap, ◌∙◌}
 use Rattle.std.proofs.lemmas.Result.{IfOk-weaker}
 use Rattle.allocative_picture.proofs.Common.{Graph, total, size_at}
 use Rattle.allocative_picture.specs.Views.{paths_of}
