@@ -38,9 +38,9 @@ opening height title =
     concat (codes "<svg xmlns=\"http://www.w3.org/2000/svg\" width=\"100%\" height=\"" ∷ decimal height
     ∷ codes "\" font-size=\"12\">\n" ∷ STYLE.now ∷ codes "<title>" ∷ title ∷ codes "</title>\n" ∷ [])
 
--- The arguments of `bin/allocative-picture` that help against n paths without a box, if there are any.
+-- What helps against n paths without a box, if there are any: a lower `Options.narrowest`, and `outline`.
 abbrev pub narrow_hint : ℕ → List ℕ
-narrow_hint n = cond (n == 0) [] (codes ": see --depth, --fold and --narrowest")
+narrow_hint n = cond (n == 0) [] (codes ": lower `narrowest`, or draw an `outline`")
 
 -- The title above a picture, the totals, the number of paths with a box, the number of the others, which are too
 -- narrow for one, and the labels that the script makes clickable.

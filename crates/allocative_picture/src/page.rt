@@ -120,7 +120,7 @@ fn narrow_hint(narrow: usize) -> &'static str
 {
     match narrow {
         0 => "",
-        _ => ": see --depth, --fold and --narrowest",
+        _ => ": lower `narrowest`, or draw an `outline`",
     }
 }
 

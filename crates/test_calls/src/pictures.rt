@@ -7,7 +7,7 @@ use allocative_picture::picture::picture;
 const MARKED: [&str; 4] = [
     "<svg xmlns=\"http://www.w3.org/2000/svg\" width=\"100%\" height=\"158\" font-size=\"12\">\n<style>",
     "<text class=\"title\" x=\"8\" y=\"22\">A &amp; B</text>\n",
-    "<text class=\"sum say\" x=\"8\" y=\"42\">3.0 KiB (3072 bytes) declared; 3 paths drawn, 1 too narrow even for zoom: see --depth, --fold and --narrowest</text>\n",
+    "<text class=\"sum say\" x=\"8\" y=\"42\">3.0 KiB (3072 bytes) declared; 3 paths drawn, 1 too narrow even for zoom: lower `narrowest`, or draw an `outline`</text>\n",
     "Whole</text></svg>\n\
 <svg class=\"b root\" x=\"0.0000%\" y=\"54\" width=\"100.0000%\" height=\"18\"><title>all\n3.0 KiB (3072 bytes), 100.00% of all\n0 B (0 bytes) of its own</title><rect width=\"100%\" height=\"100%\" rx=\"2\"/><text x=\"4\" y=\"13\">all<tspan class=\"n\" dx=\"8\">3.0 KiB</tspan></text></svg>\n\
 <svg class=\"b warned\" x=\"0.0000%\" y=\"72\" width=\"100.0000%\" height=\"18\"><title>Map\n3.0 KiB (3072 bytes), 100.00% of all\n1000 B (1000 bytes) of its own\ndeclared smaller than its parts: see the warnings</title><rect width=\"100%\" height=\"100%\" rx=\"2\"/><text x=\"4\" y=\"13\">Map<tspan class=\"n\" dx=\"8\">3.0 KiB</tspan></text></svg>\n\
