@@ -2,7 +2,6 @@
 use Rattle.std.proofs.Common.{◌≡◌, ℕ, ◌+◌, ◌≤◌, false, List, Option, Some, None, refl, arith, string_bytes}
 use Rattle.std.proofs.Common.{String, Global, true, option_map, Bool}
 use Rattle.allocative_service.specs.Book.{AccountData, all_billed, billed_sum}
-use Rattle.allocative_service.specs.Ledger.{sum_of}
 use Rattle.std.specs.BTreeMap.{is_at, BTreeMap, get_by_text, insert_entry}
 use Rattle.std.specs.Map.{lookup, keys_of, set_value, values_of}
 use Rattle.std.specs.List.Sorted.{IsStrictlySortedBy}
@@ -52,11 +51,11 @@ account_part billed test es h is =
 -- The lemmas on all accounts after one of them was written or removed.
 pub ruleset accounts = (sum_by-written, sum_by-remove_entry, set_value_same, text_keys)
 
--- The bytes of an account of a ledger are part of the sum.
-pub numbered_within : (test : String Global → Bool) (es : List (String Global × AccountData ℕ ℕ)) →
-    (lookup test es ≡ lookup test es)
-    × (unwrap_or (option_map (λ h. sum_of h.entries) (lookup test es)) 0 ≤ all_billed (λ n. n) es)
-numbered_within test es = (refl, omega (arith, sum_by-remove_entry (λ h. sum_of h.entries) test es))
+-- The bytes of an account are part of the sum.
+pub account_within : {K E : Type 0} (billed : E → ℕ) (test : String Global → Bool)
+    (es : List (String Global × AccountData K E)) → (lookup test es ≡ lookup test es)
+    × (unwrap_or (option_map (λ h. billed_sum billed h.entries) (lookup test es)) 0 ≤ all_billed billed es)
+account_within billed test es = (refl, omega (arith, sum_by-remove_entry (λ h. billed_sum billed h.entries) test es))
 
--- The lemmas on all accounts of a ledger after one of them was written or removed.
-pub ruleset numbered = (sum_by-written, sum_by-remove_entry, numbered_within, set_value_same, text_keys)
+-- The lemmas on the sum of all accounts after one of them was written or removed.
+pub ruleset account_sums = (sum_by-written, sum_by-remove_entry, account_within, set_value_same, text_keys)

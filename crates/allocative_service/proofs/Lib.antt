@@ -1,10 +1,9 @@
 mod Accounts
+mod Billing
 mod Each
 mod Evicting
 mod Inserting
 mod Most
-mod Shelving
-mod Storing
 mod Sums
 mod Using
 mod Walk

@@ -49,6 +49,3 @@ overwritten number bytes (e ∷ es) sorted found =
 
 -- The lemmas on an entry that is put.
 pub ruleset puts = (set_value_same, sum_of-insert_entry, sum_of-written, overwritten, had_within)
-
--- The lemmas on the sum of an account.
-pub ruleset sums = (sum_of-remove_entry, sum_of-insert_entry, had_within)

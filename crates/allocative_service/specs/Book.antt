@@ -1,17 +1,20 @@
 -- What a book of accounts holds, and how its calls change it.
-use Rattle.std.specs.Prelude.{◌≡◌, ℕ, ◌-◌, ◌^◌, ◌≤◌, Bool, List, [], Option, None, Some, String}
-use Rattle.std.specs.Prelude.{string_bytes, sum_by, IsSomeAnd}
+use Rattle.std.specs.Prelude.{◌≡◌, ℕ, ◌-◌, ◌^◌, ◌<◌, ◌≤◌, All, Bool, List, [], ◌∷◌, ◌++◌, Option, None, Some, String}
+use Rattle.std.specs.Prelude.{option_map, string_bytes, sum_by, unwrap_or, IsSomeAnd}
 use Rattle.std.specs.BTreeMap.{insert_entry, is_at}
 use Rattle.std.specs.Cmp.Lexicographic.{slice_cmp}
 use Rattle.std.specs.Global.{Global}
-use Rattle.std.specs.Map.{lookup, set_value, values_of}
+use Rattle.std.specs.Map.{lookup, remove_entry, set_value, values_of}
 use Rattle.std.specs.Ordering.{nat_cmp}
 use Rattle.std.specs.String.{string_cmp}
+use Rattle.allocative_service.specs.declared.book.Standing.{Standing}
 use Rattle.allocative_service.specs.declared.measure.Measure.{Measure}
 
 -- ---- an account
--- A limit and a soft limit in bytes, the most bytes that there ever were, and the entries by key, in the keys' order.
+-- Which bytes are counted, a limit and a soft limit in bytes, the most bytes that there ever were, and the entries by
+-- key, in the keys' order.
 pub record AccountData (K E : Type 0) : Type 0 where
+  pub measure : Measure
   pub limit : ℕ
   pub soft_limit : ℕ
   pub peak : ℕ
@@ -21,15 +24,19 @@ pub record AccountData (K E : Type 0) : Type 0 where
 abbrev pub billed_sum : {K E : Type 0} → (E → ℕ) → List (K × E) → ℕ
 billed_sum billed entries = sum_by billed (values_of entries)
 
-module _ {K E : Type 0} where
-  -- An account with these limits, this peak and these entries.
-  abbrev pub account_data : ℕ → ℕ → ℕ → List (K × E) → AccountData K E
-  account_data limit soft_limit peak entries =
-      record { limit = limit; soft_limit = soft_limit; peak = peak; entries = entries }
+-- The bytes of an entry, or 0 if there is none.
+abbrev pub bytes_in : {E : Type 0} → (E → ℕ) → Option E → ℕ
+bytes_in billed had = unwrap_or (option_map billed had) 0
 
-  -- An account with this limit, no soft limit and no entry.
-  abbrev pub new_account : ℕ → AccountData K E
-  new_account limit = account_data limit (2 ^ 64 - 1) 0 []
+module _ {K E : Type 0} where
+  -- An account with this measure, these limits, this peak and these entries.
+  abbrev pub account_data : Measure → ℕ → ℕ → ℕ → List (K × E) → AccountData K E
+  account_data measure limit soft_limit peak entries =
+      record { measure = measure; limit = limit; soft_limit = soft_limit; peak = peak; entries = entries }
+
+  -- An account with this measure and this limit, no soft limit and no entry.
+  abbrev pub new_account : Measure → ℕ → AccountData K E
+  new_account measure limit = account_data measure limit (2 ^ 64 - 1) 0 []
 
   -- The account with this limit.
   abbrev pub with_limit : ℕ → AccountData K E → AccountData K E
@@ -42,6 +49,25 @@ module _ {K E : Type 0} where
   -- The account whose peak is the sum of its entries.
   abbrev pub with_peak_reset : (E → ℕ) → AccountData K E → AccountData K E
   with_peak_reset billed h = record h { peak = billed_sum billed h.entries }
+
+  -- The account without the entry of the key that passes the test.
+  abbrev pub without_entry : (K → Bool) → AccountData K E → AccountData K E
+  without_entry test h = record h { entries = remove_entry test h.entries }
+
+  -- P holds of each key with its entry.
+  abbrev pub AreBilled : (K → E → Type 0) → List (K × E) → Type 0
+  AreBilled P entries = All (λ e. P e.0 e.1) entries
+
+  -- These are the key and the bytes of the first of the entries with the most bytes: those before it have fewer, those
+  -- after it no more.
+  pub record IsLargest (billed : E → ℕ) (entries : List (K × E)) (key : K) (bytes : ℕ) : Type 0 where
+    pub before : List (K × E)
+    pub entry : E
+    pub after : List (K × E)
+    pub is : entries ≡ before ++ ((key, entry) ∷ after)
+    pub has : billed entry ≡ bytes
+    pub fewer : All (λ e. billed e.1 < bytes) before
+    pub no_more : All (λ e. billed e.1 ≤ bytes) after
 
   -- The bytes are exactly the sum of the account's entries, and at most its peak.
   abbrev pub IsSummed : (E → ℕ) → ℕ → AccountData K E → Type 0
@@ -78,8 +104,8 @@ module _ {K E : Type 0} where
   -- The tenant has a new account with this limit, where it had none. Nothing else changes.
   abbrev pub Opens : List ℕ → ℕ → BookData K E → BookData K E → Type 0
   Opens tenant limit old new = (account_of tenant old ≡ None) × (name : String Global) × (string_bytes name ≡ tenant)
-      × (account_of tenant new ≡ Some (new_account limit))
-      × (new ≡ with_accounts (insert_entry string_cmp old.accounts name (new_account limit)) old)
+      × (account_of tenant new ≡ Some (new_account old.measure limit))
+      × (new ≡ with_accounts (insert_entry string_cmp old.accounts name (new_account old.measure limit)) old)
 
   -- The tenant, which has an account, has this one in its place. Nothing else changes.
   abbrev pub SetsAccount : List ℕ → AccountData K E → BookData K E → BookData K E → Type 0
@@ -89,3 +115,9 @@ module _ {K E : Type 0} where
   -- The tenant has an account, which is now what f makes of it. Nothing else changes.
   abbrev pub MapsAccount : List ℕ → (AccountData K E → AccountData K E) → BookData K E → BookData K E → Type 0
   MapsAccount tenant f old new = IsSomeAnd (account_of tenant old) (λ before. SetsAccount tenant (f before) old new)
+
+  -- The standing has the bytes of the tenant's account, what of them exceeds its limit, and what of the bytes of all
+  -- accounts exceeds the limit of the book.
+  abbrev pub StandsAt : (E → ℕ) → List ℕ → BookData K E → Standing → Type 0
+  StandsAt billed tenant b s = IsSomeAnd (account_of tenant b) (λ h. (s.bytes ≡ billed_sum billed h.entries)
+      × (s.excess ≡ billed_sum billed h.entries - h.limit)) × (s.ledger_excess ≡ all_billed billed b.accounts - b.limit)

@@ -1,5 +1,5 @@
 -- What a ledger holds, and how its calls change it: a book of bytes by number.
-use Rattle.std.specs.Prelude.{◌≡◌, ◌⊎◌, ℕ, Bool, ◌+◌, ◌-◌, ◌^◌, ◌<◌, ◌≤◌, All, List, ◌∷◌, ◌++◌}
+use Rattle.std.specs.Prelude.{◌≡◌, ◌⊎◌, ℕ, Bool, ◌+◌, ◌^◌, ◌<◌, ◌≤◌, List}
 use Rattle.std.specs.Prelude.{Option, None, Some, IsSome, max, unwrap_or, IsSomeAnd}
 use Rattle.std.specs.BTreeMap.{insert_entry, is_at}
 use Rattle.std.specs.Map.{lookup, remove_entry}
@@ -7,11 +7,10 @@ use Rattle.std.specs.Option.{option_and_then}
 use Rattle.std.specs.Ordering.{nat_cmp}
 use Rattle.allocative.specs.Refusal.{Refusal}
 use Rattle.allocative.specs.Shows.{Showing}
-use Rattle.allocative_service.specs.Book.{AccountData, BookData, account_of, all_billed, billed_sum, SetsAccount}
-use Rattle.allocative_service.specs.declared.ledger.Standing.{Standing}
-use Rattle.allocative_service.specs.declared.ledger.rejection.Rejection.{Rejection}
-use Rattle.allocative_service.specs.declared.ledger.rejection.Rejection.TheVariants.{NotMeasured, NotThere, OverCredit}
-use Rattle.allocative_service.specs.declared.ledger.rejection.Rejection.TheVariants.{Taken, TooLarge}
+use Rattle.allocative_service.specs.Book.{AccountData, BookData, account_of, all_billed, billed_sum, without_entry, SetsAccount}
+use Rattle.allocative_service.specs.declared.book.rejection.Rejection.{Rejection}
+use Rattle.allocative_service.specs.declared.book.rejection.Rejection.TheVariants.{NotMeasured, NotThere, OverCredit}
+use Rattle.allocative_service.specs.declared.book.rejection.Rejection.TheVariants.{Taken, TooLarge}
 use Rattle.allocative_service.specs.Measured.{Declares, MayRefuseMeasure}
 use Rattle.allocative_service.specs.declared.measure.Measure.{Measure}
 use Rattle.allocative_service.specs.Rejected.{RejectsKept, RejectsRoom}
@@ -30,18 +29,6 @@ bytes_at number h = lookup (is_at (nat_cmp number)) h.entries
 abbrev pub with_bytes : ℕ → ℕ → ℕ → AccountData ℕ ℕ → AccountData ℕ ℕ
 with_bytes number bytes total h =
     record h { peak = max h.peak total; entries = insert_entry nat_cmp h.entries number bytes }
-
--- The account without the entry under the number.
-abbrev pub without : ℕ → AccountData ℕ ℕ → AccountData ℕ ℕ
-without number h = record h { entries = remove_entry (is_at (nat_cmp number)) h.entries }
-
--- This entry is the first of those with the most bytes: those before it have fewer, those after it no more.
-pub record IsLargest (entries : List (ℕ × ℕ)) (largest : ℕ × ℕ) : Type 0 where
-  pub before : List (ℕ × ℕ)
-  pub after : List (ℕ × ℕ)
-  pub is : entries ≡ before ++ (largest ∷ after)
-  pub fewer : All (λ e. e.1 < largest.1) before
-  pub no_more : All (λ e. e.1 ≤ largest.1) after
 
 -- The number now has these bytes in place of `had`. All bytes of the account together are `total`.
 pub record Puts (number bytes : ℕ) (had : Option ℕ) (old new : AccountData ℕ ℕ) (total : ℕ) : Type 0 where
@@ -72,19 +59,12 @@ abbrev pub Enters : List ℕ → ℕ → ℕ → Option ℕ → BookData ℕ ℕ
 Enters tenant number bytes had old new total = Stores tenant number bytes had old new total
     × IsSomeAnd (account_of tenant old) (λ h. total ≤ h.limit) × (total_of new ≤ old.limit)
 
--- The standing has the bytes of the tenant's account, what of them exceeds its limit, and what of the bytes of all
--- accounts exceeds the limit of the ledger.
-abbrev pub StandsAt : List ℕ → BookData ℕ ℕ → Standing → Type 0
-StandsAt tenant l s =
-    IsSomeAnd (account_of tenant l) (λ h. (s.bytes ≡ sum_of h.entries) × (s.excess ≡ sum_of h.entries - h.limit))
-    × (s.ledger_excess ≡ total_of l - l.limit)
-
 -- The number had these bytes in the tenant's account, and its entry is gone. The sum of the account, and that of all
 -- accounts, is less by exactly these bytes. Nothing else changes.
 abbrev pub Releases : List ℕ → ℕ → BookData ℕ ℕ → BookData ℕ ℕ → ℕ → Type 0
 Releases tenant number old new bytes = IsSomeAnd (account_of tenant old) (λ h. (bytes_at number h ≡ Some bytes)
-    × (sum_of (without number h).entries + bytes ≡ sum_of h.entries)
-    × SetsAccount tenant (without number h) old new) × (total_of new + bytes ≡ total_of old)
+    × (sum_of (remove_entry (is_at (nat_cmp number)) h.entries) + bytes ≡ sum_of h.entries)
+    × SetsAccount tenant (without_entry (is_at (nat_cmp number)) h) old new) × (total_of new + bytes ≡ total_of old)
 
 -- Replacing the `had` bytes of one entry of this account by `bytes` is rejected. The bytes and the limit of all
 -- accounts are the ledger's.

@@ -3,7 +3,6 @@ pub mod Book
 pub mod Ledger
 pub mod Rejected
 pub mod Entries
-pub mod Shelf
 pub mod Store
 pub mod Changes
 pub mod Walk

@@ -6,8 +6,8 @@ use Rattle.allocative.specs.Shows.{Showing}
 use Rattle.allocative.specs.SizeOf.{IsSizeOfOwned, IsSizeOfUnique, MayRefuseOwned, MayRefuseSize, AnswersOwned}
 use Rattle.allocative.specs.SizeOf.{AnswersSize, AnswersVisit, IsSizeOfShown, RefusesShown}
 use Rattle.allocative.specs.Visited.{Effect}
-use Rattle.allocative_service.specs.declared.ledger.rejection.Rejection.{Rejection}
-use Rattle.allocative_service.specs.declared.ledger.rejection.Rejection.TheVariants.{NotMeasured}
+use Rattle.allocative_service.specs.declared.book.rejection.Rejection.{Rejection}
+use Rattle.allocative_service.specs.declared.book.rejection.Rejection.TheVariants.{NotMeasured}
 use Rattle.allocative_service.specs.declared.measure.Measure.{Measure}
 use Rattle.allocative_service.specs.declared.measure.Measure.TheVariants.{Owned, Shown, Unique}
 

@@ -1,12 +1,11 @@
 -- Why data is not admitted.
 use Rattle.std.specs.Prelude.{◌≡◌, ◌⊎◌, ℕ, ◌+◌, ◌^◌, ◌<◌, ◌≤◌, Bool, false, true, Option, Some, None, IsSome, IfSome, OnSome}
 use Rattle.std.specs.Prelude.{unwrap_or, Result, Ok, Err}
-use Rattle.allocative.specs.Refusal.{Refusal}
 use Rattle.allocative.specs.Shows.{Showing}
-use Rattle.allocative_service.specs.declared.ledger.rejection.Rejection.{Rejection}
-use Rattle.allocative_service.specs.declared.ledger.rejection.Rejection.TheVariants.{HasAccount, LedgerFull, NoAccount}
-use Rattle.allocative_service.specs.declared.ledger.rejection.Rejection.TheVariants.{NotKept, NotMeasured, OverBudget}
-use Rattle.allocative_service.specs.declared.ledger.rejection.Rejection.TheVariants.{TooLarge}
+use Rattle.allocative_service.specs.declared.book.rejection.Rejection.{Rejection}
+use Rattle.allocative_service.specs.declared.book.rejection.Rejection.TheVariants.{HasAccount, LedgerFull, NoAccount}
+use Rattle.allocative_service.specs.declared.book.rejection.Rejection.TheVariants.{NotKept, NotMeasured, OverBudget}
+use Rattle.allocative_service.specs.declared.book.rejection.Rejection.TheVariants.{TooLarge}
 use Rattle.allocative_service.specs.declared.measure.Measure.{Measure}
 use Rattle.allocative_service.specs.Measured.{Declares, MayRefuseMeasure}
 

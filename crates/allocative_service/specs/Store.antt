@@ -1,58 +1,122 @@
--- The model of a store, and what its calls do.
-use Rattle.std.specs.Prelude.{◌≡◌, ℕ, ◌-◌, ◌^◌, ◌<◌, List, Option, None, [], String, string_bytes, sum_by, IsSomeAnd}
-use Rattle.std.specs.BTreeMap.{insert_entry}
-use Rattle.std.specs.Global.{Global}
-use Rattle.std.specs.Map.{lookup, set_value, values_of}
-use Rattle.std.specs.String.{string_cmp}
-use Rattle.allocative_service.specs.Book.{is_tenant}
-use Rattle.allocative_service.specs.Entries.{bytes_of}
-use Rattle.allocative_service.specs.Shelf.{Shelved, shelved}
-use Rattle.allocative_service.specs.declared.ledger.Standing.{Standing}
+-- What a store keeps, and how its calls change it: a book of values by key.
+use Rattle.std.specs.Prelude.{◌≡◌, ◌⊎◌, ℕ, ◌+◌, ◌^◌, ◌≤◌, Bool, List, Option, None, Some, max, option_map, unwrap_or}
+use Rattle.std.specs.Prelude.{IsSomeAnd}
+use Rattle.std.specs.declared.cmp.Ordering.{Ordering}
+use Rattle.std.specs.BTreeMap.{insert_entry, is_at}
+use Rattle.std.specs.Map.{lookup, lookup_key, set_value}
+use Rattle.allocative.specs.Forest.{Forest}
+use Rattle.allocative.specs.Refusal.{Refusal}
+use Rattle.allocative_service.specs.Book.{AccountData, BookData, account_of, billed_sum, bytes_in}
+use Rattle.allocative_service.specs.Book.{SetsAccount}
+use Rattle.allocative_service.specs.Measured.{Declares, MayRefuseMeasure}
+use Rattle.allocative_service.specs.Rejected.{HasRoom, RejectsKept}
+use Rattle.allocative_service.specs.declared.book.rejection.Rejection.{Rejection}
+use Rattle.allocative_service.specs.declared.book.rejection.Rejection.TheVariants.{NotMeasured, TooLarge}
+use Rattle.allocative_service.specs.declared.cache.error.Refused.{Refused}
 use Rattle.allocative_service.specs.declared.measure.Measure.{Measure}
+use Rattle.allocative_service.specs.declared.store.shelf.Entry.{Entry}
 
--- The model of a store: the shelf of each tenant, in the order of their names, the limit on the bytes of all values, and
--- which bytes are counted.
-pub record Stored (K V : Type 0) : Type 0 where
-  pub shelves : List (String Global × Shelved K V)
-  pub limit : ℕ
-  pub measure : Measure
+-- The bytes that are billed for an entry.
+abbrev pub bytes_of : {V : Type 0} → Entry V → ℕ
+bytes_of e = e.bytes
+
+-- The account of one tenant's values.
+abbrev pub Shelved : Type 0 → Type 0 → Type 0
+Shelved K V = AccountData K (Entry V)
 
 module _ {K V : Type 0} where
-  -- The store with these shelves, this limit and this measure.
-  abbrev pub stored : List (String Global × Shelved K V) → ℕ → Measure → Stored K V
-  stored shelves limit m = record { shelves = shelves; limit = limit; measure = m }
+  -- The bytes of all keys and values of a shelf.
+  abbrev pub sum_of : Shelved K V → ℕ
+  sum_of h = billed_sum bytes_of h.entries
 
-  -- The store with these shelves in place of its own.
-  abbrev pub with_shelves : List (String Global × Shelved K V) → Stored K V → Stored K V
-  with_shelves shelves s = stored shelves s.limit s.measure
+  -- The value under the key that passes the test.
+  abbrev pub value_at : (K → Bool) → Shelved K V → Option V
+  value_at test h = option_map (λ e. e.value) (lookup test h.entries)
 
-  -- The bytes of the values of all these shelves.
-  abbrev pub all_kept : List (String Global × Shelved K V) → ℕ
-  all_kept shelves = sum_by (λ h. bytes_of h.entries) (values_of shelves)
+  -- The key that the shelf has under this one: an equal key that is there already, or the key itself.
+  abbrev pub stored_key : (K → K → Ordering) → K → Shelved K V → K
+  stored_key cmp key h = unwrap_or (lookup_key (is_at (cmp key)) h.entries) key
 
-  -- The shelf of the tenant.
-  abbrev pub shelf_of : List ℕ → Stored K V → Option (Shelved K V)
-  shelf_of tenant s = lookup (is_tenant tenant) s.shelves
-
-  -- The bytes are exactly those of all values, and fit a word.
-  pub record IsTotal (bytes : ℕ) (s : Stored K V) : Type 0 where
-    pub sum : bytes ≡ all_kept s.shelves
-    pub fits : bytes < 2 ^ 64
+  -- The shelf with these entries, whose bytes are `total` together. Its peak is at least that.
+  abbrev pub with_entries : List (K × Entry V) → ℕ → Shelved K V → Shelved K V
+  with_entries entries total h = record h { peak = max h.peak total; entries = entries }
 
   -- The tenant's shelf is replaced by one of which P holds with the one before it. Nothing else changes.
-  abbrev pub Replaces : List ℕ → (Shelved K V → Shelved K V → Type 0) → Stored K V → Stored K V → Type 0
-  Replaces tenant P old new = IsSomeAnd (shelf_of tenant old) (λ before. IsSomeAnd (shelf_of tenant new) (λ after.
-      P before after × (new ≡ with_shelves (set_value (is_tenant tenant) old.shelves after) old)))
+  abbrev pub Replaces : List ℕ → (Shelved K V → Shelved K V → Type 0) → BookData K (Entry V) → BookData K (Entry V)
+      → Type 0
+  Replaces tenant P old new = IsSomeAnd (account_of tenant old) (λ before. (after : Shelved K V) × P before after
+      × SetsAccount tenant after old new)
 
-  -- The standing has the bytes of the tenant's values, what of them exceeds its limit, and what of the bytes of all
-  -- values exceeds the limit of the store.
-  abbrev pub StoreStands : List ℕ → Stored K V → Standing → Type 0
-  StoreStands tenant s standing = IsSomeAnd (shelf_of tenant s) (λ h. (standing.bytes ≡ bytes_of h.entries)
-      × (standing.excess ≡ bytes_of h.entries - h.limit))
-      × (standing.ledger_excess ≡ all_kept s.shelves - s.limit)
+module _ {K V : Type 0} (key_size : Option ℕ) (key_shows : K → Forest → Type 0) (size : Option ℕ)
+    (may_show : V → Forest → Type 0) where
+  -- By the measure, these are the bytes that the key declares, and those of the key and the value together.
+  pub record IsBill (m : Measure) (key : K) (v : V) (key_bytes bytes : ℕ) : Type 0 where
+    pub value_bytes : ℕ
+    pub of_key : Declares m key_size (key_shows key) key_bytes
+    pub of_value : Declares m size (may_show v) value_bytes
+    pub together : bytes ≡ key_bytes + value_bytes
 
-  -- The tenant has a new shelf with no value, this limit and the measure of the store, where it had none. Nothing else
-  -- changes.
-  abbrev pub Opens : List ℕ → ℕ → Stored K V → Stored K V → Type 0
-  Opens tenant limit old new = (shelf_of tenant old ≡ None) × (name : String Global) × (string_bytes name ≡ tenant)
-      × (new ≡ with_shelves (insert_entry string_cmp old.shelves name (shelved [] limit old.measure)) old)
+  -- The entry has the bytes that its key and its value declare.
+  abbrev pub IsBilled : Measure → K → Entry V → Type 0
+  IsBilled m key e = IsBill m key e.value e.key_bytes e.bytes
+
+  -- The key now has the value, with a bill of the stored key and the value, and the other entries are as they were.
+  -- There was room for it in place of what the key had, where all shelves had `all` bytes and may have `most`.
+  pub record PutsOnShelf (cmp : K → K → Ordering) (all most : ℕ) (key : K) (v : V) (old new : Shelved K V) : Type 0
+    where
+      pub entry : Entry V
+      pub total : ℕ
+      pub value : entry.value ≡ v
+      pub billed : IsBilled old.measure (stored_key cmp key old) entry
+      pub room : HasRoom all (Some most) (sum_of old) old.limit (bytes_in bytes_of (lookup (is_at (cmp key)) old.entries))
+          entry.bytes
+      pub total_is : total + bytes_in bytes_of (lookup (is_at (cmp key)) old.entries) ≡ sum_of old + entry.bytes
+      pub is : new ≡ with_entries (insert_entry cmp old.entries key entry) total old
+
+  -- Why a shelf refuses the value under the key, where all shelves have `all` bytes and may have `most`: a key that it
+  -- does not have, or the value, could not be measured, or a bill of the stored key and the value is not kept in place
+  -- of what the key has.
+  abbrev pub RefusesPut : Bool → Bool → (K → K → Ordering) → ℕ → ℕ → K → V → Shelved K V → Rejection → Type 0
+  RefusesPut key_strict is_strict cmp all most key v h r =
+      ((e : Refusal) × (r ≡ NotMeasured e) × (lookup (is_at (cmp key)) h.entries ≡ None)
+      × MayRefuseMeasure h.measure key_strict key_size (key_shows key) e)
+      ⊎ (((e : Refusal) × (r ≡ NotMeasured e) × MayRefuseMeasure h.measure is_strict size (may_show v) e)
+      ⊎ ((k : ℕ) × (n : ℕ) × IsBill h.measure (stored_key cmp key h) v k n
+      × RejectsKept all most (sum_of h) h.limit (bytes_in bytes_of (lookup (is_at (cmp key)) h.entries)) n r))
+
+module _ {V : Type 0} (size : Option ℕ) (may_show : V → Forest → Type 0) where
+  -- Why the changed value is not kept beside a key of so many bytes, where all other entries have `others`: it could not be
+  -- measured, as the measure says, or the bytes of all that it declares with its key and of the others do not fit a word.
+  abbrev pub RefusesValue : Bool → Measure → ℕ → ℕ → V → Rejection → Type 0
+  RefusesValue is_strict m key_bytes others v (NotMeasured e) = MayRefuseMeasure m is_strict size (may_show v) e
+  RefusesValue is_strict m key_bytes others v TooLarge =
+      (n : ℕ) × Declares m size (may_show v) n × (2 ^ 64 ≤ others + key_bytes + n)
+  RefusesValue is_strict m key_bytes others v _ = ⊥
+
+  module _ {K : Type 0} where
+    -- The value of the key that passes the test was changed as `changed` says, in its place, and has the bytes of its key
+    -- and those that it now declares. The other entries are as they were.
+    pub record KeepsChanged (test : K → Bool) (changed : V → V → Type 0) (old new : Shelved K V) : Type 0 where
+      pub had : Entry V
+      pub entry : Entry V
+      pub value_bytes : ℕ
+      pub total : ℕ
+      pub found : lookup test old.entries ≡ Some had
+      pub changes : changed had.value entry.value
+      pub of_value : Declares old.measure size (may_show entry.value) value_bytes
+      pub of_key : entry.key_bytes ≡ had.key_bytes
+      pub together : entry.bytes ≡ had.key_bytes + value_bytes
+      pub total_is : total + had.bytes ≡ sum_of old + entry.bytes
+      pub is : new ≡ with_entries (set_value test old.entries entry) total old
+
+    -- The value of the key that passes the test was changed as `changed` says, and is refused, where all shelves have
+    -- `all` bytes. The refusal has the key and the changed value.
+    pub record RefusesChanged (is_strict : Bool) (test : K → Bool) (changed : V → V → Type 0) (all : ℕ)
+        (h : Shelved K V) (r : Refused K V Rejection) : Type 0 where
+      pub had : Entry V
+      pub others : ℕ
+      pub found : lookup test h.entries ≡ Some had
+      pub has_key : lookup_key test h.entries ≡ Some r.key
+      pub changes : changed had.value r.value
+      pub without : others + had.bytes ≡ all
+      pub refuses : RefusesValue is_strict h.measure had.key_bytes others r.value r.error

@@ -1,15 +1,20 @@
 //! A book of accounts, as a ledger is one. Contracts see a book as its `accounts`, one for each tenant, its `limit` and
 //! its `measure`.
 ghost use Rattle.std.specs.Prelude.{◌≡◌, ◌+◌, ◌-◌, ◌^◌, ◌<◌, ◌≤◌, ◌↔◌, None, [], IfErr, IfNone, IfSome, IsSomeAnd, IsTrue, MatchOption, OnErr, OnOk, OnSome, option_map};
-ghost use Rattle.std.specs.Map.{remove_entry};
-ghost use Rattle.allocative_service.specs.Book.{IsSummed, MapsAccount, Opens, account_of, all_billed, billed_sum, book_data, is_tenant, with_accounts, with_limit, with_peak_reset, with_soft_limit};
+ghost use Rattle.std.specs.BTreeMap.{is_at};
+ghost use Rattle.std.specs.Map.{lookup, lookup_key, remove_entry};
+ghost use Rattle.std.specs.Option.{option_and_then};
+ghost use Rattle.allocative_service.specs.Book.{IsLargest, IsSummed, MapsAccount, Opens, account_of, all_billed, billed_sum, book_data, is_tenant, with_accounts, without_entry, with_limit, with_peak_reset, with_soft_limit};
 ghost use Rattle.allocative_service.specs.Rejected.{IsLedgerFull, IsOverBudget, RejectsIn, RejectsOpening};
 
 pub mod account;
+pub mod budget;
+pub mod rejection;
+mod shown;
 
 pub use crate::book::account::{Account, Billed};
-use crate::ledger::budget::Budget;
-use crate::ledger::rejection::Rejection;
+pub use crate::book::budget::Budget;
+pub use crate::book::rejection::Rejection;
 use crate::measure::Measure;
 use std::alloc::Global;
 use std::collections::BTreeMap;
@@ -19,7 +24,7 @@ use std::marker::Model;
 /// accounts together are stored beside them. They are above the limit of the book only if growth was entered that
 /// exceeded it.
 #[derive(Drop)]
-pub struct Book<K: Ord, E: Billed> {
+pub struct Book<K: Ord, E: Billed<K>> {
     pub(crate) alloc: Global,
     pub(crate) measure: Measure,
     pub(crate) accounts: BTreeMap<String, Account<K, E>>,
@@ -27,7 +32,7 @@ pub struct Book<K: Ord, E: Billed> {
     pub(crate) limit: usize,
 }
 
-impl<K: Ord, E: Billed> Model for Book<K, E> {
+impl<K: Ord, E: Billed<K>> Model for Book<K, E> {
     ghost use Rattle.std.specs.Prelude.{◌≡◌, ◌<◌, ◌^◌};
     ghost use Rattle.allocative_service.specs.Book.{BookData, all_billed, book_data};
 
@@ -39,7 +44,7 @@ impl<K: Ord, E: Billed> Model for Book<K, E> {
     ghost invariant = { λ b. (b.bytes ≡ all_billed E.billed b.accounts.entries) × (b.bytes < 2 ^ 64) };
 }
 
-impl<K: Ord + Drop, E: Billed> Book<K, E> {
+impl<K: Ord + Drop, E: Billed<K>> Book<K, E> {
     /// A book with no account and no limit of its own. It allocates nothing.
     pub fn new(alloc: Global, measure: Measure) -> Self
         ensures { result ≡ book_data [] (2 ^ 64 - 1) measure }
@@ -100,7 +105,7 @@ impl<K: Ord + Drop, E: Billed> Book<K, E> {
         let Ok(name) = String::from_str(self.alloc, tenant) else {
             return Err(Rejection::NotKept);
         };
-        let account = Account::new(self.alloc, budget);
+        let account = Account::new(self.alloc, self.measure, budget);
         let Ok(_none) = self.accounts.insert(name, account) else {
             return Err(Rejection::NotKept);
         };
@@ -203,4 +208,44 @@ impl<K: Ord + Drop, E: Billed> Book<K, E> {
     {
         Some(self.accounts.get_mut(tenant)?.reset_peak())
     }
+
+    /// The key and the bytes of the tenant's entry with the most bytes; of equals, of the one with the lowest key. None
+    /// if the tenant has no account or no entry.
+    pub fn largest_of(&self, tenant: &str) -> Option<(&K, usize)>
+        ensures { MatchOption (account_of tenant.now self.now) (result ≡ None) (λ h. MatchOption result (h.entries ≡ [])
+            (λ found. IsLargest E.billed h.entries found.0.now found.1)) }
+    {
+        self.accounts.get(tenant)?.largest()
+    }
+
+    /// Removes the tenant's entry under the key, and returns it with its key. If there is none, it returns None and
+    /// nothing changes.
+    #[tactic(auto, using(crate::proofs::Accounts::account_sums))]
+    pub(crate) fn take(&mut self, tenant: &str, key: &K) -> Option<(K, E)>
+        ensures key { option_map (λ e. e.0) result
+            ≡ option_and_then (λ h. lookup_key (is_at (K.cmp key.now)) h.entries) (account_of tenant.now self.old) }
+        ensures entry { option_map (λ e. e.1) result
+            ≡ option_and_then (λ h. lookup (is_at (K.cmp key.now)) h.entries) (account_of tenant.now self.old) }
+        ensures taken { OnSome result
+            (MapsAccount tenant.now (without_entry (is_at (K.cmp key.now))) self.old self.new) }
+        ensures unchanged { IfNone result (self.new ≡ self.old) }
+        ensures all { IfSome result (λ e. all_billed E.billed self.new.accounts + E.billed e.1
+            ≡ all_billed E.billed self.old.accounts) }
+    {
+        let account = self.accounts.get_mut(tenant)?;
+        let (key, entry) = account.remove(key)?;
+        self.bytes -= entry.bytes();
+        Some((key, entry))
+    }
+}
+
+/// What an account has after growth was entered, and by how much that exceeds the limits.
+#[derive(Clone, Copy, Debug, PartialEq, Eq)]
+pub struct Standing {
+    /// The bytes of all entries of the tenant.
+    pub bytes: usize,
+    /// By how many bytes they exceed the tenant's limit, or 0.
+    pub excess: usize,
+    /// By how many bytes all accounts together exceed the limit of the book, or 0.
+    pub ledger_excess: usize,
 }

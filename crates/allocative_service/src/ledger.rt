@@ -1,30 +1,15 @@
 //! A ledger: the bytes of each tenant's values, by number.
 ghost use Rattle.std.specs.Prelude.{◌≡◌, ℕ, ◌+◌, ◌^◌, ◌<◌, ◌≤◌, [], Some, None, Ok, Err, IfOk, IfErr, IfSome, IfNone, IsSomeAnd, MatchOption, OnErr, unwrap_or};
-ghost use Rattle.allocative_service.specs.Book.{account_of};
-ghost use Rattle.allocative_service.specs.Ledger.{bytes_at, entry_of, sum_of, total_of, Enters, IsLargest, RejectsChange, RejectsCredit, RejectsGrowth, RejectsMeasured, RejectsNew, RejectsNewBytes, RejectsPut, Releases, StandsAt, Stores};
+ghost use Rattle.allocative_service.specs.Book.{account_of, StandsAt};
+ghost use Rattle.allocative_service.specs.Ledger.{bytes_at, entry_of, sum_of, total_of, Enters, RejectsChange, RejectsCredit, RejectsGrowth, RejectsMeasured, RejectsNew, RejectsNewBytes, RejectsPut, Releases, Stores};
 ghost use Rattle.allocative_service.specs.Measured.{Declares, Measures};
 ghost use Rattle.allocative_service.specs.Rejected.{RejectsBy, RejectsIn};
 
 mod account;
-pub mod budget;
-pub mod rejection;
-mod shown;
 
 use crate::book::Book;
-pub use crate::ledger::budget::Budget;
-pub use crate::ledger::rejection::Rejection;
+pub use crate::book::{Budget, Rejection, Standing};
 use allocative::{Allocative, Described};
-
-/// What an account has after growth was entered, and by how much that exceeds the limits.
-#[derive(Clone, Copy, Debug, PartialEq, Eq)]
-pub struct Standing {
-    /// The bytes of all entries of the tenant.
-    pub bytes: usize,
-    /// By how many bytes they exceed the tenant's limit, or 0.
-    pub excess: usize,
-    /// By how many bytes all accounts together exceed the limit of the ledger, or 0.
-    pub ledger_excess: usize,
-}
 
 /// The bytes of each value of one tenant, by its number.
 pub type Account = crate::book::Account<u64, usize>;
@@ -33,15 +18,6 @@ pub type Account = crate::book::Account<u64, usize>;
 pub type Ledger = Book<u64, usize>;
 
 impl Ledger {
-    /// The number and the bytes of the tenant's entry with the most bytes; of equals, of the one with the lowest number.
-    /// None if the tenant has no account or no entry.
-    pub fn largest_of(&self, tenant: &str) -> Option<(u64, usize)>
-        ensures { MatchOption (account_of tenant.now self.now) (result ≡ None)
-            (λ h. MatchOption result (h.entries ≡ []) (IsLargest h.entries)) }
-    {
-        self.accounts.get(tenant)?.largest()
-    }
-
     /// Measures a value of any type, adds an entry with its bytes for the tenant, under a number that has none, and
     /// returns the bytes of all entries of the tenant.
     ///
@@ -139,7 +115,7 @@ impl Ledger {
         ensures entered { IfOk result
             (λ s. (bytes : ℕ) × (had : ℕ) × Declares self.old.measure T.layout.size (T.may_show value.now) bytes
             × Stores tenant.now number bytes (Some had) self.old self.new s.bytes) }
-        ensures standing { IfOk result (StandsAt tenant.now self.new) }
+        ensures standing { IfOk result (StandsAt (λ n. n) tenant.now self.new) }
         ensures rejected { IfErr result (RejectsIn
             (RejectsChange number (λ had. RejectsMeasured self.old.measure T.is_strict T.layout.size
             (T.may_show value.now)
@@ -217,15 +193,12 @@ impl Ledger {
 
     /// Removes the tenant's entry under the number. It returns the bytes of the entry. If there is none, it returns
     /// None and nothing changes.
-    #[tactic(auto, using(crate::proofs::Accounts::numbered))]
     pub fn release(&mut self, tenant: &str, number: u64) -> Option<usize>
         ensures value { result ≡ entry_of tenant.now number self.old }
         ensures released { IfSome result (Releases tenant.now number self.old self.new) }
         ensures unchanged { IfNone result (self.new ≡ self.old) }
     {
-        let account = self.accounts.get_mut(tenant)?;
-        let bytes = account.release(number)?;
-        self.bytes -= bytes;
+        let (_number, bytes) = self.take(tenant, &number)?;
         Some(bytes)
     }
 
@@ -234,7 +207,7 @@ impl Ledger {
     ///
     /// The error is `NoAccount` if the tenant has no account, and otherwise that of `Account::put_with`. After an error
     /// the ledger is unchanged.
-    #[tactic(auto, using(crate::proofs::Accounts::numbered))]
+    #[tactic(auto, using(crate::proofs::Accounts::account_sums))]
     fn put_with<F: FnOnce(Option<usize>) -> Result<usize, Rejection>>(
         &mut self,
         tenant: &str,
@@ -248,7 +221,7 @@ impl Ledger {
             × Stores tenant.now number bytes (entry_of tenant.now number self.old) self.old self.new s.bytes
             × IfSome most (λ m. IsSomeAnd (account_of tenant.now self.old) (λ h. s.bytes ≤ h.limit)
             × (total_of self.new ≤ m))) }
-        ensures standing { IfOk result (StandsAt tenant.now self.new) }
+        ensures standing { IfOk result (StandsAt (λ n. n) tenant.now self.new) }
         ensures part { unwrap_or (entry_of tenant.now number self.old) 0 ≤ total_of self.old }
         ensures fits { total_of self.old < 2 ^ 64 }
         ensures rejected { IfErr result (RejectsIn (λ h. RejectsBy (total_of self.old) most (F.post bytes_of)

@@ -7,5 +7,4 @@ pub mod cache;
 pub mod history;
 pub mod ledger;
 pub mod measure;
-pub mod shelf;
 pub mod store;

@@ -172,7 +172,8 @@ impl Service {
             if self.ledger.excess_of(tenant) == Some(0) {
                 break;
             }
-            if let Some((key, _bytes)) = self.ledger.largest_of(tenant) {
+            let largest = self.ledger.largest_of(tenant).map(|entry| *entry.0);
+            if let Some(key) = largest {
                 text.push_str(self.remove(tenant, key)?.as_str())?;
             }
         }

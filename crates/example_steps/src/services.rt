@@ -46,7 +46,7 @@ fn put_note(rt: &impl Print, notes: &mut Store<u64, String>, key: u64, note: Str
 /// Prints the bytes of a store: a note grows past the limit, another is refused, and is kept once the first is gone.
 pub(crate) fn print_store(rt: &impl Print, alloc: Global) -> Result<()> {
     let mut notes = Store::new(alloc, Measure::Owned);
-    notes.open("acme", Budget { limit: 40 })?;
+    notes.open("acme", Budget { limit: 48 })?;
     put_note(rt, &mut notes, 1, String::from_str(alloc, "twelve bytes")?)?;
     let mut pushed = Ok(());
     let changed = notes.change("acme", &1, |note: &mut String| {

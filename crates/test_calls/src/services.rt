@@ -10,6 +10,7 @@ use allocative_service::cache::BoundedCache;
 use allocative_service::history::{History, compare, grew_most, report};
 use allocative_service::ledger::{Budget, Ledger, Rejection};
 use allocative_service::measure::Measure;
+use allocative_service::store::Store;
 use example_types::pointers::PageLink;
 use std::alloc::{AllocError, Global};
 use std::cell::Cell;
@@ -67,6 +68,16 @@ fn one_admitted(alloc: Global) -> Result<Ledger, Rejection> {
     Ok(ledger)
 }
 
+/// A store with one value of one tenant.
+fn one_put(alloc: Global) -> Result<Store<u64, u64>, Rejection> {
+    let mut store = Store::new(alloc, Measure::Owned);
+    store.open("ada", Budget { limit: 16 })?;
+    match store.put("ada", 1, 2) {
+        Ok(_had) => Ok(store),
+        Err(refused) => Err(refused.error),
+    }
+}
+
 /// A history of one profile, of a number.
 fn one_profile(alloc: Global) -> Result<History, Refusal> {
     let mut history = History::new(alloc, 2);
@@ -81,8 +92,11 @@ fn services_show_what_they_keep(rt: HostRuntime) -> Result<(), Fail> {
         "BoundedCache 24\nBoundedCache;entries;LruCache 56\nBoundedCache;entries;LruCache;ptr 8\nBoundedCache;entries;LruCache;ptr;key;u8 2\nBoundedCache;entries;LruCache;ptr;value;Kept 16\nBoundedCache;entries;LruCache;ptr;value;Kept;value;u64 16\nBoundedCache;entries;LruCache;raw_table 8\nBoundedCache;entries;LruCache;raw_table;alloc 36\n";
     made(alloc, two_kept(alloc), text)?;
     let text =
-        "Ledger 24\nLedger;accounts;BTreeMap 16\nLedger;accounts;BTreeMap;data;key;String 16\nLedger;accounts;BTreeMap;data;key;String;ptr 8\nLedger;accounts;BTreeMap;data;key;String;ptr;capacity;u8 3\nLedger;accounts;BTreeMap;data;value;Account 32\nLedger;accounts;BTreeMap;data;value;Account;entries;BTreeMap 16\nLedger;accounts;BTreeMap;data;value;Account;entries;BTreeMap;data;key;u64 8\nLedger;accounts;BTreeMap;data;value;Account;entries;BTreeMap;data;value;usize 8\nIncorrect size declaration for node `Ledger;accounts;BTreeMap;data`, size of self: 8, size of inline children: 80\nIncorrect size declaration for node `Ledger;accounts;BTreeMap;data;value;Account;entries;BTreeMap;data`, size of self: 8, size of inline children: 16\n";
+        "Book 24\nBook;accounts;BTreeMap 16\nBook;accounts;BTreeMap;data;key;String 16\nBook;accounts;BTreeMap;data;key;String;ptr 8\nBook;accounts;BTreeMap;data;key;String;ptr;capacity;u8 3\nBook;accounts;BTreeMap;data;value;Account 40\nBook;accounts;BTreeMap;data;value;Account;entries;BTreeMap 16\nBook;accounts;BTreeMap;data;value;Account;entries;BTreeMap;data;key;u64 8\nBook;accounts;BTreeMap;data;value;Account;entries;BTreeMap;data;value;usize 8\nIncorrect size declaration for node `Book;accounts;BTreeMap;data`, size of self: 8, size of inline children: 88\nIncorrect size declaration for node `Book;accounts;BTreeMap;data;value;Account;entries;BTreeMap;data`, size of self: 8, size of inline children: 16\n";
     made(alloc, one_admitted(alloc), text)?;
+    let text =
+        "Book 24\nBook;accounts;BTreeMap 16\nBook;accounts;BTreeMap;data;key;String 16\nBook;accounts;BTreeMap;data;key;String;ptr 8\nBook;accounts;BTreeMap;data;key;String;ptr;capacity;u8 3\nBook;accounts;BTreeMap;data;value;Account 40\nBook;accounts;BTreeMap;data;value;Account;entries;BTreeMap 16\nBook;accounts;BTreeMap;data;value;Account;entries;BTreeMap;data;key;u64 8\nBook;accounts;BTreeMap;data;value;Account;entries;BTreeMap;data;value;Entry 16\nBook;accounts;BTreeMap;data;value;Account;entries;BTreeMap;data;value;Entry;value;u64 8\nIncorrect size declaration for node `Book;accounts;BTreeMap;data`, size of self: 8, size of inline children: 88\nIncorrect size declaration for node `Book;accounts;BTreeMap;data;value;Account;entries;BTreeMap;data`, size of self: 8, size of inline children: 32\n";
+    made(alloc, one_put(alloc), text)?;
     let text =
         "History 8\nHistory;profiles;VecDeque 24\nHistory;profiles;VecDeque;ptr 8\nHistory;profiles;VecDeque;ptr;FlameGraph 32\nHistory;profiles;VecDeque;ptr;FlameGraph;ptr 8\nHistory;profiles;VecDeque;ptr;FlameGraph;ptr;Child 56\n";
     made(alloc, one_profile(alloc), text)
@@ -133,4 +147,33 @@ fn paths_that_grew_alike_are_in_order(rt: HostRuntime) -> Result<(), Fail> {
         text.as_str(),
         "3 bytes more, 0 bytes less\n0 -> 2 b\n0 -> 1 a\n",
     )
+}
+
+/// Puts a text under the key `page`.
+fn put_page(alloc: Global, store: &mut Store<String, String>, text: &str) -> Result<(), Fail> {
+    let key = String::from_str(alloc, "page")?;
+    let page = String::from_str(alloc, text)?;
+    if store.put("ada", key, page).is_err() {
+        return Err("a page is within the limit".into());
+    }
+    Ok(())
+}
+
+#[test]
+fn a_store_bills_keys_with_values(rt: HostRuntime) -> Result<(), Fail> {
+    let alloc = rt.alloc();
+    let mut store = Store::new(alloc, Measure::Owned);
+    let key = String::from_str(alloc, "page")?;
+    store.open("ada", Budget { limit: 60 })?;
+    put_page(alloc, &mut store, "a text")?;
+    assert_eq!(rt; store.bytes_of("ada"), Some(58));
+    put_page(alloc, &mut store, "")?;
+    assert_eq!(rt; store.bytes_of("ada"), Some(52));
+    assert_eq!(rt; store.largest_of("ada"), Some((&key, 52)));
+    assert_eq!(rt; store.reset_peak("ada"), Some(58));
+    assert_eq!(rt; store.peak_of("ada"), Some(52));
+    assert!(rt; store.get("ada", &key).is_some());
+    assert!(rt; store.remove("ada", &key).is_some());
+    assert_eq!(rt; store.bytes(), 0);
+    Ok(())
 }

@@ -1,27 +1,12 @@
 //! The account of a ledger: the bytes of one tenant's entries, by number.
 ghost use Rattle.std.specs.Prelude.{◌≡◌, ℕ, ◌+◌, ◌-◌, ◌^◌, ◌<◌, ◌≤◌, [], Some, None, Ok, MatchOption, IfOk, IfErr, IfNone, OnErr, unwrap_or};
-ghost use Rattle.allocative_service.specs.Ledger.{IsLargest, bytes_at, sum_of, without, Puts};
+ghost use Rattle.allocative_service.specs.Ledger.{bytes_at, sum_of, Puts};
 ghost use Rattle.allocative_service.specs.Rejected.{HasRoom, RejectsBy};
 
+use crate::book::rejection::Rejection;
 use crate::ledger::Account;
-use crate::ledger::rejection::Rejection;
 
 impl Account {
-    /// The number and the bytes of the entry with the most bytes; of equals, of the one with the lowest number. None if
-    /// there is no entry.
-    pub fn largest(&self) -> Option<(u64, usize)>
-        ensures { MatchOption result (self.now.entries ≡ []) (IsLargest self.now.entries) }
-    {
-        let mut largest: Option<(u64, usize)> = None;
-        for (number, bytes) in &self.entries {
-            match largest {
-                Some((_, most)) if *bytes <= most => (),
-                _ => largest = Some((*number, *bytes)),
-            }
-        }
-        largest
-    }
-
     /// Stores under the number the bytes that `bytes_of` makes of those that it has, if there is room. It returns the
     /// bytes of all entries together. All accounts have `all` bytes together and may have `most`; without `most` no
     /// limit counts. A number that is there is searched once.
@@ -65,18 +50,5 @@ impl Account {
         self.bytes = sum - had + bytes;
         self.peak = self.peak.max(self.bytes);
         Ok(self.bytes)
-    }
-
-    /// Removes the entry under the number. It returns the bytes of the entry, or None if there is none. The peak stays.
-    #[tactic(auto, using(crate::proofs::Sums::sums))]
-    pub fn release(&mut self, number: u64) -> Option<usize>
-        ensures value { result ≡ bytes_at number self.old }
-        ensures without { self.new ≡ without number self.old }
-        ensures unchanged { IfNone result (self.new ≡ self.old) }
-        ensures sum { sum_of self.new.entries + unwrap_or result 0 ≡ sum_of self.old.entries }
-    {
-        let bytes = self.entries.remove(&number)?;
-        self.bytes -= bytes;
-        Some(bytes)
     }
 }

@@ -6,7 +6,7 @@ use Rattle.allocative_service.proofs.book.Book.close.Goals as goal
 pub overflow_sub-self : goal.overflow_sub-self
 overflow_sub-self g c = omega (
   arith,
-  c.bytes.ensures.0,
+  c.bytes.ensures.sum.0,
   c.self.invariant.0,
   account_part g.E.Billed.billed _ c.self.inside.accounts.entries c.in_ok-account.account c.in_ok-account.ensures.value,
 )

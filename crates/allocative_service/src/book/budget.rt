@@ -3,7 +3,7 @@ ghost use Rattle.std.specs.Prelude.{◌≡◌, ◌^◌, ◌<◌, ◌≤◌, IfOk
 ghost use Rattle.allocative_service.specs.Measured.{Declares};
 ghost use Rattle.allocative_service.specs.Rejected.{HasRoom, IsOverBudget, RejectsRoom, RejectsValue};
 
-use crate::ledger::rejection::Rejection;
+use crate::book::rejection::Rejection;
 use crate::measure::Measure;
 use allocative::{Allocative, Described};
 use std::alloc::Global;

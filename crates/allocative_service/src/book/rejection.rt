@@ -55,7 +55,7 @@ impl Rejection {
 
 impl From<Refusal> for Rejection {
     ghost use Rattle.std.specs.Prelude.{◌≡◌};
-    ghost use Rattle.allocative_service.specs.declared.ledger.rejection.Rejection.TheVariants.{NotMeasured};
+    ghost use Rattle.allocative_service.specs.declared.book.rejection.Rejection.TheVariants.{NotMeasured};
 
     ghost from_gives = { λ refusal rejection. rejection ≡ NotMeasured refusal };
 

@@ -1,0 +1,132 @@
+-- The bills of an account's entries after each change of them.
+use Rattle.std.proofs.Common.{◌≡◌, ℕ, ◌+◌, ◌≤◌, Bool, true, false, List, [], ◌∷◌, Option, Some, None, arith, cond, refl}
+use Rattle.std.proofs.Common.{unwrap_or}
+use Rattle.std.specs.BTreeMap.{is_at, insert_entry}
+use Rattle.std.specs.Cmp.{IsTotalOrder}
+use Rattle.std.specs.List.Sorted.{IsStrictlySortedBy}
+use Rattle.std.specs.Map.{keys_of, lookup, lookup_key, remove_entry, set_value}
+use Rattle.std.specs.Ordering.{is_eq, match_ordering}
+use Rattle.std.specs.declared.cmp.Ordering.{Ordering}
+use Rattle.std.specs.declared.cmp.Ordering.TheVariants.{Equal, Greater, Less}
+use Rattle.std.proofs.lemmas.List.Elements.{All-cons, All-head, All-nil, All-tail}
+use Rattle.std.proofs.lemmas.Map.{lookup-none}
+use Rattle.std.proofs.lemmas.Map.Entries.{none_below_head, sum_by-insert_entry, sum_by-remove_entry}
+use Rattle.std.proofs.lemmas.Map.Keys.{sorted_tail}
+use Rattle.std.proofs.lemmas.Option.{same_Some}
+use Rattle.allocative.specs.Forest.{Forest}
+use Rattle.allocative_service.specs.declared.measure.Measure.{Measure}
+use Rattle.allocative_service.specs.declared.store.shelf.Entry.{Entry}
+use Rattle.allocative_service.specs.Measured.{Declares}
+use Rattle.allocative_service.specs.Store.{IsBilled}
+use Rattle.allocative_service.proofs.Accounts.{sum_by-written}
+use Rattle.allocative_service.specs.Book.{AreBilled, billed_sum, bytes_in}
+
+module _ {K E : Type 0} (P : K → E → Type 0) where
+  -- What holds of a key with its entry.
+  abbrev Billed : K × E → Type 0
+  Billed e = P e.0 e.1
+
+  -- The entries that are left without a key are billed as before.
+  pub billed-remove : (test : K → Bool) (es : List (K × E)) → AreBilled P es → AreBilled P (remove_entry test es)
+  billed-remove test [] h = h
+  billed-remove test (e ∷ es) h = by (test e.0) (billed-remove test es (All-tail Billed e es h))
+    where
+      by : (b : Bool) → AreBilled P (remove_entry test es) → AreBilled P (cond b es (e ∷ remove_entry test es))
+      by true rest = All-tail Billed e es h
+      by false rest = All-cons Billed e (remove_entry test es) (All-head Billed e es h) rest
+
+  -- An entry that is found is billed with the key that is found.
+  pub billed-found : (test : K → Bool) (es : List (K × E)) (k : K) (e : E) → AreBilled P es →
+      Some k ≡ lookup_key test es → Some e ≡ lookup test es → P k e
+  billed-found test [] k e h key entry = absurd cc
+  billed-found test (f ∷ es) k e h key entry = by (test f.0) (billed-found test es k e (All-tail Billed f es h)) key entry
+    where
+      by : (b : Bool) → (Some k ≡ lookup_key test es → Some e ≡ lookup test es → P k e) →
+          Some k ≡ cond b (Some f.0) (lookup_key test es) → Some e ≡ cond b (Some f.1) (lookup test es) → P k e
+      by true rest is has = rw (same_Some k f.0 is, same_Some e f.1 has) (All-head Billed f es h)
+      by false rest is has = rest is has
+
+  -- The entries are billed after one was written over another that has the same key, if it is billed with that.
+  pub billed-set : (test : K → Bool) (es : List (K × E)) (had w : E) → lookup test es ≡ Some had →
+      ((k : K) → P k had → P k w) → AreBilled P es → AreBilled P (set_value test es w)
+  billed-set test [] had w found as_had h = absurd cc
+  billed-set test (e ∷ es) had w found as_had h =
+      by (test e.0) (λ there. billed-set test es had w there as_had (All-tail Billed e es h)) found
+    where
+      by : (b : Bool) → (lookup test es ≡ Some had → AreBilled P (set_value test es w)) →
+          cond b (Some e.1) (lookup test es) ≡ Some had → AreBilled P (cond b ((e.0, w) ∷ es) (e ∷ set_value test es w))
+      by true rest is = All-cons Billed (e.0, w) es (as_had e.0 (rw (← same_Some e.1 had is) (All-head Billed e es h)))
+          (All-tail Billed e es h)
+      by false rest is = All-cons Billed e (set_value test es w) (All-head Billed e es h) (rest is)
+
+  -- No key is found if no entry is.
+  key_none : (test : K → Bool) (es : List (K × E)) → lookup test es ≡ None → lookup_key test es ≡ None
+  key_none test [] none = refl
+  key_none test (e ∷ es) none = grind (arith, key_none test es)
+
+  -- The entries are billed after one was put, if it is billed with the key that it is then under.
+  pub billed-insert : {cmp : K → K → Ordering} → IsTotalOrder cmp → (es : List (K × E)) (key : K) (w : E) →
+      IsStrictlySortedBy cmp (keys_of es) → P (unwrap_or (lookup_key (is_at (cmp key)) es) key) w → AreBilled P es →
+      AreBilled P (insert_entry cmp es key w)
+  billed-insert total [] key w sorted is h = All-cons Billed (key, w) [] is (All-nil Billed)
+  billed-insert {cmp} total (e ∷ es) key w sorted is h =
+      let none : cmp key e.0 ≡ Less → lookup_key (is_at (cmp key)) (e ∷ es) ≡ None =
+      λ less. key_none (is_at (cmp key)) (e ∷ es) (lookup-none (is_at (cmp key)) (e ∷ es) (none_below_head total key e es sorted less)) in
+      by (cmp key e.0) (λ less. rw (none less) at is)
+      (λ put. billed-insert total es key w (sorted_tail cmp e.0 (keys_of es) sorted) put (All-tail Billed e es h)) is
+    where
+      by : (r : Ordering) → (r ≡ Less → P key w) →
+          (P (unwrap_or (lookup_key (is_at (cmp key)) es) key) w → AreBilled P (insert_entry cmp es key w)) →
+          P (unwrap_or (cond (is_eq r) (Some e.0) (lookup_key (is_at (cmp key)) es)) key) w →
+          AreBilled P (match_ordering r ((key, w) ∷ e ∷ es) ((e.0, w) ∷ es) (e ∷ insert_entry cmp es key w))
+      by Less new rest put = All-cons Billed (key, w) (e ∷ es) (new refl) h
+      by Equal new rest put = All-cons Billed (e.0, w) es put (All-tail Billed e es h)
+      by Greater new rest put = All-cons Billed e (insert_entry cmp es key w) (All-head Billed e es h) (rest put)
+
+module _ {K E : Type 0} (test : K → Bool) where
+  -- What is found under a key that has an entry is what was written there.
+  pub lookup_written : (es : List (K × E)) (had w : E) → lookup test es ≡ Some had → lookup test (set_value test es w) ≡ Some w
+  lookup_written [] had w found = absurd cc
+  lookup_written (e ∷ es) had w found = grind (arith, lookup_written es had w)
+
+  -- Writing over an entry changes no key.
+  pub key_written : (es : List (K × E)) (w : E) → lookup_key test (set_value test es w) ≡ lookup_key test es
+  key_written [] w = refl
+  key_written (e ∷ es) w = grind (arith, key_written es w)
+
+  -- Without a key it does not matter what was written there.
+  pub removed_written : (es : List (K × E)) (w : E) → remove_entry test (set_value test es w) ≡ remove_entry test es
+  removed_written [] w = refl
+  removed_written (e ∷ es) w = grind (arith, removed_written es w)
+
+module _ {K E : Type 0} (billed : E → ℕ) (test : K → Bool) (es : List (K × E)) where
+  -- The bytes of an entry are part of those of all.
+  pub entry_within : (lookup test es ≡ lookup test es) × (bytes_in billed (lookup test es) ≤ billed_sum billed es)
+  entry_within = (refl, omega (arith, sum_by-remove_entry billed test es))
+
+  -- The bytes of an entry that is removed, and those of the others, are the bytes of all.
+  pub removed_sum : (e : E) → Some e ≡ lookup test es → billed_sum billed (remove_entry test es) + billed e ≡ billed_sum billed es
+  removed_sum e is = rw (← is) at (sum_by-remove_entry billed test es)
+
+  -- The bytes of an entry that is found are part of those of all.
+  pub found_within : (e : E) → Some e ≡ lookup test es → billed e ≤ billed_sum billed es
+  found_within e is = omega (arith, removed_sum e is)
+
+-- The lemmas on an account after an entry was removed.
+pub ruleset removing = (sum_by-remove_entry, billed-remove, entry_within)
+
+-- The lemmas on an account after an entry was put.
+pub ruleset putting = (sum_by-insert_entry, billed-insert, billed-found, entry_within)
+
+-- The lemmas on an account after an entry was changed.
+pub ruleset changing =
+    (sum_by-written, sum_by-remove_entry, billed-set, billed-remove, lookup_written, key_written, removed_written, entry_within)
+
+-- A key that is found declares the bytes that are billed for it.
+pub key_billed : {K V : Type 0} {key_size : Option ℕ} {key_shows : K → Forest → Type 0} {size : Option ℕ}
+    {may_show : V → Forest → Type 0} {m : Measure} (test : K → Bool) (es : List (K × Entry V)) (k : K) (e : Entry V) →
+    AreBilled (IsBilled key_size key_shows size may_show m) es → Some k ≡ lookup_key test es → Some e ≡ lookup test es →
+    Declares m key_size (key_shows k) e.key_bytes
+key_billed {key_size} {key_shows} {size} {may_show} {m} test es k e h key entry =
+    let it : IsBilled key_size key_shows size may_show m k e = billed-found (IsBilled key_size key_shows size may_show m) test es k e h key entry in
+    it.of_key

@@ -1,0 +1,12 @@
+-- of Shelf::billed_under: what is found is billed with its key
+use Rattle.allocative_service.proofs.Billing.{found_within, key_billed}
+use Rattle.allocative_service.proofs.store.shelf.Shelf+K+V.billed_under.Goals as goal
+
+pub returns-in-Some-clause-part : goal.returns-in-Some-clause-part
+returns-in-Some-clause-part g c =
+    rw (← c.self.view_is) (found_within (λ e. e.bytes) _ c.self.inside.entries.entries c.in-Some.entry.now c.in-Some.ensures.value)
+
+pub returns-in-Some-clause-key : goal.returns-in-Some-clause-key
+returns-in-Some-clause-key g c = rw (← c.self.view_is, ← c.in-Some.ensures.key)
+    (key_billed _ c.self.inside.entries.entries c.in-Some._stored.now c.in-Some.entry.now c.self.invariant.2
+    c.in-Some.ensures.key c.in-Some.ensures.value)

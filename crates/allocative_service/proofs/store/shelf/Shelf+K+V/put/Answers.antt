@@ -1,0 +1,36 @@
+-- of Shelf::put: the value is kept, and billed with its key
+use Rattle.std.proofs.Common.{◌+◌, ◌-◌, arith, refl, rules}
+use Rattle.std.proofs.lemmas.Map.Entries.{sum_by-insert_entry}
+use Rattle.allocative_service.specs.Store.{IsBilled, bytes_of}
+use Rattle.allocative_service.specs.declared.store.shelf.Entry.{Entry}
+use Rattle.allocative_service.proofs.Billing.{billed-insert}
+use Rattle.allocative_service.proofs.store.shelf.Shelf+K+V.put.Goals as goal
+
+pub invariant_of-self : goal.invariant_of-self
+invariant_of-self g c =
+    let had = rw (← c.self.view_is) at c.in-Ok.ensures.had in
+    let part = rw (← c.self.view_is) at c.in-Ok.ensures.part in
+    let bill = rw (← c.self.view_is) at c.in-Ok.ensures.bill in
+    let es = c.self.inside.entries.entries in
+    let entry : Entry g.row.V.Denot = record { value = c.args.value; bytes = c.in-Ok.bill.bytes; key_bytes = c.in-Ok.bill.key_bytes } in
+    let sum = sum_by-insert_entry bytes_of g.met.K.Ord.total es c.args.key entry c.insert.ensures.was_ordered in
+    rw c.in-Ok-insert.ensures.entries (
+      omega (arith, sum, had, part, c.self.invariant.0),
+      search rules,
+      billed-insert (IsBilled g.K.Described.layout.size g.K.Allocative.may_show g.V.Described.layout.size
+          g.V.Allocative.may_show c.self.inside.measure) g.met.K.Ord.total es c.args.key entry c.insert.ensures.was_ordered bill
+          c.self.invariant.2,
+    )
+
+pub returns-in-Ok-insert-clause-ok : goal.returns-in-Ok-insert-clause-ok
+returns-in-Ok-insert-clause-ok g c =
+    let had = c.in-Ok.ensures.had in
+    record {
+      entry = record { value = c.args.value; bytes = c.in-Ok.bill.bytes; key_bytes = c.in-Ok.bill.key_bytes };
+      total = c.self.inside.bytes - c.in-Ok.bill.had + c.in-Ok.bill.bytes;
+      value = refl;
+      billed = c.in-Ok.ensures.bill;
+      room = rw had at c.in-Ok.ensures.room;
+      total_is = rw (← c.self.view_is) (omega (arith, rw (← c.self.view_is) at had, rw (← c.self.view_is) at c.in-Ok.ensures.part, c.self.invariant.0));
+      is = rw (← c.self.view_is) (search rules);
+    }
