@@ -2,11 +2,12 @@
 //!
 //! Rows: a root with bytes of its own; a child that is added twice; a child without bytes between the root and a line, and
 //! the clone; totals past the bound; a graph added to an empty one; keys against joined texts, and a key that looks like a
-//! path; a new builder, two collections and a root without entries; the macro of keys; the last number of a maker.
+//! path; a new builder, two collections and a root without entries; the macro of keys; the last number of a maker; keys that
+//! are made of numbers, and the children that have them.
 use crate::texts::{is_graph, is_output, is_text};
 use allocative::{
     FlameGraph, FlameGraphBuilder, IdMaker, Identity, Key, LEVELS, Refusal, ident_key,
-    profile_in_two, profile_value,
+    profile_in_two, profile_text, profile_value,
 };
 use std::alloc::Global;
 use std::hash::{DefaultHasher, Hash, Hasher};
@@ -125,6 +126,32 @@ fn keys_have_their_macro_and_makers_an_end(rt: HostRuntime) {
     let mut last = IdMaker::starting_at(0, u64::MAX);
     let made = [last.fresh(), last.fresh(), last.fresh()];
     assert!(rt; made == [Some(Identity::new(0, u64::MAX)), None, None]);
+}
+
+/// A graph with 5 bytes of its own, and a child for each of two numbers.
+fn of_numbers(alloc: Global) -> Result<FlameGraph, Refusal> {
+    let mut graph = with_sizes(alloc, 5, &[])?;
+    for number in [2usize, 1] {
+        let name = format!(in alloc; "shelf {number}")?;
+        let key = Key::leaked(alloc, name.as_str())?;
+        graph.add_child(key, with_sizes(alloc, number, &[])?)?;
+    }
+    Ok(graph)
+}
+
+#[test]
+fn children_leave_a_graph(rt: HostRuntime) -> Result<(), Fail> {
+    let mut text = String::new(rt.alloc());
+    for child in of_numbers(rt.alloc())?.into_children() {
+        write!(text, "{}: {}\n", child.key.as_str(), child.graph.total_size())?;
+    }
+    is_text(text.as_str(), "shelf 1: 1\nshelf 2: 2\n")
+}
+
+#[test]
+fn a_value_has_its_text(rt: HostRuntime) -> Result<(), Fail> {
+    let text = profile_text(rt.alloc(), &Some(7u32))?;
+    is_text(text.as_str(), "Option 4\nOption;Some;u32 4\n")
 }
 
 /// Functions over a graph call themselves once for each key of a path, so the stack has to be deep enough.
