@@ -1,8 +1,11 @@
 -- The profiles that a service keeps.
-use Rattle.std.specs.Prelude.{◌≡◌, ℕ, List, ◌∷◌, Option, Some, None, slice_get, take, ⊤}
+use Rattle.std.specs.Prelude.{◌≡◌, ℕ, Bool, List, ◌∷◌, Option, Some, None, IsSomeAnd, option_map, slice_get, take, ⊤}
 use Rattle.std.specs.Option.{option_zip}
-use Rattle.allocative.specs.Graph.{Graph}
+use Rattle.allocative.specs.Graph.{Graph, ExceedWord}
+use Rattle.allocative.specs.Refusal.{Refusal}
+use Rattle.allocative.specs.Refusal.TheVariants.{Memory, TooLarge}
 use Rattle.allocative.specs.Shows.{Showing}
+use Rattle.allocative.specs.Strict.{MayRefuseProfile}
 use Rattle.allocative.specs.Visits.{Profile, IsProfileOf}
 use Rattle.allocative_service.specs.declared.history.History.{History}
 use Rattle.allocative_service.specs.Changes.{Changed, changes_of, GrewMost}
@@ -14,6 +17,10 @@ profiles_of h = h.profiles.items
 -- The most profiles that a history keeps.
 abbrev pub most_of : History → ℕ
 most_of h = h.most
+
+-- The latest profile of a history, if there is one.
+abbrev pub latest_of : History → Option Graph
+latest_of h = slice_get (profiles_of h) 0
 
 -- The profiles at two places of a history, if both are there.
 abbrev pub two_of : History → ℕ → ℕ → Option (Graph × Graph)
@@ -28,6 +35,24 @@ pub record TakesProfile (p : Showing) (old new : History) : Type 0 where
   pub profile : Profile
   pub is_profile : IsProfileOf p profile
   pub kept : KeepsProfile profile.graph old new
+
+-- The graph of a profile of what p allows is kept, and these are the changes since the latest one before, if there was
+-- one: their bytes together fit a word.
+pub record TakesChanges (p : Showing) (old new : History) (changes : Option (List Changed)) : Type 0 where
+  pub profile : Profile
+  pub is_profile : IsProfileOf p profile
+  pub kept : KeepsProfile profile.graph old new
+  pub since : changes ≡ option_map (λ g. changes_of g profile.graph) (latest_of old)
+  pub fits : ¬ (IsSomeAnd (latest_of old) (λ g. ExceedWord g profile.graph))
+
+-- Why no profile of what p allows is kept and compared with the earlier one. It is refused. Or it was made, and both
+-- together exceed a word, or memory runs out.
+pub data RefusesChanges (is_strict : Bool) (p : Showing) (earlier : Option Graph) (e : Refusal) : Type 0 where
+  profile_refused : MayRefuseProfile is_strict p e → RefusesChanges is_strict p earlier e
+  too_large : {made : Profile} → IsProfileOf p made → IsSomeAnd earlier (λ g. ExceedWord g made.graph) → e ≡ TooLarge
+      → RefusesChanges is_strict p earlier e
+  no_memory : {made : Profile} → IsProfileOf p made → ¬ (IsSomeAnd earlier (λ g. ExceedWord g made.graph)) → e ≡ Memory
+      → RefusesChanges is_strict p earlier e
 
 -- n of the changes between two profiles grew most, or all that grew if there are fewer. There are none if a profile
 -- is missing.

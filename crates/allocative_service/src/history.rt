@@ -4,7 +4,7 @@ ghost use Rattle.std.specs.Map.Iter.{deref_pair};
 ghost use Rattle.allocative.specs.Strict.{MayRefuseProfile};
 ghost use Rattle.allocative.specs.Graph.{ExceedWord};
 ghost use Rattle.allocative_service.specs.Changes.{data_of, changes_of};
-ghost use Rattle.allocative_service.specs.History.{profiles_of, most_of, two_of, KeepsProfile, TakesProfile, GrewMostBetween};
+ghost use Rattle.allocative_service.specs.History.{profiles_of, most_of, latest_of, two_of, KeepsProfile, TakesProfile, TakesChanges, RefusesChanges, GrewMostBetween};
 
 pub mod changes;
 mod shown;
@@ -69,6 +69,61 @@ impl History {
         let profile = profile_value(alloc, value)?;
         self.keep(profile.into_flamegraph())?;
         Ok(())
+    }
+
+    /// Adds a profile as the latest, as `keep` does, and returns the changes since the one before, as `compare` does. It
+    /// is None if there was no profile. One kept profile is enough for it.
+    ///
+    /// It returns `TooLarge` exactly if the totals of the two profiles together exceed `usize::MAX`. The only other
+    /// error is that memory runs out. After an error the history is unchanged.
+    pub fn keep_changes(
+        &mut self,
+        alloc: Global,
+        profile: FlameGraph,
+    ) -> Result<Option<Vec<Change>>, Refusal>
+        ensures changes { IfOk result (λ found. option_map (λ changes. data_of changes.items) found
+            ≡ option_map (λ earlier. changes_of earlier profile) (latest_of self.old)) }
+        ensures kept { OnOk result (KeepsProfile profile self.old self.new) }
+        ensures too_large { IsErrOf result Refusal.TooLarge
+            ↔ IsSomeAnd (latest_of self.old) (λ earlier. ExceedWord earlier profile) }
+        ensures never_open { ¬ (IsErrOf result Refusal.Open) }
+        ensures unchanged { OnErr result (profiles_of self.new ≡ profiles_of self.old) }
+        ensures most { most_of self.new ≡ most_of self.old }
+    {
+        let changes = match self.latest() {
+            Some(earlier) => Some(compare(alloc, earlier, &profile)?),
+            None => None,
+        };
+        self.keep(profile)?;
+        Ok(changes)
+    }
+
+    /// Takes a profile of a value, as `take_profile` does, keeps its graph as the latest, and returns the changes since the
+    /// one before, as `keep_changes` does.
+    ///
+    /// The errors are those of `take_profile`, and `TooLarge` if the totals of the two profiles together exceed
+    /// `usize::MAX`, which those of two values never do. After an error the history is unchanged.
+    pub fn take_changes<T: Allocative>(
+        &mut self,
+        alloc: Global,
+        value: &T,
+    ) -> Result<Option<Vec<Change>>, Refusal>
+        ensures taken { IfOk result (λ found. TakesChanges (T.may_show value.now) self.old self.new
+            (option_map (λ changes. data_of changes.items) found)) }
+        ensures refused { IfErr result
+            (RefusesChanges T.is_strict (T.may_show value.now) (latest_of self.old)) }
+        ensures unchanged { OnErr result (profiles_of self.new ≡ profiles_of self.old) }
+        ensures most { most_of self.new ≡ most_of self.old }
+    {
+        let profile = profile_value(alloc, value)?;
+        self.keep_changes(alloc, profile.into_flamegraph())
+    }
+
+    /// The latest profile. It is None if there is no profile.
+    pub fn latest(&self) -> Option<&FlameGraph>
+        ensures { option_map (λ profile. profile.now) result ≡ latest_of self.now }
+    {
+        self.profiles.get(0)
     }
 
     /// Two profiles by their places; the latest has place 0. It is None if one of the places has no profile.

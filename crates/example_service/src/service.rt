@@ -330,7 +330,7 @@ impl Service {
 
     /// The picture of the last profile, a text that a browser shows.
     fn draw(&self) -> Result<String, Refusal> {
-        let Some((_last, last)) = self.history.pair(0, 0) else {
+        let Some(last) = self.history.latest() else {
             return Ok(String::from_str(self.alloc, "there is no profile\n")?);
         };
         let options = Options {

@@ -9,7 +9,7 @@ use std::alloc::Global;
 /// Prints the bytes of a note before and after it has grown, and those of its pages.
 pub(crate) fn serve(rt: &impl Print, alloc: Global) -> Result<()> {
     let mut ledger = Ledger::new(alloc, Measure::Shown);
-    let mut history = History::new(alloc, 2);
+    let mut history = History::new(alloc, 1);
     let mut note = String::from_str(alloc, "twelve bytes")?;
     ledger.open("acme", Budget { limit: 40 })?;
     println!(rt; "{} bytes", ledger.admit("acme", 1, &note)?)?;
@@ -21,8 +21,7 @@ pub(crate) fn serve(rt: &impl Print, alloc: Global) -> Result<()> {
     }
     let standing = ledger.enter_growth("acme", 1, &note)?;
     println!(rt; "{} bytes, {} too many", standing.bytes, standing.excess)?;
-    history.take_profile(alloc, &note)?;
-    if let Some(changes) = history.between(alloc, 1, 0)? {
+    if let Some(changes) = history.take_changes(alloc, &note)? {
         print!(rt; "{}", report(alloc, changes.as_slice())?)?;
     }
     keep_pages(rt, alloc)

@@ -30,13 +30,12 @@ fn print_top(rt: &impl Print, alloc: Global, graph: &FlameGraph) -> Result<()> {
 
 /// Serves requests, and prints after every hundredth what has changed since the profile before.
 fn watch(rt: &impl Print, alloc: Global) -> Result<()> {
-    let mut history = History::new(alloc, 2);
+    let mut history = History::new(alloc, 1);
     let mut notes: Vec<u64> = Vec::new(alloc);
     for request in 1u64..=300 {
         notes.push(request)?;
         if request % 100 == 0 {
-            history.take_profile(alloc, &notes)?;
-            if let Some(changes) = history.between(alloc, 1, 0)? {
+            if let Some(changes) = history.take_changes(alloc, &notes)? {
                 print!(rt; "{}", report(alloc, changes.as_slice())?)?;
             }
         }

@@ -1,10 +1,10 @@
 //! What no clause of the services says: that nothing is measured too early, what the services show, that what leaves a
-//! cache is dropped, and the order of paths that grew alike.
+//! cache is dropped, that profiles are compared, and the order of paths that grew alike.
 #![tactic(auto, using(allocative::proofs::Parts::parts))]
 
 ghost use Rattle.allocative.specs.Shows.{Nothing};
 
-use crate::texts::{is_text, made};
+use crate::texts::{is_graph, is_text, made};
 use allocative::{Allocative, FlameGraph, Part, Refusal, Visitor};
 use allocative_service::cache::BoundedCache;
 use allocative_service::history::{History, compare, grew_most, report};
@@ -132,6 +132,22 @@ fn what_leaves_a_cache_is_dropped(rt: HostRuntime) -> Result<(), AllocError> {
     let found = owners(rt.alloc(), &mark)?;
     assert!(rt; found == [3, 1]);
     Ok(())
+}
+
+/// The history keeps one profile.
+#[test]
+fn a_profile_is_compared_with_the_one_before(rt: HostRuntime) -> Result<(), Fail> {
+    let alloc = rt.alloc();
+    let mut history = History::new(alloc, 1);
+    assert!(rt; history.take_changes(alloc, &1u8)?.is_none());
+    let changes = history.take_changes(alloc, &1u64)?.ok_or("no changes")?;
+    let text = report(alloc, changes.as_slice())?;
+    is_text(
+        text.as_str(),
+        "8 bytes more, 1 bytes less\n0 -> 8 u64\n1 -> 0 u8\n",
+    )?;
+    let latest = history.latest().ok_or("no profile")?;
+    is_graph(latest, "u64 8\n", 8)
 }
 
 /// Changes of three paths, of which two grew alike.
