@@ -143,7 +143,12 @@ fn of_numbers(alloc: Global) -> Result<FlameGraph, Refusal> {
 fn children_leave_a_graph(rt: HostRuntime) -> Result<(), Fail> {
     let mut text = String::new(rt.alloc());
     for child in of_numbers(rt.alloc())?.into_children() {
-        write!(text, "{}: {}\n", child.key.as_str(), child.graph.total_size())?;
+        write!(
+            text,
+            "{}: {}\n",
+            child.key.as_str(),
+            child.graph.total_size()
+        )?;
     }
     is_text(text.as_str(), "shelf 1: 1\nshelf 2: 2\n")
 }

@@ -1,15 +1,17 @@
 //! The text of types by hand, of `example_types`, and of those whose implementations `bin/implement` wrote.
 use crate::texts::{counted, is_output, is_text, made, show};
-use allocative::{Key, Named as Root, Refusal, profile_values};
+use allocative::{IdArc, Identity, Key, Named as Root, Refusal, profile_text, profile_values};
 use bytes::Bytes;
 use example_types::enums::Request;
 use example_types::gauges::Gauge;
 use example_types::groups::Sale;
 use example_types::locked::Store;
 use example_types::nodes::Node;
+use example_types::plugins::{Loaded, Plugin};
 use example_types::pointers::PageLink;
 use example_types::services::{Sensor, Sensors};
 use example_types::structs::{Named, Point};
+use example_types::titled::Titled;
 use example_types::trees::Tree;
 use example_types::wrappers::{Day, Document};
 use std::alloc::{AllocError, Global};
@@ -151,6 +153,44 @@ fn roots_of_one_type(rt: HostRuntime) -> Result<(), Fail> {
     is_text(text_of_links(rt.alloc())?.as_str(), text)?;
     let text = "door;Sensor;count;u64 8\nwall;Sensor;count;u64 8\n";
     is_text(text_of_sensors(rt.alloc())?.as_str(), text)
+}
+
+/// The text of two shared numbers, of which one has two pointers.
+fn text_of_shared(alloc: Global) -> Result<String, Refusal> {
+    let tea = Titled(Root(Key::new("tea"), 1u64));
+    let bread = Titled(Root(Key::new("bread"), 2u64));
+    let tea = IdArc::new(alloc, tea, Identity::from(1))?;
+    let bread = IdArc::new(alloc, bread, Identity::from(2))?;
+    let roots = [tea.clone()?, tea, bread];
+    profile_values(alloc, &roots)?.flamegraph().write()
+}
+
+#[test]
+fn shared_contents_have_names(rt: HostRuntime) -> Result<(), Fail> {
+    let text = "Arc;ptr 24\nArcInner 32\nArcInner;bread;u64 8\nArcInner;tea;u64 8\n";
+    is_text(text_of_shared(rt.alloc())?.as_str(), text)
+}
+
+/// Reports so many bytes.
+#[derive(Drop)]
+struct Reporter(usize);
+
+impl Plugin for Reporter {
+    fn bytes(&self) -> usize {
+        self.0
+    }
+}
+
+/// The text of a plugin that reports 100 bytes.
+fn text_of_plugin(alloc: Global) -> Result<String, Refusal> {
+    let plugin = Box::new(alloc, Reporter(100))?;
+    profile_text(alloc, &vec![in alloc; Loaded { plugin }]?)
+}
+
+#[test]
+fn a_plugin_reports_its_bytes(rt: HostRuntime) -> Result<(), Fail> {
+    let text = "Vec 16\nVec;ptr 8\nVec;ptr;Loaded;plugin 16\nVec;ptr;Loaded;plugin;reported 100\n";
+    is_text(text_of_plugin(rt.alloc())?.as_str(), text)
 }
 
 /// The address of the host itself.
