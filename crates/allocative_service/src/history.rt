@@ -57,9 +57,9 @@ impl History {
         Ok(())
     }
 
-    /// Takes a profile of a value, as `profile_value` does, and keeps its graph as the latest. For a strict type the error
-    /// is `Memory` if memory runs out, or `TooLarge` if a flame graph cannot take all that the value may show. After an
-    /// error the history is unchanged.
+    /// Takes a profile of a value, as `profile_value` does, and keeps its graph as the latest. For a strict type the
+    /// error is `Memory` if memory runs out, or `TooLarge` if a flame graph cannot take all that the value may show.
+    /// After an error the history is unchanged.
     pub fn take_profile<T: Allocative>(&mut self, alloc: Global, value: &T) -> Result<(), Refusal>
         ensures taken { OnOk result (TakesProfile (T.may_show value.now) self.old self.new) }
         ensures refused { IfErr result (MayRefuseProfile T.is_strict (T.may_show value.now)) }
@@ -71,8 +71,8 @@ impl History {
         Ok(())
     }
 
-    /// Adds a profile as the latest, as `keep` does, and returns the changes since the one before, as `compare` does. It
-    /// is None if there was no profile. One kept profile is enough for it.
+    /// Adds a profile as the latest, as `keep` does, and returns the changes since the one before, as `compare` does.
+    /// It is None if there was no profile. A history of one profile is enough for it.
     ///
     /// It returns `TooLarge` exactly if the totals of the two profiles together exceed `usize::MAX`. The only other
     /// error is that memory runs out. After an error the history is unchanged.
@@ -98,8 +98,8 @@ impl History {
         Ok(changes)
     }
 
-    /// Takes a profile of a value, as `take_profile` does, keeps its graph as the latest, and returns the changes since the
-    /// one before, as `keep_changes` does.
+    /// Takes a profile of a value, as `take_profile` does, keeps its graph as the latest, and returns the changes since
+    /// the one before, as `keep_changes` does.
     ///
     /// The errors are those of `take_profile`, and `TooLarge` if the totals of the two profiles together exceed
     /// `usize::MAX`, which those of two values never do. After an error the history is unchanged.
