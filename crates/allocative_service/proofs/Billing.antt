@@ -15,9 +15,9 @@ use Rattle.std.proofs.lemmas.Map.Keys.{sorted_tail}
 use Rattle.std.proofs.lemmas.Option.{same_Some}
 use Rattle.allocative.specs.Forest.{Forest}
 use Rattle.allocative_service.specs.declared.measure.Measure.{Measure}
-use Rattle.allocative_service.specs.declared.store.shelf.Entry.{Entry}
+use Rattle.allocative_service.specs.declared.kept.Kept.{Kept}
 use Rattle.allocative_service.specs.Measured.{Declares}
-use Rattle.allocative_service.specs.Store.{IsBilled}
+use Rattle.allocative_service.specs.Kept.{IsBilled}
 use Rattle.allocative_service.proofs.Accounts.{sum_by-written}
 use Rattle.allocative_service.specs.Book.{AreBilled, billed_sum, bytes_in}
 
@@ -124,7 +124,7 @@ pub ruleset changing =
 
 -- A key that is found declares the bytes that are billed for it.
 pub key_billed : {K V : Type 0} {key_size : Option ℕ} {key_shows : K → Forest → Type 0} {size : Option ℕ}
-    {may_show : V → Forest → Type 0} {m : Measure} (test : K → Bool) (es : List (K × Entry V)) (k : K) (e : Entry V) →
+    {may_show : V → Forest → Type 0} {m : Measure} (test : K → Bool) (es : List (K × Kept V)) (k : K) (e : Kept V) →
     AreBilled (IsBilled key_size key_shows size may_show m) es → Some k ≡ lookup_key test es → Some e ≡ lookup test es →
     Declares m key_size (key_shows k) e.key_bytes
 key_billed {key_size} {key_shows} {size} {may_show} {m} test es k e h key entry =

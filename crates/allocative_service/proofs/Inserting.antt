@@ -1,19 +1,22 @@
 -- The entries after an insertion.
-use Rattle.std.proofs.Common.{◌≡◌, ℕ, ◌+◌, ◌<◌, ◌≤◌, Bool, Option, None, [], ◌∷◌, length, refl, ap, ◌∙◌, subst, arith}
+use Rattle.std.proofs.Common.{◌≡◌, ℕ, ◌+◌, ◌<◌, ◌≤◌, Bool, true, false, cond, Option, Some, None, [], ◌∷◌, length, refl, ap, ◌∙◌, subst, arith}
 use Rattle.std.proofs.Common.{take_all, All}
-use Rattle.std.specs.Map.{lookup, lookup_entry, remove_entry, values_of}
+use Rattle.std.specs.Map.{lookup, lookup_entry, remove_entry}
 use Rattle.allocative.specs.Forest.{Forest}
-use Rattle.allocative_service.specs.declared.cache.Kept.{Kept}
-use Rattle.allocative_service.specs.Entries.{Entries, bytes_of, Bounded, KeepsRecent, IsBounded, IsMeasured, AreKept}
-use Rattle.allocative_service.specs.Entries.{kept, with_entries, stored_key, IsFigure, Inserts}
-use Rattle.std.specs.Option.{option_map, unwrap_or}
-use Rattle.std.proofs.lemmas.List.{map-append}
-use Rattle.std.proofs.lemmas.List.Elements.{All-cons, All-take}
+use Rattle.allocative_service.specs.declared.kept.Kept.{Kept}
+use Rattle.allocative_service.specs.Book.{AreBilled}
+use Rattle.allocative_service.specs.Entries.{Entries, bytes_of, Bounded, KeepsRecent, IsBounded, AreKept}
+use Rattle.allocative_service.specs.Entries.{with_entries, stored_key, Inserts}
+use Rattle.allocative_service.specs.Kept.{IsBilled}
+use Rattle.allocative_service.specs.Measured.{Declares}
+use Rattle.std.specs.Option.{option_map, option_map_or, unwrap_or}
+use Rattle.std.proofs.lemmas.List.Elements.{All-cons, All-head, All-tail, All-take}
+use Rattle.std.proofs.lemmas.Option.{same_Some}
 use Rattle.std.proofs.lemmas.Map.Entries.{sum_by-remove_entry}
-use Rattle.std.proofs.lemmas.Map.Views.{All-map-remove_entry}
 use Rattle.std.proofs.Math.Seq.{take-append_seam}
 use Rattle.lru.specs.LruCache.{LruCache, put_entries}
 use Rattle.allocative_service.specs.declared.measure.Measure.{Measure}
+use Rattle.allocative_service.proofs.Billing.{billed-remove}
 use Rattle.allocative_service.proofs.Evicting.{bytes_of-cons, first_stays}
 
 module _ {K V : Type 0} where
@@ -37,54 +40,90 @@ module _ {K V : Type 0} where
       × (unwrap_or (option_map (λ (k : Kept V). k.bytes) (lookup test es)) 0 ≤ bytes_of es)
   kept_within test es = (refl, omega (arith, bytes_of-remove_entry test es (lookup test es) refl))
 
-module _ {K V : Type 0} {size : Option ℕ} {may_show : V → Forest → Type 0} {m : Measure} where
+module _ {K V : Type 0} {key_size : Option ℕ} {key_shows : K → Forest → Type 0} {size : Option ℕ}
+    {may_show : V → Forest → Type 0} {m : Measure} where
   -- What is left without a key is kept.
-  pub without-kept : {es : Entries K V} {n : ℕ} (test : K → Bool) → AreKept size may_show m es n →
-      AreKept size may_show m (remove_entry test es) n
+  pub without-kept : {es : Entries K V} {n : ℕ} (test : K → Bool) → AreKept key_size key_shows size may_show m es n →
+      AreKept key_size key_shows size may_show m (remove_entry test es) n
   without-kept {es} test h = record {
     within = let sum = bytes_of-remove_entry test es (lookup test es) refl in omega (arith, sum, h.within);
-    measured = All-map-remove_entry test (λ (e : K × Kept V). e.1) (IsMeasured size may_show m) es h.measured;
+    measured = billed-remove (IsBilled key_size key_shows size may_show m) test es h.measured;
   }
 
-  -- An entry that has its figure is kept before others.
-  pub first-kept : {es : Entries K V} {n : ℕ} (k : K × Kept V) (most : ℕ) → IsFigure size may_show m k.1.value k.1.bytes →
-      k.1.bytes + bytes_of es ≤ most → AreKept size may_show m es n → AreKept size may_show m (k ∷ es) most
-  first-kept {es} k most figure fits h = record {
+  -- An entry that has its bill is kept before others.
+  pub first-kept : {es : Entries K V} {n : ℕ} (k : K × Kept V) (most : ℕ) →
+      IsBilled key_size key_shows size may_show m k.0 k.1 → k.1.bytes + bytes_of es ≤ most →
+      AreKept key_size key_shows size may_show m es n → AreKept key_size key_shows size may_show m (k ∷ es) most
+  first-kept {es} k most bill fits h = record {
     within = let sum = bytes_of-cons k es in omega (arith, sum, fits);
-    measured = All-cons (IsMeasured size may_show m) k.1 (values_of es) figure h.measured;
+    measured = All-cons (λ (e : K × Kept V). IsBilled key_size key_shows size may_show m e.0 e.1) k es bill h.measured;
   }
 
   module _ {F : Type 0} {step : F → K → V → F → Type 0} {on_evict : F} where
     -- What stays after evictions is kept.
     pub recent-kept : {before after : Entries K V} {room n : ℕ} (most : ℕ) → KeepsRecent step on_evict room before after →
-        bytes_of after ≤ most → AreKept size may_show m before n → AreKept size may_show m after most
+        bytes_of after ≤ most → AreKept key_size key_shows size may_show m before n →
+        AreKept key_size key_shows size may_show m after most
     recent-kept {before} {after} {room} most recent within h = record {
       within = within;
       measured =
-          let split = map-append (λ (e : K × Kept V). e.1) after recent.gone in
-          subst (All (IsMeasured size may_show m)) (take-append_seam (values_of after) (values_of recent.gone))
-          (All-take (IsMeasured size may_show m) _ _ (rw (recent.parts, split) at h.measured));
+          let P = λ (e : K × Kept V). IsBilled key_size key_shows size may_show m e.0 e.1 in
+          subst (All P) (take-append_seam after recent.gone) (All-take P _ _ (rw recent.parts at h.measured));
     }
 
-module _ {F K V : Type 0} {size : Option ℕ} {may_show : V → Forest → Type 0} {eq : K → K → Bool}
-    {step : F → K → V → F → Type 0} {on_evict : F} {key : K} {v : V} {old : Bounded K V} where
+module _ {F K V : Type 0} {key_size : Option ℕ} {key_shows : K → Forest → Type 0} {size : Option ℕ}
+    {may_show : V → Forest → Type 0} {eq : K → K → Bool} {step : F → K → V → F → Type 0} {on_evict : F} {key : K} {v : V}
+    {old : Bounded K V} where
   -- Putting a value first and then evicting others is an insertion.
-  pub insertion : (n : ℕ) (put now : Entries K V) → IsFigure size may_show old.measure v n → n ≤ old.bound
-      → put ≡ (stored_key eq key old.entries, kept v n) ∷ remove_entry (eq key) old.entries →
+  pub insertion : (entry : Kept V) (put now : Entries K V) → entry.value ≡ v →
+      IsBilled key_size key_shows size may_show old.measure (stored_key eq key old.entries) entry → entry.bytes ≤ old.bound
+      → put ≡ (stored_key eq key old.entries, entry) ∷ remove_entry (eq key) old.entries →
       KeepsRecent step on_evict old.bound put now → bytes_of now ≤ old.bound
-      → Inserts size may_show eq step on_evict key v old (with_entries old now)
-  insertion n put now figure fits is recent within =
-      let k : K × Kept V = (stored_key eq key old.entries, kept v n) in
+      → Inserts key_size key_shows size may_show eq step on_evict key v old (with_entries old now)
+  insertion entry put now value bill fits is recent within =
+      let k : K × Kept V = (stored_key eq key old.entries, entry) in
       let e = first_stays step on_evict old.bound k (remove_entry (eq key) old.entries) now fits
       (subst (λ (l : Entries K V). KeepsRecent step on_evict old.bound l now) is recent) in
       let sum = ap (λ (l : Entries K V). bytes_of l) e.1 ∙ bytes_of-cons k e.0 in
-      record { bytes = n; others = e.0; figure = figure; fits = omega (arith, sum, within); recent = e.2; is = ap (λ (l : Entries K V). with_entries old l) e.1 }
+      record {
+        entry = entry;
+        others = e.0;
+        value = value;
+        billed = bill;
+        fits = omega (arith, sum, within);
+        recent = e.2;
+        is = ap (λ (l : Entries K V). with_entries old l) e.1;
+      }
 
   -- After an insertion the cache is still within its bound.
-  pub Inserts-bounded : {new : Bounded K V} → Inserts size may_show eq step on_evict key v old new →
-      IsBounded size may_show old → IsBounded size may_show new
-  Inserts-bounded i h = rw i.is (first-kept _ old.bound i.figure i.fits
+  pub Inserts-bounded : {new : Bounded K V} → Inserts key_size key_shows size may_show eq step on_evict key v old new →
+      IsBounded key_size key_shows size may_show old → IsBounded key_size key_shows size may_show new
+  Inserts-bounded i h = rw i.is (first-kept _ old.bound i.billed i.fits
       (recent-kept old.bound i.recent (omega (arith, i.fits)) (without-kept (eq key) h)))
+
+-- A key that is not there is stored as it is.
+pub stored_new : {K V : Type 0} (eq : K → K → Bool) (key : K) (es : Entries K V) → lookup (eq key) es ≡ None →
+    stored_key eq key es ≡ key
+stored_new eq key [] none = refl
+stored_new eq key (e ∷ es) none = grind (arith, stored_new eq key es)
+
+-- A key that is found declares the bytes that are billed for it.
+pub stored_billed : {K V : Type 0} {key_size : Option ℕ} {key_shows : K → Forest → Type 0} {size : Option ℕ}
+    {may_show : V → Forest → Type 0} {m : Measure} (eq : K → K → Bool) (key : K) (es : Entries K V) (k : Kept V) →
+    AreBilled (IsBilled key_size key_shows size may_show m) es → Some k ≡ lookup (eq key) es →
+    Declares m key_size (key_shows (stored_key eq key es)) k.key_bytes
+stored_billed eq key [] k h found = absurd cc
+stored_billed {K} {V} {key_size} {key_shows} {size} {may_show} {m} eq key (e ∷ es) k h found =
+    let P : K × Kept V → Type 0 = λ f. IsBilled key_size key_shows size may_show m f.0 f.1 in
+    let here : IsBilled key_size key_shows size may_show m e.0 e.1 = All-head P e es h in
+    by (eq key e.0) here.of_key (stored_billed eq key es k (All-tail P e es h)) found
+  where
+    by : (b : Bool) → Declares m key_size (key_shows e.0) e.1.key_bytes →
+        (Some k ≡ lookup (eq key) es → Declares m key_size (key_shows (stored_key eq key es)) k.key_bytes) →
+        Some k ≡ cond b (Some e.1) (lookup (eq key) es) →
+        Declares m key_size (key_shows (option_map_or (λ f. f.0) (cond b (Some e) (lookup_entry (eq key) es)) key)) k.key_bytes
+    by true here rest is = rw (same_Some k e.1 is) here
+    by false here rest is = rest is
 
 -- The lemmas on the entries that a value is put into.
 pub ruleset putting = (bytes_of-remove_entry, put_entries-unbounded, kept_within)

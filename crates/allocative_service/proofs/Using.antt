@@ -1,11 +1,11 @@
 -- Making an entry the most recently used changes no figure.
 use Rattle.std.proofs.Common.{◌≡◌, ℕ, ◌+◌, Bool, Option, Some, None, refl, sym, ap, arith, ◌∙◌, option_map}
-use Rattle.std.specs.Map.{lookup_entry, remove_entry, values_of}
+use Rattle.std.specs.Map.{lookup_entry, remove_entry}
 use Rattle.allocative.specs.Forest.{Forest}
-use Rattle.allocative_service.specs.declared.cache.Kept.{Kept}
-use Rattle.allocative_service.specs.Entries.{Entries, bytes_of, IsMeasured, AreKept}
+use Rattle.allocative_service.specs.declared.kept.Kept.{Kept}
+use Rattle.allocative_service.specs.Entries.{Entries, bytes_of, AreKept}
+use Rattle.allocative_service.specs.Kept.{IsBilled}
 use Rattle.std.proofs.lemmas.List.Elements.{All-contains}
-use Rattle.std.proofs.lemmas.Map.Made.{Contains-values_of}
 use Rattle.lru.specs.LruCache.{promoted}
 use Rattle.lru.proofs.CallerLemmas.{Contains-lookup_entry}
 use Rattle.lru.proofs.Pairs.{lookup-lookup_entry}
@@ -21,16 +21,17 @@ module _ {K V : Type 0} (test : K → Bool) (es : Entries K V) where
       (ap (option_map (λ (f : K × Kept V). f.1)) is ∙ lookup-lookup_entry test es)
 
   -- Using a key changes no bytes, and all entries stay kept.
-  pub promoted-kept : {C : Type 0} {size : Option ℕ} {may_show : V → Forest → Type 0} {m : Measure} {n bytes : ℕ} →
-      C × (bytes ≡ bytes_of es) × AreKept size may_show m es n →
-      C × (bytes ≡ bytes_of (promoted test es)) × AreKept size may_show m (promoted test es) n
-  promoted-kept {C} {size} {may_show} {m} {n} {bytes} (known, is, h) = (elim (lookup_entry test es) as (λ o. lookup_entry test es ≡ o → C × (bytes ≡ bytes_of (promoted test es)) × AreKept size may_show m (promoted test es) n) [
+  pub promoted-kept : {C : Type 0} {key_size : Option ℕ} {key_shows : K → Forest → Type 0} {size : Option ℕ}
+      {may_show : V → Forest → Type 0} {m : Measure} {n bytes : ℕ} →
+      C × (bytes ≡ bytes_of es) × AreKept key_size key_shows size may_show m es n →
+      C × (bytes ≡ bytes_of (promoted test es)) × AreKept key_size key_shows size may_show m (promoted test es) n
+  promoted-kept {C} {key_size} {key_shows} {size} {may_show} {m} {n} {bytes} (known, is, h) = (elim (lookup_entry test es) as (λ o. lookup_entry test es ≡ o → C × (bytes ≡ bytes_of (promoted test es)) × AreKept key_size key_shows size may_show m (promoted test es) n) [
     | None ↦ λ none. rw none (known, is, h)
     | Some e ↦ λ some.
         let sum = bytes_of-taken e (sym some) in
         let first = bytes_of-cons e (remove_entry test es) in
-        let it = All-contains (IsMeasured size may_show m) (values_of es) e.1 h.measured
-        (Contains-values_of es e.0 e.1 (Contains-lookup_entry test es e some).0) in
+        let it = All-contains (λ (f : K × Kept V). IsBilled key_size key_shows size may_show m f.0 f.1) es e h.measured
+        (Contains-lookup_entry test es e some).0 in
         rw some (known, omega (arith, is, sum, first), first-kept e n it (omega (arith, sum, h.within)) (without-kept test h))
   ]) refl
 

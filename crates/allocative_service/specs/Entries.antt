@@ -1,33 +1,32 @@
 -- The model of a cache, and what its calls do.
-use Rattle.std.specs.Prelude.{◌≡◌, ℕ, ◌+◌, ◌-◌, ◌<◌, ◌≤◌, Bool, Option, Some, List, [], ◌∷◌, ◌++◌, All, sum_by}
+use Rattle.std.specs.Prelude.{◌≡◌, ◌⊎◌, ℕ, ◌+◌, ◌-◌, ◌^◌, ◌<◌, ◌≤◌, Bool, Option, None, Some, List, [], ◌∷◌, ◌++◌}
 use Rattle.std.specs.Prelude.{option_map, ⊤}
 use denote.Param.Members.{Once}
 use Rattle.std.specs.Borrow.{Fml, RattleType, MutBor, follows_so}
 use Rattle.std.specs.Fn.{FnOnceReturnsAtMut}
-use Rattle.std.specs.Map.{lookup, lookup_entry, remove_entry, values_of}
+use Rattle.std.specs.Map.{lookup, lookup_entry, remove_entry}
 use Rattle.std.specs.Option.{option_map_or}
 use mathlib.Core.Option.{none}
 use Rattle.allocative.specs.Forest.{Forest}
 use Rattle.lru.specs.LruCache.{promoted}
-use Rattle.allocative_service.specs.Measured.{Declares, MayRefuseMeasure}
-use Rattle.allocative_service.specs.declared.cache.Kept.{Kept}
+use Rattle.allocative_graph.specs.declared.refusal.Refusal.TheVariants as refusal
+use Rattle.allocative_service.specs.Measured.{MayRefuseMeasure}
+use Rattle.allocative_service.specs.Book.{AreBilled, billed_sum}
+use Rattle.allocative_service.specs.Kept.{IsBill, IsBilled, kept_bytes}
+use Rattle.allocative_service.specs.declared.kept.Kept.{Kept}
 use Rattle.allocative_service.specs.declared.measure.Measure.{Measure}
 use Rattle.allocative_service.specs.declared.cache.error.Refused.{Refused}
 use Rattle.allocative_service.specs.declared.cache.error.CacheError.{CacheError}
 use Rattle.allocative_service.specs.declared.cache.error.CacheError.TheVariants.{TooLarge, NotMeasured, Memory}
 
 -- ---- a cache
--- A value v with the figure n, its declared bytes.
-abbrev pub kept : {V : Type 0} → V → ℕ → Kept V
-kept v n = record { value = v; bytes = n }
-
 -- The keys with their kept values, the most recently used first.
 abbrev pub Entries : Type 0 → Type 0 → Type 0
 Entries K V = List (K × Kept V)
 
--- The sum of the figures.
+-- The sum of the bytes that are billed.
 abbrev pub bytes_of : {K V : Type 0} → Entries K V → ℕ
-bytes_of es = sum_by (λ k. k.bytes) (values_of es)
+bytes_of es = billed_sum kept_bytes es
 
 -- The value under the key that passes the test.
 abbrev pub value_at : {K V : Type 0} → (K → Bool) → Entries K V → Option V
@@ -99,59 +98,61 @@ pub record KeepsRecent {F K V : Type 0} (step : F → K → V → F → Type 0) 
   pub last : F
   pub handed : HandsBack step on_evict gone last
 
-module _ {V : Type 0} (size : Option ℕ) (may_show : V → Forest → Type 0) where
-  -- ---- the figures
-  -- By the measure, n is a figure of v: the bytes that v declares in a forest that v may show.
-  abbrev pub IsFigure : Measure → V → ℕ → Type 0
-  IsFigure m v n = Declares m size (may_show v) n
+module _ {K V : Type 0} (key_size : Option ℕ) (key_shows : K → Forest → Type 0) (size : Option ℕ)
+    (may_show : V → Forest → Type 0) where
+  -- By the measure, n is a bill of v under the key, of which the key is the one that the entries store.
+  abbrev pub IsBillIn : (K → K → Bool) → Measure → Entries K V → K → V → ℕ → Type 0
+  IsBillIn eq m es key v n = (k : ℕ) × IsBill key_size key_shows size may_show m (stored_key eq key es) v k n
 
-  -- The figure of a kept value is one of that value.
-  abbrev pub IsMeasured : Measure → Kept V → Type 0
-  IsMeasured m k = IsFigure m k.value k.bytes
+  -- Why a cache refuses v under the key: a bill of them exceeds the bound; a key that it does not have, or v, could not
+  -- be measured, as the measure says, or a bill fits no word; or a bill is within the bound and memory runs out.
+  abbrev pub RefusesInsert : Bool → Bool → (K → K → Bool) → K → V → Bounded K V → CacheError → Type 0
+  RefusesInsert key_strict is_strict eq key v c (TooLarge bytes most) =
+      IsBillIn eq c.measure c.entries key v bytes × (most ≡ c.bound) × (c.bound < bytes)
+  RefusesInsert key_strict is_strict eq key v c (NotMeasured e) =
+      ((lookup (eq key) c.entries ≡ None) × MayRefuseMeasure c.measure key_strict key_size (key_shows key) e)
+      ⊎ (MayRefuseMeasure c.measure is_strict size (may_show v) e
+      ⊎ ((e ≡ refusal.TooLarge) × (n : ℕ) × IsBillIn eq c.measure c.entries key v n × (2 ^ 64 ≤ n)))
+  RefusesInsert key_strict is_strict eq key v c Memory =
+      (n : ℕ) × IsBillIn eq c.measure c.entries key v n × (n ≤ c.bound)
 
-  -- Why a cache with this measure and this bound refuses v: a figure of v exceeds the bound, or v could not be
-  -- measured, as the measure says, or a figure of v is within the bound and memory runs out.
-  abbrev pub RefusesInsert : Bool → V → Measure → ℕ → CacheError → Type 0
-  RefusesInsert is_strict v m bound (TooLarge bytes most) = IsFigure m v bytes × (most ≡ bound) × (bound < bytes)
-  RefusesInsert is_strict v m bound (NotMeasured e) = MayRefuseMeasure m is_strict size (may_show v) e
-  RefusesInsert is_strict v m bound Memory = (bytes : ℕ) × IsFigure m v bytes × (bytes ≤ bound)
+  -- ---- what the cache promises
+  -- All bills together are at most `most`, and each is one of its key and its value.
+  pub record AreKept (m : Measure) (es : Entries K V) (most : ℕ) : Type 0 where
+    pub within : bytes_of es ≤ most
+    pub measured : AreBilled (IsBilled key_size key_shows size may_show m) es
 
-  module _ {K : Type 0} where
-    -- ---- what the cache promises
-    -- The figures together are at most `most`, and each is one of its value.
-    pub record AreKept (m : Measure) (es : Entries K V) (most : ℕ) : Type 0 where
-      pub within : bytes_of es ≤ most
-      pub measured : All (IsMeasured m) (values_of es)
+  -- All bills together are within the bound, and each is one of its key and its value.
+  abbrev pub IsBounded : Bounded K V → Type 0
+  IsBounded c = AreKept c.measure c.entries c.bound
 
-    -- The figures together are within the bound, and each is one of its value.
-    abbrev pub IsBounded : Bounded K V → Type 0
-    IsBounded c = AreKept c.measure c.entries c.bound
+  module _ {F : Type 0} (eq : K → K → Bool) (step : F → K → V → F → Type 0) where
+    -- The key now has v, with a bill of the stored key and v, as the most recently used entry. The old entry of the key is
+    -- gone. Of the others the least recently used are evicted, only as many as the bound requires, and the closure was
+    -- called once with each.
+    pub record Inserts (on_evict : F) (key : K) (v : V) (old new : Bounded K V) : Type 0 where
+      pub entry : Kept V
+      pub others : Entries K V
+      pub value : entry.value ≡ v
+      pub billed : IsBilled key_size key_shows size may_show old.measure (stored_key eq key old.entries) entry
+      pub fits : entry.bytes + bytes_of others ≤ old.bound
+      pub recent : KeepsRecent step on_evict (old.bound - entry.bytes) (remove_entry (eq key) old.entries) others
+      pub is : new ≡ with_entries old ((stored_key eq key old.entries, entry) ∷ others)
 
-    module _ {F : Type 0} (eq : K → K → Bool) (step : F → K → V → F → Type 0) where
-      -- The key now has v with a figure of v, as the most recently used entry. The old entry of the key is gone. Of
-      -- the others the least recently used are evicted, only as many as the bound requires, and the closure was
-      -- called once with each.
-      pub record Inserts (on_evict : F) (key : K) (v : V) (old new : Bounded K V) : Type 0 where
-        pub bytes : ℕ
-        pub others : Entries K V
-        pub figure : IsFigure old.measure v bytes
-        pub fits : bytes + bytes_of others ≤ old.bound
-        pub recent : KeepsRecent step on_evict (old.bound - bytes) (remove_entry (eq key) old.entries) others
-        pub is : new ≡ with_entries old ((stored_key eq key old.entries, kept v bytes) ∷ others)
+    -- The value of the key that passes the test was changed as `changed` says, measured again and inserted.
+    pub record Changes (on_evict : F) (test : K → Bool) (changed : V → V → Type 0) (old new : Bounded K V) : Type 0
+      where
+        pub key : K
+        pub had : Kept V
+        pub value : V
+        pub found : lookup_entry test old.entries ≡ Some (key, had)
+        pub changes : changed had.value value
+        pub inserts : Inserts on_evict key value (without test old) new
 
-      -- The value of the key that passes the test was changed as `changed` says, measured again and inserted.
-      pub record Changes (on_evict : F) (test : K → Bool) (changed : V → V → Type 0) (old new : Bounded K V) : Type 0
-        where
-          pub key : K
-          pub had : Kept V
-          pub value : V
-          pub found : lookup_entry test old.entries ≡ Some (key, had)
-          pub changes : changed had.value value
-          pub inserts : Inserts on_evict key value (without test old) new
-
-    -- The value of the key that passes the test was changed as `changed` says, and inserting it again is refused. The
-    -- refusal has the key and the changed value.
-    abbrev pub RefusesChange : Bool → (K → Bool) → (V → V → Type 0) → Bounded K V → Refused K V CacheError
-        → Type 0
-    RefusesChange is_strict test changed old r = (had : Kept V) × (lookup_entry test old.entries ≡ Some (r.key, had))
-        × changed had.value r.value × RefusesInsert is_strict r.value old.measure old.bound r.error
+  -- The value of the key that passes the test was changed as `changed` says, and inserting it again is refused. The
+  -- refusal has the key and the changed value.
+  abbrev pub RefusesChange : Bool → Bool → (K → K → Bool) → (K → Bool) → (V → V → Type 0) → Bounded K V
+      → Refused K V CacheError → Type 0
+  RefusesChange key_strict is_strict eq test changed old r = (had : Kept V)
+      × (lookup_entry test old.entries ≡ Some (r.key, had)) × changed had.value r.value
+      × RefusesInsert key_strict is_strict eq r.key r.value (without test old) r.error

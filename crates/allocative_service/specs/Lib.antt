@@ -2,6 +2,7 @@ pub mod Measured
 pub mod Book
 pub mod Ledger
 pub mod Rejected
+pub mod Kept
 pub mod Entries
 pub mod Store
 pub mod Changes

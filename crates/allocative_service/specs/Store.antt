@@ -14,20 +14,17 @@ use Rattle.allocative_service.specs.declared.book.rejection.Rejection.{Rejection
 use Rattle.allocative_service.specs.declared.book.rejection.Rejection.TheVariants.{NotMeasured, TooLarge}
 use Rattle.allocative_service.specs.declared.cache.error.Refused.{Refused}
 use Rattle.allocative_service.specs.declared.measure.Measure.{Measure}
-use Rattle.allocative_service.specs.declared.store.shelf.Entry.{Entry}
-
--- The bytes that are billed for an entry.
-abbrev pub bytes_of : {V : Type 0} → Entry V → ℕ
-bytes_of e = e.bytes
+use Rattle.allocative_service.specs.declared.kept.Kept.{Kept}
+use Rattle.allocative_service.specs.Kept.{IsBill, IsBilled, kept_bytes}
 
 -- The account of one tenant's values.
 abbrev pub Shelved : Type 0 → Type 0 → Type 0
-Shelved K V = AccountData K (Entry V)
+Shelved K V = AccountData K (Kept V)
 
 module _ {K V : Type 0} where
   -- The bytes of all keys and values of a shelf.
   abbrev pub sum_of : Shelved K V → ℕ
-  sum_of h = billed_sum bytes_of h.entries
+  sum_of h = billed_sum kept_bytes h.entries
 
   -- The value under the key that passes the test.
   abbrev pub value_at : (K → Bool) → Shelved K V → Option V
@@ -38,39 +35,28 @@ module _ {K V : Type 0} where
   stored_key cmp key h = unwrap_or (lookup_key (is_at (cmp key)) h.entries) key
 
   -- The shelf with these entries, whose bytes are `total` together. Its peak is at least that.
-  abbrev pub with_entries : List (K × Entry V) → ℕ → Shelved K V → Shelved K V
+  abbrev pub with_entries : List (K × Kept V) → ℕ → Shelved K V → Shelved K V
   with_entries entries total h = record h { peak = max h.peak total; entries = entries }
 
   -- The tenant's shelf is replaced by one of which P holds with the one before it. Nothing else changes.
-  abbrev pub Replaces : List ℕ → (Shelved K V → Shelved K V → Type 0) → BookData K (Entry V) → BookData K (Entry V)
+  abbrev pub Replaces : List ℕ → (Shelved K V → Shelved K V → Type 0) → BookData K (Kept V) → BookData K (Kept V)
       → Type 0
   Replaces tenant P old new = IsSomeAnd (account_of tenant old) (λ before. (after : Shelved K V) × P before after
       × SetsAccount tenant after old new)
 
 module _ {K V : Type 0} (key_size : Option ℕ) (key_shows : K → Forest → Type 0) (size : Option ℕ)
     (may_show : V → Forest → Type 0) where
-  -- By the measure, these are the bytes that the key declares, and those of the key and the value together.
-  pub record IsBill (m : Measure) (key : K) (v : V) (key_bytes bytes : ℕ) : Type 0 where
-    pub value_bytes : ℕ
-    pub of_key : Declares m key_size (key_shows key) key_bytes
-    pub of_value : Declares m size (may_show v) value_bytes
-    pub together : bytes ≡ key_bytes + value_bytes
-
-  -- The entry has the bytes that its key and its value declare.
-  abbrev pub IsBilled : Measure → K → Entry V → Type 0
-  IsBilled m key e = IsBill m key e.value e.key_bytes e.bytes
-
   -- The key now has the value, with a bill of the stored key and the value, and the other entries are as they were.
   -- There was room for it in place of what the key had, where all shelves had `all` bytes and may have `most`.
   pub record PutsOnShelf (cmp : K → K → Ordering) (all most : ℕ) (key : K) (v : V) (old new : Shelved K V) : Type 0
     where
-      pub entry : Entry V
+      pub entry : Kept V
       pub total : ℕ
       pub value : entry.value ≡ v
-      pub billed : IsBilled old.measure (stored_key cmp key old) entry
-      pub room : HasRoom all (Some most) (sum_of old) old.limit (bytes_in bytes_of (lookup (is_at (cmp key)) old.entries))
+      pub billed : IsBilled key_size key_shows size may_show old.measure (stored_key cmp key old) entry
+      pub room : HasRoom all (Some most) (sum_of old) old.limit (bytes_in kept_bytes (lookup (is_at (cmp key)) old.entries))
           entry.bytes
-      pub total_is : total + bytes_in bytes_of (lookup (is_at (cmp key)) old.entries) ≡ sum_of old + entry.bytes
+      pub total_is : total + bytes_in kept_bytes (lookup (is_at (cmp key)) old.entries) ≡ sum_of old + entry.bytes
       pub is : new ≡ with_entries (insert_entry cmp old.entries key entry) total old
 
   -- Why a shelf refuses the value under the key, where all shelves have `all` bytes and may have `most`: a key that it
@@ -81,8 +67,8 @@ module _ {K V : Type 0} (key_size : Option ℕ) (key_shows : K → Forest → Ty
       ((e : Refusal) × (r ≡ NotMeasured e) × (lookup (is_at (cmp key)) h.entries ≡ None)
       × MayRefuseMeasure h.measure key_strict key_size (key_shows key) e)
       ⊎ (((e : Refusal) × (r ≡ NotMeasured e) × MayRefuseMeasure h.measure is_strict size (may_show v) e)
-      ⊎ ((k : ℕ) × (n : ℕ) × IsBill h.measure (stored_key cmp key h) v k n
-      × RejectsKept all most (sum_of h) h.limit (bytes_in bytes_of (lookup (is_at (cmp key)) h.entries)) n r))
+      ⊎ ((k : ℕ) × (n : ℕ) × IsBill key_size key_shows size may_show h.measure (stored_key cmp key h) v k n
+      × RejectsKept all most (sum_of h) h.limit (bytes_in kept_bytes (lookup (is_at (cmp key)) h.entries)) n r))
 
 module _ {V : Type 0} (size : Option ℕ) (may_show : V → Forest → Type 0) where
   -- Why the changed value is not kept beside a key of so many bytes, where all other entries have `others`: it could not be
@@ -97,8 +83,8 @@ module _ {V : Type 0} (size : Option ℕ) (may_show : V → Forest → Type 0) w
     -- The value of the key that passes the test was changed as `changed` says, in its place, and has the bytes of its key
     -- and those that it now declares. The other entries are as they were.
     pub record KeepsChanged (test : K → Bool) (changed : V → V → Type 0) (old new : Shelved K V) : Type 0 where
-      pub had : Entry V
-      pub entry : Entry V
+      pub had : Kept V
+      pub entry : Kept V
       pub value_bytes : ℕ
       pub total : ℕ
       pub found : lookup test old.entries ≡ Some had
@@ -113,7 +99,7 @@ module _ {V : Type 0} (size : Option ℕ) (may_show : V → Forest → Type 0) w
     -- `all` bytes. The refusal has the key and the changed value.
     pub record RefusesChanged (is_strict : Bool) (test : K → Bool) (changed : V → V → Type 0) (all : ℕ)
         (h : Shelved K V) (r : Refused K V Rejection) : Type 0 where
-      pub had : Entry V
+      pub had : Kept V
       pub others : ℕ
       pub found : lookup test h.entries ≡ Some had
       pub has_key : lookup_key test h.entries ≡ Some r.key

@@ -3,35 +3,29 @@
 ghost use Rattle.std.specs.Prelude.{◌≡◌, ◌+◌, ◌-◌, ◌^◌, ◌≤◌, Some, [], ◌∷◌, length, OnOk, OnErr, IfOk, IfErr, IfNone, MatchBool, Err, None, option_copied, ◌↔◌, IsTrue, is_some};
 ghost use Rattle.std.specs.Borrow.{sem};
 ghost use Rattle.std.specs.List.{IsDistinct};
-ghost use Rattle.std.specs.Map.{lookup_entry, remove_entry, keys_of};
+ghost use Rattle.std.specs.Map.{lookup, lookup_entry, remove_entry, keys_of};
 ghost use Rattle.std.specs.Map.Iter.{ShowsInOrder, deref_pair};
+ghost use Rattle.allocative_service.specs.Kept.{IsBill};
+ghost use Rattle.allocative_service.specs.Measured.{Declares, MayRefuseMeasure};
 ghost use Rattle.allocative_service.specs.Entries.{bytes_of, KeepsRecent, bounded, with_entries, IsBounded, Inserts, Changes, RefusesInsert, RefusesChange, stored_key, entry_at, value_at, used, without, ends_as, step_of, ChangesTo};
 
 pub mod error;
 mod shown;
 
 pub use crate::cache::error::{CacheError, Refused};
+pub use crate::kept::Kept;
 use crate::measure::Measure;
-use allocative::{Allocative, Described};
+use allocative::{Allocative, Described, Refusal};
 use lru::{Iter, LruCache};
 use std::alloc::{AllocError, AllocFailed, Global};
 use std::hash::{BuildHasher, BuildHasherDefault, FoldHasher, Hash};
 use std::marker::Model;
 
-/// A value, and its declared bytes as they were measured when it was inserted.
-#[derive(Drop)]
-pub struct Kept<V> {
-    /// The value.
-    pub value: V,
-    /// Its declared bytes.
-    pub bytes: usize,
-}
-
-/// A map whose values have together at most as many declared bytes as its bound. When a new value needs room, the
+/// A map whose keys and values have together at most as many declared bytes as its bound. When a new value needs room, the
 /// least recently used values are evicted, and each of them is handed back to the caller. `S` makes the hashers of keys.
 #[derive(Drop)]
 pub struct BoundedCache<
-    K: Eq + Hash,
+    K: Eq + Hash + Allocative + Described,
     V: Allocative + Described,
     S: BuildHasher = BuildHasherDefault<FoldHasher>,
 > {
@@ -42,7 +36,8 @@ pub struct BoundedCache<
     bound: usize,
 }
 
-impl<K: Eq + Hash, V: Allocative + Described, S: BuildHasher> Model for BoundedCache<K, V, S> {
+impl<K: Eq + Hash + Allocative + Described, V: Allocative + Described, S: BuildHasher> Model
+    for BoundedCache<K, V, S> {
     ghost use Rattle.std.specs.Prelude.{◌≡◌, ◌-◌, ◌^◌};
     ghost use Rattle.allocative_service.specs.Entries.{Bounded, bounded, bytes_of, IsBounded};
 
@@ -51,7 +46,7 @@ impl<K: Eq + Hash, V: Allocative + Described, S: BuildHasher> Model for BoundedC
     ghost view = { λ c. bounded c.entries.entries c.bound c.measure };
 
     ghost invariant = { λ c. (c.entries.cap ≡ 2 ^ 64 - 1) × (c.bytes ≡ bytes_of c.entries.entries)
-        × IsBounded V.layout.size V.may_show (bounded c.entries.entries c.bound c.measure) };
+        × IsBounded K.layout.size K.may_show V.layout.size V.may_show (bounded c.entries.entries c.bound c.measure) };
 }
 
 /// Puts the pair first, in place of an entry with an equal key. It returns the old value and its bytes. The other
@@ -108,7 +103,7 @@ fn evict<K: Eq + Hash, V: Drop, S: BuildHasher, F: FnMut(K, V)>(
     left as usize
 }
 
-impl<K: Eq + Hash + Drop, V: Allocative + Described> BoundedCache<K, V> {
+impl<K: Eq + Hash + Allocative + Described, V: Allocative + Described> BoundedCache<K, V> {
     /// An empty cache with a bound in bytes, as the measure counts them. The hasher has a fixed seed: for keys that an
     /// attacker picks, use `with_hasher` with a `RandomState`. The only error is that memory runs out.
     pub fn new(alloc: Global, measure: Measure, bound: usize) -> Result<Self, AllocError>
@@ -118,7 +113,11 @@ impl<K: Eq + Hash + Drop, V: Allocative + Described> BoundedCache<K, V> {
     }
 }
 
-impl<K: Eq + Hash + Drop, V: Allocative + Described, S: BuildHasher + Drop> BoundedCache<K, V, S> {
+impl<
+    K: Eq + Hash + Allocative + Described,
+    V: Allocative + Described,
+    S: BuildHasher + Drop,
+> BoundedCache<K, V, S> {
     ghost use Rattle.allocative_service.specs.contracts.cache.BoundedCache.{the_row};
 
     /// As `new`, with what makes the hashers of keys.
@@ -140,13 +139,48 @@ impl<K: Eq + Hash + Drop, V: Allocative + Described, S: BuildHasher + Drop> Boun
         })
     }
 
-    /// Measures the value and inserts it under the key, as the most recently used. It returns the value that was there
+    /// The bytes that are billed for the key itself. A key that the cache has keeps its bytes, and another is measured. The
+    /// error is that of `Measure::size_of`.
+    fn key_bytes(&self, key: &K) -> Result<usize, Refusal>
+        ensures key { IfOk result (Declares self.now.measure K.layout.size
+            (K.may_show (stored_key K.eq key.now self.now.entries))) }
+        ensures refused { IfErr result (λ e. (lookup (K.eq key.now) self.now.entries ≡ None)
+            × MayRefuseMeasure self.now.measure K.is_strict K.layout.size (K.may_show key.now) e) }
+    {
+        match self.entries.peek(key) {
+            Some(kept) => Ok(kept.key_bytes),
+            None => self.measure.size_of(self.alloc, key),
+        }
+    }
+
+    /// The bytes of the key alone, and those of the key and the value, if these are within the bound. The errors are those
+    /// of `insert` but `Memory`.
+    fn bill(&self, key: &K, value: &V) -> Result<(usize, usize), CacheError>
+        ensures bill { IfOk result (λ bill. IsBill K.layout.size K.may_show V.layout.size V.may_show self.now.measure
+            (stored_key K.eq key.now self.now.entries) value.now bill.0 bill.1) }
+        ensures within { IfOk result (λ bill. bill.1 ≤ self.now.bound) }
+        ensures refused { IfErr result (RefusesInsert K.layout.size K.may_show V.layout.size V.may_show K.is_strict
+            V.is_strict K.eq key.now value.now self.now) }
+    {
+        let key_bytes = self.key_bytes(key)?;
+        let value_bytes = self.measure.size_of(self.alloc, value)?;
+        let Some(bytes) = key_bytes.checked_add(value_bytes) else {
+            return Err(CacheError::NotMeasured(Refusal::TooLarge));
+        };
+        let bound = self.bound;
+        if bytes > bound {
+            return Err(CacheError::TooLarge { bytes, bound });
+        }
+        Ok((key_bytes, bytes))
+    }
+
+    /// Measures the key and the value, and inserts the value under the key, as the most recently used. It returns the value that was there
     /// before. Of the others the least recently used are evicted, no more than necessary. Each is passed to `on_evict`
     /// with its key, the least recently used first.
     ///
-    /// The error is `NotMeasured` if `Measure::size_of` returns an error, `TooLarge` if the value alone exceeds the
-    /// bound, and `Memory` if the value is within the bound and memory runs out. The key and the value come with the
-    /// error, and the cache is unchanged.
+    /// The error is `NotMeasured` if `Measure::size_of` returns an error or the bytes of both fit no word, `TooLarge` if
+    /// the key and the value alone exceed the bound, and `Memory` if they are within the bound and memory runs out. The
+    /// key and the value come with the error, and the cache is unchanged.
     pub fn insert<F: FnMut(K, V)>(
         &mut self,
         key: K,
@@ -155,28 +189,36 @@ impl<K: Eq + Hash + Drop, V: Allocative + Described, S: BuildHasher + Drop> Boun
     ) -> Result<Option<V>, Refused<K, V>>
         requires { F.IsAlwaysCallable on_evict }
         ensures ok { OnOk result
-            (Inserts V.layout.size V.may_show K.eq (step_of F.step) on_evict key value self.old self.new) }
+            (Inserts K.layout.size K.may_show V.layout.size V.may_show K.eq (step_of F.step) on_evict key value self.old self.new) }
         ensures had { IfOk result (λ had. had ≡ value_at (K.eq key) self.old.entries) }
         ensures refused { IfErr result
-            (λ r. RefusesInsert V.layout.size V.may_show V.is_strict value self.old.measure self.old.bound r.error) }
+            (λ r. RefusesInsert K.layout.size K.may_show V.layout.size V.may_show K.is_strict V.is_strict K.eq key value self.old
+            r.error) }
         ensures returned { IfErr result (λ r. (r.key ≡ key) × (r.value ≡ value)) }
         ensures err { OnErr result (self.new ≡ self.old) }
-        ensures bounded { IsBounded V.layout.size V.may_show self.new }
+        ensures bounded { IsBounded K.layout.size K.may_show V.layout.size V.may_show self.new }
     {
-        let room = self.bound;
-        let (error, key, value) = match self.measure.size_of(self.alloc, &value) {
-            Ok(bytes) if bytes <= room => match put(&mut self.entries, key, Kept { value, bytes }) {
-                Ok((had, replaced)) => {
-                    let all = (self.bytes - replaced) as u128 + bytes as u128;
-                    self.bytes = evict(&mut self.entries, all, self.bound, on_evict);
-                    return Ok(had);
-                }
-                Err(AllocFailed { value: (key, kept) }) => (CacheError::Memory, key, kept.value),
-            },
-            Ok(bytes) => (CacheError::TooLarge { bytes, bound: room }, key, value),
-            Err(refusal) => (CacheError::NotMeasured(refusal), key, value),
+        let (key_bytes, bytes) = match self.bill(&key, &value) {
+            Ok(bill) => bill,
+            Err(error) => return Err(Refused { error, key, value }),
         };
-        Err(Refused { error, key, value })
+        let kept = Kept {
+            value,
+            bytes,
+            key_bytes,
+        };
+        match put(&mut self.entries, key, kept) {
+            Ok((had, replaced)) => {
+                let all = (self.bytes - replaced) as u128 + bytes as u128;
+                self.bytes = evict(&mut self.entries, all, self.bound, on_evict);
+                Ok(had)
+            }
+            Err(AllocFailed { value: (key, kept) }) => Err(Refused {
+                error: CacheError::Memory,
+                key,
+                value: kept.value,
+            }),
+        }
     }
 
     /// Removes the key and returns it with its value. If there is no such key, it returns None and nothing changes.
@@ -185,7 +227,7 @@ impl<K: Eq + Hash + Drop, V: Allocative + Described, S: BuildHasher + Drop> Boun
         ensures value { result ≡ entry_at (K.eq key.now) self.old.entries }
         ensures others { self.new ≡ without (K.eq key.now) self.old }
         ensures unchanged { IfNone result (self.new ≡ self.old) }
-        ensures bounded { IsBounded V.layout.size V.may_show self.new }
+        ensures bounded { IsBounded K.layout.size K.may_show V.layout.size V.may_show self.new }
     {
         let (key, kept) = self.entries.pop_entry(key)?;
         self.bytes -= kept.bytes;
@@ -207,7 +249,7 @@ impl<K: Eq + Hash + Drop, V: Allocative + Described, S: BuildHasher + Drop> Boun
         ensures recent { KeepsRecent (step_of F.step)
             on_evict bound self.old.entries self.new.entries }
         ensures set { self.new ≡ bounded self.new.entries bound self.old.measure }
-        ensures bounded { IsBounded V.layout.size V.may_show self.new }
+        ensures bounded { IsBounded K.layout.size K.may_show V.layout.size V.may_show self.new }
     {
         self.bytes = evict(&mut self.entries, self.bytes as u128, bound, on_evict);
         self.bound = bound;
@@ -227,13 +269,13 @@ impl<K: Eq + Hash + Drop, V: Allocative + Described, S: BuildHasher + Drop> Boun
         requires changes { C.IsAlwaysCallable change }
         requires callable { F.IsAlwaysCallable on_evict }
         ensures ok { IfOk result (λ there. MatchBool there
-            (Changes V.layout.size V.may_show K.eq (step_of F.step) on_evict (K.eq key.now)
+            (Changes K.layout.size K.may_show V.layout.size V.may_show K.eq (step_of F.step) on_evict (K.eq key.now)
             (ChangesTo C.FnOnce change) self.old self.new)
             ((lookup_entry (K.eq key.now) self.old.entries ≡ None) × (self.new ≡ self.old))) }
         ensures refused { IfErr result
-            (RefusesChange V.layout.size V.may_show V.is_strict (K.eq key.now) (ChangesTo C.FnOnce change) self.old) }
+            (RefusesChange K.layout.size K.may_show V.layout.size V.may_show K.is_strict V.is_strict K.eq (K.eq key.now) (ChangesTo C.FnOnce change) self.old) }
         ensures err { OnErr result (self.new ≡ without (K.eq key.now) self.old) }
-        ensures bounded { IsBounded V.layout.size V.may_show self.new }
+        ensures bounded { IsBounded K.layout.size K.may_show V.layout.size V.may_show self.new }
     {
         let Some((key, mut value)) = self.remove(key) else {
             return Ok(false);
@@ -249,7 +291,7 @@ impl<K: Eq + Hash + Drop, V: Allocative + Described, S: BuildHasher + Drop> Boun
     pub fn get(&mut self, key: &K) -> Option<&V>
         ensures* order { sem 𝓛 (ends_as
             (the_row K.row V.row S.row S.Hasher.row (record {}) (record { eq = K.eq })
-            (record { hash_input = K.hash_input }) V.Allocative V.Described S.BuildHasher S.Hasher.Hasher) self.entry (used (K.eq key.now) self.old)) }
+            (record { hash_input = K.hash_input }) K.Allocative K.Described V.Allocative V.Described S.BuildHasher S.Hasher.Hasher) self.entry (used (K.eq key.now) self.old)) }
         ensures value { option_copied result ≡ value_at (K.eq key.now) self.old.entries }
     {
         let kept = self.entries.get(key)?;
@@ -301,15 +343,15 @@ impl<K: Eq + Hash + Drop, V: Allocative + Described, S: BuildHasher + Drop> Boun
         self.entries.is_empty()
     }
 
-    /// The declared bytes of all values together.
+    /// The declared bytes of all keys and values together.
     pub fn bytes(&self) -> usize
         ensures sum { result ≡ bytes_of self.now.entries }
-        ensures bounded { IsBounded V.layout.size V.may_show self.now }
+        ensures bounded { IsBounded K.layout.size K.may_show V.layout.size V.may_show self.now }
     {
         self.bytes
     }
 
-    /// The most declared bytes that the values may have together.
+    /// The most declared bytes that the keys and values may have together.
     pub fn bound(&self) -> usize
         ensures { result ≡ self.now.bound }
     {

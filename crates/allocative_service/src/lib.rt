@@ -5,6 +5,7 @@
 pub mod book;
 pub mod cache;
 pub mod history;
+pub mod kept;
 pub mod ledger;
 pub mod measure;
 pub mod store;

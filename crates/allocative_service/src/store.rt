@@ -5,20 +5,21 @@ ghost use Rattle.std.specs.Map.{lookup, lookup_key};
 ghost use Rattle.std.specs.Option.{option_and_then};
 ghost use Rattle.allocative_service.specs.Book.{account_of, all_billed, without_entry, MapsAccount, StandsAt};
 ghost use Rattle.allocative_service.specs.Entries.{ChangesTo};
+ghost use Rattle.allocative_service.specs.Kept.{kept_bytes};
 ghost use Rattle.allocative_service.specs.Rejected.{RejectsIn};
-ghost use Rattle.allocative_service.specs.Store.{bytes_of, value_at, KeepsChanged, PutsOnShelf, RefusesChanged, RefusesPut, Replaces};
+ghost use Rattle.allocative_service.specs.Store.{value_at, KeepsChanged, PutsOnShelf, RefusesChanged, RefusesPut, Replaces};
 
 pub mod shelf;
-mod shown;
 
 use crate::book::{Book, Rejection, Standing};
 use crate::cache::error::Refused;
-pub use crate::store::shelf::{Entry, NotKept, Shelf};
+pub use crate::kept::Kept;
+pub use crate::store::shelf::{NotKept, Shelf};
 use allocative::{Allocative, Described};
 
 /// A book that keeps the values itself, each under a key of its tenant. It bills each key with its value. A value is
 /// reached for writing only by `change`, which measures it again.
-pub type Store<K, V> = Book<K, Entry<V>>;
+pub type Store<K, V> = Book<K, Kept<V>>;
 
 impl<K: Ord + Allocative + Described, V: Allocative + Described> Store<K, V> {
     /// The value of the tenant under the key.
@@ -44,11 +45,11 @@ impl<K: Ord + Allocative + Described, V: Allocative + Described> Store<K, V> {
     #[tactic(auto, using(crate::proofs::Accounts::account_sums))]
     pub fn put(&mut self, tenant: &str, key: K, value: V) -> Result<Option<V>, NotKept<K, V>>
         ensures ok { OnOk result (Replaces tenant.now (PutsOnShelf K.layout.size K.may_show V.layout.size V.may_show
-            K.cmp (all_billed bytes_of self.old.accounts) self.old.limit key value) self.old self.new) }
+            K.cmp (all_billed kept_bytes self.old.accounts) self.old.limit key value) self.old self.new) }
         ensures had { IfOk result
             (λ had. had ≡ option_and_then (value_at (is_at (K.cmp key))) (account_of tenant.now self.old)) }
         ensures refused { IfErr result (λ r. RejectsIn (RefusesPut K.layout.size K.may_show V.layout.size V.may_show
-            K.is_strict V.is_strict K.cmp (all_billed bytes_of self.old.accounts) self.old.limit key value)
+            K.is_strict V.is_strict K.cmp (all_billed kept_bytes self.old.accounts) self.old.limit key value)
             (account_of tenant.now self.old) r.error) }
         ensures returned { IfErr result (λ r. (r.key ≡ key) × (r.value ≡ value)) }
         ensures err { OnErr result (self.new ≡ self.old) }
@@ -83,13 +84,13 @@ impl<K: Ord + Allocative + Described, V: Allocative + Described> Store<K, V> {
         requires { C.IsAlwaysCallable change }
         ensures changed { IfOk result (λ there. OnSome there (Replaces tenant.now (KeepsChanged V.layout.size V.may_show
             (is_at (K.cmp key.now)) (ChangesTo C.FnOnce change)) self.old self.new)) }
-        ensures standing { IfOk result (λ there. IfSome there (StandsAt bytes_of tenant.now self.new)) }
+        ensures standing { IfOk result (λ there. IfSome there (StandsAt kept_bytes tenant.now self.new)) }
         ensures none { IfOk result (λ there. IfNone there
             ((option_and_then (λ h. lookup (is_at (K.cmp key.now)) h.entries) (account_of tenant.now self.old) ≡ None)
             × (self.new ≡ self.old))) }
         ensures refused { IfErr result (λ r. MatchOption (account_of tenant.now self.old) ⊥
             (λ h. RefusesChanged V.layout.size V.may_show V.is_strict (is_at (K.cmp key.now)) (ChangesTo C.FnOnce change)
-            (all_billed bytes_of self.old.accounts) h r)) }
+            (all_billed kept_bytes self.old.accounts) h r)) }
         ensures err { OnErr result
             (MapsAccount tenant.now (without_entry (is_at (K.cmp key.now))) self.old self.new) }
     {

@@ -25,7 +25,7 @@ pub struct Service {
 }
 
 impl Service {
-    /// A service with a catalogue of these items and no document. It keeps pages of 150 bytes together. The catalogue
+    /// A service with a catalogue of these items and no document. It keeps pages of 230 bytes together. The catalogue
     /// has an account of its own, with a limit of 1000 bytes, so it is billed once, and to no tenant: `Measure::Owned`
     /// leaves out what an order's pointer to it points to.
     pub fn new(alloc: Global, items: &[&str]) -> Result<Service> {
@@ -36,7 +36,7 @@ impl Service {
         Ok(Service {
             alloc,
             held,
-            pages: BoundedCache::new(alloc, Measure::Shown, 150).map_err(Refusal::from)?,
+            pages: BoundedCache::new(alloc, Measure::Shown, 230).map_err(Refusal::from)?,
             ledger,
             history: History::new(alloc, 2),
         })

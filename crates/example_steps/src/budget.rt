@@ -28,7 +28,7 @@ pub(crate) fn serve(rt: &impl Print, alloc: Global) -> Result<()> {
 }
 
 fn keep_pages(rt: &impl Print, alloc: Global) -> Result<()> {
-    let mut pages = BoundedCache::new(alloc, Measure::Shown, 80)?;
+    let mut pages = BoundedCache::new(alloc, Measure::Shown, 90)?;
     for number in 1u64..=3 {
         let page = String::from_str(alloc, "twelve bytes")?;
         let kept = pages.insert(number, page, |_number, _page| ());

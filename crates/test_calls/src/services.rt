@@ -54,7 +54,7 @@ fn only_what_may_be_admitted_is_measured(rt: HostRuntime) -> Result<(), Fail> {
 
 /// Two numbers in a cache that has room for both.
 fn two_kept(alloc: Global) -> Result<BoundedCache<u8, u64>, AllocError> {
-    let mut cache = BoundedCache::new(alloc, Measure::Owned, 16)?;
+    let mut cache = BoundedCache::new(alloc, Measure::Owned, 18)?;
     let _first = cache.insert(1, 2, |_key, _value| ());
     let _second = cache.insert(3, 4, |_key, _value| ());
     Ok(cache)
@@ -89,13 +89,13 @@ fn one_profile(alloc: Global) -> Result<History, Refusal> {
 fn services_show_what_they_keep(rt: HostRuntime) -> Result<(), Fail> {
     let alloc = rt.alloc();
     let text =
-        "BoundedCache 24\nBoundedCache;entries;LruCache 56\nBoundedCache;entries;LruCache;ptr 8\nBoundedCache;entries;LruCache;ptr;key;u8 2\nBoundedCache;entries;LruCache;ptr;value;Kept 16\nBoundedCache;entries;LruCache;ptr;value;Kept;value;u64 16\nBoundedCache;entries;LruCache;raw_table 8\nBoundedCache;entries;LruCache;raw_table;alloc 36\n";
+        "BoundedCache 24\nBoundedCache;entries;LruCache 56\nBoundedCache;entries;LruCache;ptr 8\nBoundedCache;entries;LruCache;ptr;key;u8 2\nBoundedCache;entries;LruCache;ptr;value;Kept 32\nBoundedCache;entries;LruCache;ptr;value;Kept;value;u64 16\nBoundedCache;entries;LruCache;raw_table 8\nBoundedCache;entries;LruCache;raw_table;alloc 36\n";
     made(alloc, two_kept(alloc), text)?;
     let text =
         "Book 24\nBook;accounts;BTreeMap 16\nBook;accounts;BTreeMap;data;key;String 16\nBook;accounts;BTreeMap;data;key;String;ptr 8\nBook;accounts;BTreeMap;data;key;String;ptr;capacity;u8 3\nBook;accounts;BTreeMap;data;value;Account 40\nBook;accounts;BTreeMap;data;value;Account;entries;BTreeMap 16\nBook;accounts;BTreeMap;data;value;Account;entries;BTreeMap;data;key;u64 8\nBook;accounts;BTreeMap;data;value;Account;entries;BTreeMap;data;value;usize 8\nIncorrect size declaration for node `Book;accounts;BTreeMap;data`, size of self: 8, size of inline children: 88\nIncorrect size declaration for node `Book;accounts;BTreeMap;data;value;Account;entries;BTreeMap;data`, size of self: 8, size of inline children: 16\n";
     made(alloc, one_admitted(alloc), text)?;
     let text =
-        "Book 24\nBook;accounts;BTreeMap 16\nBook;accounts;BTreeMap;data;key;String 16\nBook;accounts;BTreeMap;data;key;String;ptr 8\nBook;accounts;BTreeMap;data;key;String;ptr;capacity;u8 3\nBook;accounts;BTreeMap;data;value;Account 40\nBook;accounts;BTreeMap;data;value;Account;entries;BTreeMap 16\nBook;accounts;BTreeMap;data;value;Account;entries;BTreeMap;data;key;u64 8\nBook;accounts;BTreeMap;data;value;Account;entries;BTreeMap;data;value;Entry 16\nBook;accounts;BTreeMap;data;value;Account;entries;BTreeMap;data;value;Entry;value;u64 8\nIncorrect size declaration for node `Book;accounts;BTreeMap;data`, size of self: 8, size of inline children: 88\nIncorrect size declaration for node `Book;accounts;BTreeMap;data;value;Account;entries;BTreeMap;data`, size of self: 8, size of inline children: 32\n";
+        "Book 24\nBook;accounts;BTreeMap 16\nBook;accounts;BTreeMap;data;key;String 16\nBook;accounts;BTreeMap;data;key;String;ptr 8\nBook;accounts;BTreeMap;data;key;String;ptr;capacity;u8 3\nBook;accounts;BTreeMap;data;value;Account 40\nBook;accounts;BTreeMap;data;value;Account;entries;BTreeMap 16\nBook;accounts;BTreeMap;data;value;Account;entries;BTreeMap;data;key;u64 8\nBook;accounts;BTreeMap;data;value;Account;entries;BTreeMap;data;value;Kept 16\nBook;accounts;BTreeMap;data;value;Account;entries;BTreeMap;data;value;Kept;value;u64 8\nIncorrect size declaration for node `Book;accounts;BTreeMap;data`, size of self: 8, size of inline children: 88\nIncorrect size declaration for node `Book;accounts;BTreeMap;data;value;Account;entries;BTreeMap;data`, size of self: 8, size of inline children: 32\n";
     made(alloc, one_put(alloc), text)?;
     let text =
         "History 8\nHistory;profiles;VecDeque 24\nHistory;profiles;VecDeque;ptr 8\nHistory;profiles;VecDeque;ptr;FlameGraph 32\nHistory;profiles;VecDeque;ptr;FlameGraph;ptr 8\nHistory;profiles;VecDeque;ptr;FlameGraph;ptr;Child 56\n";
@@ -117,7 +117,7 @@ fn insert(
 
 /// The owners of the mark after one of two pages was replaced and then one evicted, and after the cache is cleared.
 fn owners(alloc: Global, mark: &Rc<u8>) -> Result<[usize; 2], AllocError> {
-    let mut pages = BoundedCache::new(alloc, Measure::Unique, 48)?;
+    let mut pages = BoundedCache::new(alloc, Measure::Unique, 50)?;
     for key in [1, 2, 2, 3] {
         insert(alloc, &mut pages, key, mark)?;
     }

@@ -6,38 +6,18 @@ ghost use Rattle.allocative.specs.Layouts.{empty, ◌with◌, pad_to_align};
 ghost use Rattle.allocative.specs.Shows as shows;
 ghost use Rattle.allocative.specs.PackShows.{lru_cache_inside};
 
-use crate::cache::{BoundedCache, Kept};
+use crate::cache::BoundedCache;
+use crate::kept::Kept;
 use allocative::{Allocative, Described, Field, Layout, Part, Refusal, Visitor, Whole};
 use lru::LruCache;
 use std::hash::{BuildHasher, Hash};
 
-impl<V: Allocative + Described> Described for Kept<V> {
-    ghost layout = { pad_to_align (empty (codes "Kept") with ⟦<V as Described>⟧.layout
-        with ⟦<usize as Described>⟧.layout) };
-
-    fn layout() -> Layout {
-        Layout::empty("Kept")
-            .with(V::layout())
-            .with(usize::layout())
-            .pad_to_align()
-    }
-}
-
-impl<V: Allocative + Described> Allocative for Kept<V> {
-    ghost may_show = { λ k. shows.Field (codes "Kept") ⟦<Kept<V> as Described>⟧.layout.size
-        (shows.Field (codes "value") V.layout.size (V.may_show k.value)) };
-
-    ghost is_strict = { V.is_strict };
-
-    fn visit(&self, visitor: &mut Visitor<'_>) -> Result<(), Refusal> {
-        let value = Field("value", &self.value);
-        Whole(self, value).enter(visitor)
-    }
-}
-
 // The measure is a byte, and the allocator has no size.
-impl<K: Eq + Hash, V: Allocative + Described, S: BuildHasher + Described> Described
-    for BoundedCache<K, V, S> {
+impl<
+    K: Eq + Hash + Allocative + Described,
+    V: Allocative + Described,
+    S: BuildHasher + Described,
+> Described for BoundedCache<K, V, S> {
     ghost layout = { pad_to_align (empty (codes "BoundedCache") with ⟦<u8 as Described>⟧.layout
         with ⟦<LruCache<K, Kept<V>, S> as Described>⟧.layout with ⟦<usize as Described>⟧.layout
         with ⟦<usize as Described>⟧.layout) };

@@ -4,12 +4,14 @@ ghost use Rattle.std.specs.BTreeMap.{is_at};
 ghost use Rattle.std.specs.Map.{lookup, lookup_key};
 ghost use Rattle.allocative_service.specs.Book.{bytes_in, without_entry};
 ghost use Rattle.allocative_service.specs.Entries.{ChangesTo};
+ghost use Rattle.allocative_service.specs.Kept.{IsBill, kept_bytes};
 ghost use Rattle.allocative_service.specs.Measured.{Declares, MayRefuseMeasure};
 ghost use Rattle.allocative_service.specs.Rejected.{HasRoom};
-ghost use Rattle.allocative_service.specs.Store.{bytes_of, stored_key, sum_of, value_at, IsBill, KeepsChanged, PutsOnShelf, RefusesChanged, RefusesPut, RefusesValue};
+ghost use Rattle.allocative_service.specs.Store.{stored_key, sum_of, value_at, KeepsChanged, PutsOnShelf, RefusesChanged, RefusesPut, RefusesValue};
 
-use crate::book::{Account, Billed, Rejection};
+use crate::book::{Account, Rejection};
 use crate::cache::error::Refused;
+use crate::kept::Kept;
 use crate::measure::Measure;
 use allocative::{Allocative, Described, Refusal};
 use std::alloc::{AllocFailed, Global};
@@ -19,30 +21,7 @@ pub type NotKept<K, V> = Refused<K, V, Rejection>;
 
 /// The values of one tenant of a `Store`, by key. Only the store changes its shelves. A shelf that `Store::close` handed
 /// back gives its values by `remove`.
-pub type Shelf<K, V> = Account<K, Entry<V>>;
-
-/// A value of a shelf, and the bytes that are billed for it.
-#[derive(Drop)]
-pub struct Entry<V> {
-    /// The value.
-    pub value: V,
-    /// The declared bytes of its key and of the value together, as each was last measured.
-    pub bytes: usize,
-    /// The declared bytes of its key.
-    pub key_bytes: usize,
-}
-
-impl<K: Allocative + Described, V: Allocative + Described> Billed<K> for Entry<V> {
-    ghost use Rattle.allocative_service.specs.Store.{bytes_of, IsBilled};
-
-    ghost billed = { bytes_of };
-
-    ghost is_billed = { IsBilled K.layout.size K.may_show V.layout.size V.may_show };
-
-    fn bytes(&self) -> usize {
-        self.bytes
-    }
-}
+pub type Shelf<K, V> = Account<K, Kept<V>>;
 
 /// What is billed for a key and a value.
 #[derive(Clone, Copy)]
@@ -90,7 +69,7 @@ impl<K: Ord + Allocative + Described, V: Allocative + Described> Shelf<K, V> {
     /// is measured, and the error is that of `Measure::size_of`.
     fn billed_under(&self, alloc: Global, key: &K) -> Result<(usize, usize), Refusal>
         ensures had { IfOk result
-            (λ found. found.0 ≡ bytes_in bytes_of (lookup (is_at (K.cmp key.now)) self.now.entries)) }
+            (λ found. found.0 ≡ bytes_in kept_bytes (lookup (is_at (K.cmp key.now)) self.now.entries)) }
         ensures part { IfOk result (λ found. found.0 ≤ sum_of self.now) }
         ensures key { IfOk result (λ found. Declares self.now.measure K.layout.size
             (K.may_show (stored_key K.cmp key.now self.now)) found.1) }
@@ -115,7 +94,7 @@ impl<K: Ord + Allocative + Described, V: Allocative + Described> Shelf<K, V> {
     ) -> Result<Bill, Rejection>
         requires { sum_of self.now ≤ all }
         ensures had { IfOk result (λ bill. bill.had
-            ≡ bytes_in bytes_of (lookup (is_at (K.cmp key.now)) self.now.entries)) }
+            ≡ bytes_in kept_bytes (lookup (is_at (K.cmp key.now)) self.now.entries)) }
         ensures part { IfOk result (λ bill. bill.had ≤ sum_of self.now) }
         ensures bill { IfOk result (λ bill. IsBill K.layout.size K.may_show V.layout.size V.may_show self.now.measure
             (stored_key K.cmp key.now self.now) value.now bill.key_bytes bill.bytes) }
@@ -172,16 +151,16 @@ impl<K: Ord + Allocative + Described, V: Allocative + Described> Shelf<K, V> {
             Ok(bill) => bill,
             Err(error) => return Err(Refused { error, key, value }),
         };
-        let entry = Entry {
+        let kept = Kept {
             value,
             bytes,
             key_bytes,
         };
-        match self.entries.insert(key, entry) {
+        match self.entries.insert(key, kept) {
             Ok(replaced) => {
                 self.bytes = self.bytes - had + bytes;
                 self.peak = self.peak.max(self.bytes);
-                Ok(replaced.map(|entry| entry.value))
+                Ok(replaced.map(|kept| kept.value))
             }
             Err(
                 AllocFailed {

@@ -1,12 +1,12 @@
 -- Putting a value first and then evicting others is an insertion, and keeps the cache within its bound.
-use Rattle.std.proofs.Common.{arith}
+use Rattle.std.proofs.Common.{arith, refl}
 use Rattle.allocative_service.proofs.Inserting.{insertion, Inserts-bounded}
 use Rattle.allocative_service.proofs.cache.BoundedCache.insert.Goals as goal
 
 -- A value that is put first, before others are evicted, is inserted.
 pub returns-in-Ok-put-clause-ok : goal.returns-in-Ok-put-clause-ok
-returns-in-Ok-put-clause-ok g c = rw (← c.self.view_is) (insertion c.in-Ok.bytes _ _ c.in-Ok.ensures.measured
-    (omega arith) c.in-Ok-put.ensures.first c.evict-self-inside.ensures.recent (omega arith))
+returns-in-Ok-put-clause-ok g c = rw (← c.self.view_is) (insertion _ _ _ refl (rw (← c.self.view_is) at c.in-Ok.ensures.bill)
+    (rw (← c.self.view_is) at c.in-Ok.ensures.within) c.in-Ok-put.ensures.first c.evict-self-inside.ensures.recent (omega arith))
 
 -- The cache is within its bound after an insertion.
 pub invariant_of-self : goal.invariant_of-self

@@ -3,8 +3,8 @@ use Rattle.std.proofs.Common.{◌≡◌, ◌+◌, ◌-◌, Some, arith, refl, ru
 use Rattle.std.proofs.lemmas.Option.{same_Some}
 use Rattle.std.specs.BTreeMap.{is_at}
 use Rattle.std.specs.Map.{remove_entry, set_value}
-use Rattle.allocative_service.specs.Store.{IsBilled}
-use Rattle.allocative_service.specs.declared.store.shelf.Entry.{Entry}
+use Rattle.allocative_service.specs.Kept.{IsBilled}
+use Rattle.allocative_service.specs.declared.kept.Kept.{Kept}
 use Rattle.allocative_service.proofs.Accounts.{sum_by-written}
 use Rattle.allocative_service.proofs.Billing.{billed-remove, billed-set, entry_within, found_within, key_written, lookup_written}
 use Rattle.allocative_service.proofs.Billing.{removed_sum, removed_written}
@@ -17,7 +17,7 @@ invariant_of-self-in-Ok g c =
     c.self.inside.measure in
     let test = is_at (g.K.Ord.cmp c.args.key.now) in
     let es = c.self.inside.entries.entries in
-    let w : Entry g.row.V.Denot = record { value = c.change.new.arg2; bytes = c.in-Ok.bytes; key_bytes = c.in-Some.entry.now.key_bytes } in
+    let w : Kept g.row.V.Denot = record { value = c.change.new.arg2; bytes = c.in-Ok.bytes; key_bytes = c.in-Some.entry.now.key_bytes } in
     let value = c.in-Ok.ensures.value in
     let written : (c.get_mut.follows.lender w).entries ≡ set_value test es w = search rules in (
       search (rules, sum_by-written, entry_within),
@@ -63,7 +63,7 @@ returns-clause-refused g c =
     let test = is_at (g.K.Ord.cmp c.args.key.now) in
     let es = c.self.inside.entries.entries in
     let had = c.in-Some.entry.now in
-    let changed : Entry g.row.V.Denot = record { value = c.change.new.arg2; bytes = had.bytes; key_bytes = had.key_bytes } in
+    let changed : Kept g.row.V.Denot = record { value = c.change.new.arg2; bytes = had.bytes; key_bytes = had.key_bytes } in
     let part = found_within (λ e. e.bytes) test es had c.in-Some.ensures.value in
     let within = rw (← c.self.view_is) at c.requires.part in
     let again = lookup_written test es had changed (sym c.in-Some.ensures.value) in

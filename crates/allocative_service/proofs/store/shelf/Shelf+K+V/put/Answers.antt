@@ -1,8 +1,8 @@
 -- of Shelf::put: the value is kept, and billed with its key
 use Rattle.std.proofs.Common.{◌+◌, ◌-◌, arith, refl, rules}
 use Rattle.std.proofs.lemmas.Map.Entries.{sum_by-insert_entry}
-use Rattle.allocative_service.specs.Store.{IsBilled, bytes_of}
-use Rattle.allocative_service.specs.declared.store.shelf.Entry.{Entry}
+use Rattle.allocative_service.specs.Kept.{IsBilled, kept_bytes}
+use Rattle.allocative_service.specs.declared.kept.Kept.{Kept}
 use Rattle.allocative_service.proofs.Billing.{billed-insert}
 use Rattle.allocative_service.proofs.store.shelf.Shelf+K+V.put.Goals as goal
 
@@ -12,8 +12,8 @@ invariant_of-self g c =
     let part = rw (← c.self.view_is) at c.in-Ok.ensures.part in
     let bill = rw (← c.self.view_is) at c.in-Ok.ensures.bill in
     let es = c.self.inside.entries.entries in
-    let entry : Entry g.row.V.Denot = record { value = c.args.value; bytes = c.in-Ok.bill.bytes; key_bytes = c.in-Ok.bill.key_bytes } in
-    let sum = sum_by-insert_entry bytes_of g.met.K.Ord.total es c.args.key entry c.insert.ensures.was_ordered in
+    let entry : Kept g.row.V.Denot = record { value = c.args.value; bytes = c.in-Ok.bill.bytes; key_bytes = c.in-Ok.bill.key_bytes } in
+    let sum = sum_by-insert_entry kept_bytes g.met.K.Ord.total es c.args.key entry c.insert.ensures.was_ordered in
     rw c.in-Ok-insert.ensures.entries (
       omega (arith, sum, had, part, c.self.invariant.0),
       search rules,
