@@ -59,7 +59,8 @@ pub struct Buffers<S> {
     pub(crate) values: S,
 }
 
-/// Buffers under a key, with their items inside them, and beside these, under another key, the bytes of their other places.
+/// Buffers under a key, with their items inside them, and beside these, under another key, the bytes of their other
+/// places.
 #[derive(Drop)]
 pub(crate) struct PlacesMany<K, P>(pub K, pub K, pub Places, pub P);
 
