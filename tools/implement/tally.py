@@ -21,7 +21,7 @@ INDENT = " " * 8
 # The containers of any number of items.
 MANY = having("many")
 # The modules of the library that have the words of the code.
-HOMES = {"field": {"CountedField", "FieldMany", "OwnTally", "PointersMany", "SizedMany", "count_own"}}
+HOMES = {"field": {"CountedField", "FieldMany", "OwnTally", "PointersMany", "SizedMany", "TypedMany", "count_own"}}
 HOMES["tally"] = {"CountError", "Entries", "Tallied", "added", "count_bytes", "declared"}
 # What a field adds to the weight of a tally, by the name of its type and those of its parts: a number 1, a map 6, a set
 # or what other crates have for many items 10, any other 3. The checker's borrow checker covers what shows 32 texts, of
@@ -29,13 +29,14 @@ HOMES["tally"] = {"CountError", "Entries", "Tallied", "added", "count_bytes", "d
 WEIGHTS = dict.fromkeys(NUMBERS, 1) | dict.fromkeys(("BTreeMap", "HashMap"), 6)
 WEIGHTS |= dict.fromkeys(("BTreeSet", "HashSet", "IndexMap", "IndexSet", "LruCache", "Slab", "SmallVec"), 10)
 LARGEST_TALLY = 96
-# With more parts the entries of a tally need an answer.
-LARGEST_AUTO = 3
 # The checker proves the tally of a struct whose size depends on a name with seven fields, and stops with twelve.
 LARGEST_OPEN = 7
 NAMED_LENGTH = re.compile(r"; *[A-Za-z_]")
 HUMP = re.compile(r"(?<=[a-z0-9])(?=[A-Z])")
 DECLARED = "c.in_ok-declared.ensures"
+# The same in clauses and in code.
+Pair = tuple[str, str]
+NOTHING = "NoEntry", "()"
 # Gives the name of a step in an arm, from its name alone.
 Step = Callable[[str], str]
 # What the code of a tally names.
@@ -64,24 +65,11 @@ class Part(NamedTuple):
         """The declared size of an entry, in clauses."""
         return size_in_clause(self.type) if self.bytes is None else f"(Some {self.bytes})"
 
-    def many(self, count: str, inside: str) -> str:
-        """The entries of so many values, in code."""
-        size = f"<{self.type}>::size()" if self.bytes is None else f"Some({self.bytes})"
-        return f'SizedMany("{self.key}", {size}, {count}, {inside})'
-
-    def foreign_shape(self, count: str) -> str:
-        """What stands inside the entries of a field that is shown by its size."""
-        if not self.foreign:
-            return "NoEntry"
-        inside = f'(pointers_shape 8 (codes "u8") {count} t.{self.name})' if self.kind else "NoEntry"
-        return f'(entries (codes "{self.foreign.name}") (Some {self.bytes}) {count}\n{INDENT}{inside})'
-
-    def foreign_many(self, count: str) -> str:
-        """The same, in code."""
-        if not self.foreign:
-            return "()"
-        inside = f'PointersMany(8, "u8", {count}, tally.{self.name})' if self.kind else "()"
-        return f'SizedMany("{self.foreign.name}", Some({self.bytes}), {count}, {inside})'
+    def entries(self, count: str, inside: Pair) -> Pair:
+        """So many entries, with others inside them."""
+        head = f'TypedMany(std::marker::PhantomData::<{self.type}>, "{self.key}"'
+        head = head if self.bytes is None else f'SizedMany("{self.key}", Some({self.bytes})'
+        return f'(entries (codes "{self.key}") {self.size} {count}\n{INDENT}{inside[0]})', f"{head}, {count}, {inside[1]})"
 
 
 def untallied(scope: Scope, kind: Type, parameters: tuple[str, ...]) -> str:
@@ -209,17 +197,23 @@ class Tally:
         body = f"{{\n{lines}}}" if lines else "{}"
         return f"{head}pub struct {self.name}{in_angles(self.parameters)} {body}\n\n"
 
-    def shape(self, part: Part, count: str) -> str:
-        """The entries of a part of so many values, with what is inside them."""
-        value = f"t.{part.name}"
+    def many(self, part: Part, count: str) -> Pair:
+        """The entries of so many values of a part, with what is inside them."""
+        value = f"tally.{part.name}"
         if part.is_own:
             value, count = f"{value}.values", f"{value}.count"
         elif part in self.kept and not part.kind:
             count = value
-        head = f'(entries (codes "{part.key}") {part.size} {count}'
-        shapes = [self.shape(each, count) for each in part.inside]
-        inside = paired(shapes, f"(Beside {{}}\n{INDENT}{{}})".format, part.foreign_shape(count))
-        return f"{head} (⟦<{part.type} as Tallied>⟧.shape {value} {count}))" if part.type and part.kind else f"{head}\n{INDENT}{inside})"
+        if part.type and part.kind:
+            shape = f'(entries (codes "{part.key}") {part.size} {count} (⟦<{part.type} as Tallied>⟧.shape {value} {count}))'
+            return shape, f'FieldMany::<{part.type}>("{part.key}", &{value}, {count})'
+        shapes, codes = zip(*[self.many(each, count) for each in part.inside] or [NOTHING])
+        inside = paired([*shapes], f"(Beside {{}}\n{INDENT}{{}})".format, ""), paired([*codes], "({}, {})".format, "")
+        if part.kind:
+            inside = f'(pointers_shape 8 (codes "u8") {count} {value})', f'PointersMany(8, "u8", {count}, {value})'
+        if part.foreign:
+            inside = part._replace(key=part.foreign.name).entries(count, inside)
+        return part.entries(count, inside)
 
     def tallied(self) -> str:
         writer, kind = self.writer, self.name + in_angles(self.kinds)
@@ -230,37 +224,16 @@ class Tally:
             names = locals_of(self.definition.variants[0])
             body += self.together(self.root.inside, names, [f"&self.{part.key}" for part in self.root.inside], INDENT)
         writer.proofs.answer(f"{writer.name}Tallied/tally", self.counted(), writer.proofs.lemma)
-        entries = sum(part.bytes is None and not part.kind for part in self.root.inside) if self.definition.is_enum else 0
-        sizes = ", ".join(f"c.size{ordinal(at)}.ensures" for at in range(1, entries + 2))
-        if entries or len(self.root.inside) > LARGEST_AUTO:
-            writer.proofs.answer(f"{writer.name}Tallied/show", [("returns", f"rw ({sizes}) at c.enter.ensures")])
+        shape, code = self.many(self.root, "count")
         return (
             f"{writer.head('Tallied', 'Tallied')}    type Tally = {kind};\n\n"
-            f"    ghost shape = {{ λ t n. {self.shape(self.root, 'n')[1:-1]} }};\n\n"
+            f"    ghost shape = {{ λ tally count. {shape[1:-1]} }};\n\n"
             f"    ghost whole = {{ is_whole (Prim.search starting) }};\n\n"
             f"    fn show(tally: &Self::Tally, count: usize, visitor: &mut Visitor<'_>) -> Result<(), Refusal> {{\n"
-            f"{self.entering()}    }}\n\n"
+            f"{INDENT}{code}.enter(visitor)\n    }}\n\n"
             f"    #[inline(always)]\n"
             f"    fn tally(&self, tally: &mut Self::Tally) -> Result<(), CountError> {{\n{body}    }}\n}}\n"
         )
-
-    def entering(self) -> str:
-        """The lines that enter what was counted."""
-        names = dict(zip(self.flat, bound([part.name for part in self.flat], "visitor tally count size")))
-        text = ""
-        for part in self.root.inside:
-            count = f"tally.{part.name}" if part in self.kept and not part.kind else "count"
-            text += "".join(f"{INDENT}let {names[each]} = {self.entry(each, names, count)};\n" for each in (*part.inside, part))
-        inside = paired([names[each] for each in self.root.inside], "({}, {})".format, "()")
-        return f"{text}{INDENT}{self.root.many('count', inside)}.enter(visitor)\n"
-
-    def entry(self, part: Part, names: dict[Part, str], count: str) -> str:
-        """The entries of a part of so many values."""
-        if part.is_own:
-            return f'FieldMany::<{part.type}>("{part.key}", &tally.{part.name}.values, tally.{part.name}.count)'
-        if part.type and part.kind:
-            return f'FieldMany::<{part.type}>("{part.key}", &tally.{part.name}, {count})'
-        return part.many(count, paired([names[each] for each in part.inside], "({}, {})".format, part.foreign_many(count)))
 
     def together(self, parts: tuple[Part, ...], names: list[str], values: list[str], indent: str) -> str:
         """The lines that count fields and join what each comes to. A field that is shown by its size alone needs none."""

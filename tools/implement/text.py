@@ -17,14 +17,6 @@ if TYPE_CHECKING:
     from .source import Source
 
 INDENT, DEEPER = " " * 8, " " * 16
-# The lines that make the buffer of a `Vec`, whose items are shown one by one: its name, a reference to it, and its place.
-BUFFER = """let {0} = allocative::Buffer {{
-    items: allocative::Each({1}),
-    item_size: <Self as Described>::size(),
-    count: {2}.len(),
-    capacity: {2}.capacity(),
-}};
-"""
 # A value that stands as an argument without more parentheses.
 ONE_VALUE = re.compile(r"(\w+|\([^()]*\))[\w.]*")
 CONTAINERS = {("Vec", 1): "vec_in", ("Option", 1): "option_in", ("Box", 1): "box_of"}
@@ -245,8 +237,10 @@ class Writer:
         elif member.foreign:
             text = f'Inside("{key}", {member.foreign.bytes.size}, {self.foreign(member.foreign, value)})'
         elif self.is_buffer(member):
-            buffer = textwrap.indent(BUFFER.format(name, value, value.lstrip("&")), indent)
-            return f'{buffer}{indent}let {name} = Declared("{key}", Some(24), Declared("Vec", Some(24), {name}));\n'
+            vec = value.lstrip("&")
+            text = f"items: allocative::Each({value}), item_size: <Self as Described>::size(), count: {vec}.len()"
+            text = f"allocative::Buffer {{ {text}, capacity: {vec}.capacity() }}"
+            text = f'Declared("{key}", Some(24), Declared("Vec", Some(24), {text}))'
         elif self.source.counts(kind) and not any(holds(kind, each) for each in self.types):
             text = f"Counted{text}"
         return f"{indent}let {name} = {text};\n"

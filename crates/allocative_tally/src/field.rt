@@ -6,7 +6,8 @@ ghost use Rattle.allocative.specs.Shows as shows;
 
 use crate::counted::Counted;
 use crate::tally::{CountError, Entries, InlineSum, Sum, Tallied, UniqueSum, added};
-use allocative::{Declared, IntoKey, Part, Refusal, Visitor};
+use allocative::{Declared, Described, IntoKey, Part, Refusal, Visitor};
+use std::marker::PhantomData;
 
 /// What so many values show, by their tally.
 #[derive(Drop)]
@@ -42,6 +43,18 @@ impl<K: IntoKey, P: Entries> Entries for SizedMany<K, P> {
 
     fn enter(self, visitor: &mut Visitor<'_>) -> Result<(), Refusal> {
         InlineSum(self.0, Sum::times(self.1, self.2), self.3).enter(visitor)
+    }
+}
+
+/// Entries of a type's declared size under a key, so many, with entries inside them.
+#[derive(Drop)]
+pub struct TypedMany<T, K, P>(pub PhantomData<T>, pub K, pub usize, pub P);
+
+impl<T: Described, K: IntoKey, P: Entries> Entries for TypedMany<T, K, P> {
+    ghost shape = { λ e. entries (K.key e.1) T.layout.size e.2 (P.shape e.3) };
+
+    fn enter(self, visitor: &mut Visitor<'_>) -> Result<(), Refusal> {
+        SizedMany(self.1, T::size(), self.2, self.3).enter(visitor)
     }
 }
 

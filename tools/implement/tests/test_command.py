@@ -347,7 +347,7 @@ class CommandTest(unittest.TestCase):
         self.assertEqual(output.count("    ghost is_strict = { T.is_strict };\n"), 2)
         self.assertIn("(vec_in ⟦<A<T> as Described>⟧.layout.size child (out-A T x).b)", output)
         self.assertIn('opened (out-B T) (λ x. field (codes "B") ⟦<B<T> as Described>⟧.layout.size (elim x [', output)
-        self.assertIn('let b = Declared("b", Some(24), Declared("Vec", Some(24), b));', output)
+        self.assertIn('let b = Declared("b", Some(24), Declared("Vec", Some(24), allocative::Buffer {', output)
         self.assertIn("e : out-B _ c.args.self.now ≡ B-F.End = ap (out-B _) c.in-End.is", answers)
         self.assertIn("(means_buffer (search rules) (c.len.ensures ∙ c.in-Many.a.ok.0) c.capacity.ensures means_same)", answers)
         keyed = tree.replace("a: T", "a: BTreeMap<T, Box<A<T>>>")

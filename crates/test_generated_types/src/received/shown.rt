@@ -13,7 +13,7 @@ use super::*;
 use allocative::{
     Allocative, Declared, Described, Field, Inside, Layout, Part, Refusal, Unique, Visitor, Whole,
 };
-use allocative_tally::field::{FieldMany, PointersMany, SizedMany};
+use allocative_tally::field::{FieldMany, PointersMany, SizedMany, TypedMany};
 use allocative_tally::tally::{CountError, Entries, Tallied, added, count_bytes, declared};
 
 /// A `PathBuf` as it is shown: its size, and the bytes of its buffer.
@@ -108,44 +108,52 @@ pub struct OriginTally {
 impl Tallied for Origin {
     type Tally = OriginTally;
 
-    ghost shape = { λ t n. entries (codes "Origin") ⟦<Origin as Described>⟧.layout.size n
-        (Beside (entries (codes "Peer") (Some 32) t.peer_value
-        (entries (codes "SocketAddr") (Some 32) t.peer_value
+    ghost shape = { λ tally count. entries (codes "Origin") ⟦<Origin as Described>⟧.layout.size count
+        (Beside (entries (codes "Peer") (Some 32) tally.peer_value
+        (entries (codes "SocketAddr") (Some 32) tally.peer_value
         NoEntry))
-        (entries (codes "File") ⟦<OriginFileFields as Described>⟧.layout.size t.file_count
-        (Beside (entries (codes "path") (Some 24) t.file_count
-        (entries (codes "PathBuf") (Some 24) t.file_count
-        (pointers_shape 8 (codes "u8") t.file_count t.file_path)))
-        (entries (codes "line") ⟦<u64 as Described>⟧.layout.size t.file_count (⟦<u64 as Tallied>⟧.shape t.file_line t.file_count))))) };
+        (entries (codes "File") ⟦<OriginFileFields as Described>⟧.layout.size tally.file_count
+        (Beside (entries (codes "path") (Some 24) tally.file_count
+        (entries (codes "PathBuf") (Some 24) tally.file_count
+        (pointers_shape 8 (codes "u8") tally.file_count tally.file_path)))
+        (entries (codes "line") ⟦<u64 as Described>⟧.layout.size tally.file_count (⟦<u64 as Tallied>⟧.shape tally.file_line tally.file_count))))) };
 
     ghost whole = { is_whole (Prim.search starting) };
 
     fn show(tally: &Self::Tally, count: usize, visitor: &mut Visitor<'_>) -> Result<(), Refusal> {
-        let peer_value = SizedMany(
-            "Peer",
-            Some(32),
-            tally.peer_value,
-            SizedMany("SocketAddr", Some(32), tally.peer_value, ()),
-        );
-        let file_path = SizedMany(
-            "path",
-            Some(24),
-            tally.file_count,
-            SizedMany(
-                "PathBuf",
-                Some(24),
-                tally.file_count,
-                PointersMany(8, "u8", tally.file_count, tally.file_path),
+        TypedMany(
+            std::marker::PhantomData::<Origin>,
+            "Origin",
+            count,
+            (
+                SizedMany(
+                    "Peer",
+                    Some(32),
+                    tally.peer_value,
+                    SizedMany("SocketAddr", Some(32), tally.peer_value, ()),
+                ),
+                TypedMany(
+                    std::marker::PhantomData::<OriginFileFields>,
+                    "File",
+                    tally.file_count,
+                    (
+                        SizedMany(
+                            "path",
+                            Some(24),
+                            tally.file_count,
+                            SizedMany(
+                                "PathBuf",
+                                Some(24),
+                                tally.file_count,
+                                PointersMany(8, "u8", tally.file_count, tally.file_path),
+                            ),
+                        ),
+                        FieldMany::<u64>("line", &tally.file_line, tally.file_count),
+                    ),
+                ),
             ),
-        );
-        let file_line = FieldMany::<u64>("line", &tally.file_line, tally.file_count);
-        let file_count = SizedMany(
-            "File",
-            <OriginFileFields>::size(),
-            tally.file_count,
-            (file_path, file_line),
-        );
-        SizedMany("Origin", <Origin>::size(), count, (peer_value, file_count)).enter(visitor)
+        )
+        .enter(visitor)
     }
 
     #[inline(always)]
@@ -253,85 +261,94 @@ pub struct ReceivedTally {
 impl Tallied for Received {
     type Tally = ReceivedTally;
 
-    ghost shape = { λ t n. entries (codes "Received") ⟦<Received as Described>⟧.layout.size n
-        (Beside (Beside (entries (codes "id") (Some 16) n
-        (entries (codes "Uuid") (Some 16) n
+    ghost shape = { λ tally count. entries (codes "Received") ⟦<Received as Described>⟧.layout.size count
+        (Beside (Beside (entries (codes "id") (Some 16) count
+        (entries (codes "Uuid") (Some 16) count
         NoEntry))
-        (Beside (entries (codes "callback") (Some 88) n
-        (entries (codes "Url") (Some 88) n
-        (pointers_shape 8 (codes "u8") n t.callback)))
-        (Beside (entries (codes "body") (Some 32) n
-        (entries (codes "Bytes") (Some 32) n
-        (pointers_shape 8 (codes "u8") n t.body)))
-        (Beside (entries (codes "peer") (Some 32) n
-        (entries (codes "SocketAddr") (Some 32) n
+        (Beside (entries (codes "callback") (Some 88) count
+        (entries (codes "Url") (Some 88) count
+        (pointers_shape 8 (codes "u8") count tally.callback)))
+        (Beside (entries (codes "body") (Some 32) count
+        (entries (codes "Bytes") (Some 32) count
+        (pointers_shape 8 (codes "u8") count tally.body)))
+        (Beside (entries (codes "peer") (Some 32) count
+        (entries (codes "SocketAddr") (Some 32) count
         NoEntry))
-        (entries (codes "file") (Some 24) n
-        (entries (codes "PathBuf") (Some 24) n
-        (pointers_shape 8 (codes "u8") n t.file)))))))
-        (entries (codes "tried") (Some 17) n
-        (entries (codes "Option") (Some 17) n
+        (entries (codes "file") (Some 24) count
+        (entries (codes "PathBuf") (Some 24) count
+        (pointers_shape 8 (codes "u8") count tally.file)))))))
+        (entries (codes "tried") (Some 17) count
+        (entries (codes "Option") (Some 17) count
         NoEntry))) };
 
     ghost whole = { is_whole (Prim.search starting) };
 
     fn show(tally: &Self::Tally, count: usize, visitor: &mut Visitor<'_>) -> Result<(), Refusal> {
-        let id = SizedMany(
-            "id",
-            Some(16),
-            count,
-            SizedMany("Uuid", Some(16), count, ()),
-        );
-        let callback = SizedMany(
-            "callback",
-            Some(88),
-            count,
-            SizedMany(
-                "Url",
-                Some(88),
-                count,
-                PointersMany(8, "u8", count, tally.callback),
-            ),
-        );
-        let body = SizedMany(
-            "body",
-            Some(32),
-            count,
-            SizedMany(
-                "Bytes",
-                Some(32),
-                count,
-                PointersMany(8, "u8", count, tally.body),
-            ),
-        );
-        let peer = SizedMany(
-            "peer",
-            Some(32),
-            count,
-            SizedMany("SocketAddr", Some(32), count, ()),
-        );
-        let file = SizedMany(
-            "file",
-            Some(24),
-            count,
-            SizedMany(
-                "PathBuf",
-                Some(24),
-                count,
-                PointersMany(8, "u8", count, tally.file),
-            ),
-        );
-        let tried = SizedMany(
-            "tried",
-            Some(17),
-            count,
-            SizedMany("Option", Some(17), count, ()),
-        );
-        SizedMany(
+        TypedMany(
+            std::marker::PhantomData::<Received>,
             "Received",
-            <Received>::size(),
             count,
-            ((id, (callback, (body, (peer, file)))), tried),
+            (
+                (
+                    SizedMany(
+                        "id",
+                        Some(16),
+                        count,
+                        SizedMany("Uuid", Some(16), count, ()),
+                    ),
+                    (
+                        SizedMany(
+                            "callback",
+                            Some(88),
+                            count,
+                            SizedMany(
+                                "Url",
+                                Some(88),
+                                count,
+                                PointersMany(8, "u8", count, tally.callback),
+                            ),
+                        ),
+                        (
+                            SizedMany(
+                                "body",
+                                Some(32),
+                                count,
+                                SizedMany(
+                                    "Bytes",
+                                    Some(32),
+                                    count,
+                                    PointersMany(8, "u8", count, tally.body),
+                                ),
+                            ),
+                            (
+                                SizedMany(
+                                    "peer",
+                                    Some(32),
+                                    count,
+                                    SizedMany("SocketAddr", Some(32), count, ()),
+                                ),
+                                SizedMany(
+                                    "file",
+                                    Some(24),
+                                    count,
+                                    SizedMany(
+                                        "PathBuf",
+                                        Some(24),
+                                        count,
+                                        PointersMany(8, "u8", count, tally.file),
+                                    ),
+                                ),
+                            ),
+                        ),
+                    ),
+                ),
+                SizedMany(
+                    "tried",
+                    Some(17),
+                    count,
+                    SizedMany("Option", Some(17), count, ()),
+                ),
+            ),
         )
         .enter(visitor)
     }

@@ -16,7 +16,7 @@ use super::*;
 use allocative::{
     Allocative, Declared, Described, Field, Inside, Layout, Part, Refusal, Visitor, Whole,
 };
-use allocative_tally::field::{CountedField, FieldMany, OwnTally, SizedMany, count_own};
+use allocative_tally::field::{CountedField, FieldMany, OwnTally, SizedMany, TypedMany, count_own};
 use allocative_tally::tally::{CountError, Entries, Tallied, added, declared};
 
 impl<'a, const N: usize> Allocative for Found<'a, N> {
@@ -111,16 +111,23 @@ where
 {
     type Tally = TableTally<<HashMap<K, V> as Tallied>::Tally, <V as Tallied>::Tally>;
 
-    ghost shape = { λ t n. entries (codes "Table") ⟦<Table<K, V> as Described>⟧.layout.size n
-        (Beside (entries (codes "values") ⟦<HashMap<K, V> as Described>⟧.layout.size n (⟦<HashMap<K, V> as Tallied>⟧.shape t.values n))
-        (entries (codes "last") ⟦<V as Described>⟧.layout.size n (⟦<V as Tallied>⟧.shape t.last n))) };
+    ghost shape = { λ tally count. entries (codes "Table") ⟦<Table<K, V> as Described>⟧.layout.size count
+        (Beside (entries (codes "values") ⟦<HashMap<K, V> as Described>⟧.layout.size count (⟦<HashMap<K, V> as Tallied>⟧.shape tally.values count))
+        (entries (codes "last") ⟦<V as Described>⟧.layout.size count (⟦<V as Tallied>⟧.shape tally.last count))) };
 
     ghost whole = { is_whole (Prim.search starting) };
 
     fn show(tally: &Self::Tally, count: usize, visitor: &mut Visitor<'_>) -> Result<(), Refusal> {
-        let values = FieldMany::<HashMap<K, V>>("values", &tally.values, count);
-        let last = FieldMany::<V>("last", &tally.last, count);
-        SizedMany("Table", <Table<K, V>>::size(), count, (values, last)).enter(visitor)
+        TypedMany(
+            std::marker::PhantomData::<Table<K, V>>,
+            "Table",
+            count,
+            (
+                FieldMany::<HashMap<K, V>>("values", &tally.values, count),
+                FieldMany::<V>("last", &tally.last, count),
+            ),
+        )
+        .enter(visitor)
     }
 
     #[inline(always)]
@@ -282,39 +289,45 @@ pub struct EventTally {
 impl Tallied for Event {
     type Tally = EventTally;
 
-    ghost shape = { λ t n. entries (codes "Event") ⟦<Event as Described>⟧.layout.size n
-        (Beside (entries (codes "Note") ⟦<String as Described>⟧.layout.size t.note_value.count (⟦<String as Tallied>⟧.shape t.note_value.values t.note_value.count))
-        (Beside (entries (codes "Marked") (Some 8) t.marked_value
+    ghost shape = { λ tally count. entries (codes "Event") ⟦<Event as Described>⟧.layout.size count
+        (Beside (entries (codes "Note") ⟦<String as Described>⟧.layout.size tally.note_value.count (⟦<String as Tallied>⟧.shape tally.note_value.values tally.note_value.count))
+        (Beside (entries (codes "Marked") (Some 8) tally.marked_value
         NoEntry)
-        (entries (codes "Sale") ⟦<EventSaleFields as Described>⟧.layout.size t.sale_count
-        (Beside (entries (codes "place") (Some 16) t.sale_count
+        (entries (codes "Sale") ⟦<EventSaleFields as Described>⟧.layout.size tally.sale_count
+        (Beside (entries (codes "place") (Some 16) tally.sale_count
         NoEntry)
-        (Beside (entries (codes "shelf") ⟦<u64 as Described>⟧.layout.size t.sale_count (⟦<u64 as Tallied>⟧.shape t.sale_shelf t.sale_count))
-        (entries (codes "prices") ⟦<Vec<u64> as Described>⟧.layout.size t.sale_count (⟦<Vec<u64> as Tallied>⟧.shape t.sale_prices t.sale_count))))))) };
+        (Beside (entries (codes "shelf") ⟦<u64 as Described>⟧.layout.size tally.sale_count (⟦<u64 as Tallied>⟧.shape tally.sale_shelf tally.sale_count))
+        (entries (codes "prices") ⟦<Vec<u64> as Described>⟧.layout.size tally.sale_count (⟦<Vec<u64> as Tallied>⟧.shape tally.sale_prices tally.sale_count))))))) };
 
     ghost whole = { is_whole (Prim.search starting) };
 
     fn show(tally: &Self::Tally, count: usize, visitor: &mut Visitor<'_>) -> Result<(), Refusal> {
-        let note_value = FieldMany::<String>(
-            "Note",
-            &tally.note_value.values,
-            tally.note_value.count,
-        );
-        let marked_value = SizedMany("Marked", Some(8), tally.marked_value, ());
-        let sale_place = SizedMany("place", Some(16), tally.sale_count, ());
-        let sale_shelf = FieldMany::<u64>("shelf", &tally.sale_shelf, tally.sale_count);
-        let sale_prices = FieldMany::<Vec<u64>>("prices", &tally.sale_prices, tally.sale_count);
-        let sale_count = SizedMany(
-            "Sale",
-            <EventSaleFields>::size(),
-            tally.sale_count,
-            (sale_place, (sale_shelf, sale_prices)),
-        );
-        SizedMany(
+        TypedMany(
+            std::marker::PhantomData::<Event>,
             "Event",
-            <Event>::size(),
             count,
-            (note_value, (marked_value, sale_count)),
+            (
+                FieldMany::<String>("Note", &tally.note_value.values, tally.note_value.count),
+                (
+                    SizedMany("Marked", Some(8), tally.marked_value, ()),
+                    TypedMany(
+                        std::marker::PhantomData::<EventSaleFields>,
+                        "Sale",
+                        tally.sale_count,
+                        (
+                            SizedMany("place", Some(16), tally.sale_count, ()),
+                            (
+                                FieldMany::<u64>("shelf", &tally.sale_shelf, tally.sale_count),
+                                FieldMany::<Vec<u64>>(
+                                    "prices",
+                                    &tally.sale_prices,
+                                    tally.sale_count,
+                                ),
+                            ),
+                        ),
+                    ),
+                ),
+            ),
         )
         .enter(visitor)
     }
@@ -398,25 +411,29 @@ pub struct CartTally {
 impl Tallied for Cart {
     type Tally = CartTally;
 
-    ghost shape = { λ t n. entries (codes "Cart") ⟦<Cart as Described>⟧.layout.size n
-        (entries (codes "BoughtItems") ⟦<CartBoughtItemsFields as Described>⟧.layout.size t.bought_items_count
-        (entries (codes "names") ⟦<Vec<String> as Described>⟧.layout.size t.bought_items_count (⟦<Vec<String> as Tallied>⟧.shape t.bought_items_names t.bought_items_count))) };
+    ghost shape = { λ tally count. entries (codes "Cart") ⟦<Cart as Described>⟧.layout.size count
+        (entries (codes "BoughtItems") ⟦<CartBoughtItemsFields as Described>⟧.layout.size tally.bought_items_count
+        (entries (codes "names") ⟦<Vec<String> as Described>⟧.layout.size tally.bought_items_count (⟦<Vec<String> as Tallied>⟧.shape tally.bought_items_names tally.bought_items_count))) };
 
     ghost whole = { is_whole (Prim.search starting) };
 
     fn show(tally: &Self::Tally, count: usize, visitor: &mut Visitor<'_>) -> Result<(), Refusal> {
-        let bought_items_names = FieldMany::<Vec<String>>(
-            "names",
-            &tally.bought_items_names,
-            tally.bought_items_count,
-        );
-        let bought_items_count = SizedMany(
-            "BoughtItems",
-            <CartBoughtItemsFields>::size(),
-            tally.bought_items_count,
-            bought_items_names,
-        );
-        SizedMany("Cart", <Cart>::size(), count, bought_items_count).enter(visitor)
+        TypedMany(
+            std::marker::PhantomData::<Cart>,
+            "Cart",
+            count,
+            TypedMany(
+                std::marker::PhantomData::<CartBoughtItemsFields>,
+                "BoughtItems",
+                tally.bought_items_count,
+                FieldMany::<Vec<String>>(
+                    "names",
+                    &tally.bought_items_names,
+                    tally.bought_items_count,
+                ),
+            ),
+        )
+        .enter(visitor)
     }
 
     #[inline(always)]
