@@ -31,8 +31,10 @@ IdRc allocative 8/8 drop pointer
 IdArc allocative 8/8 drop pointer
 FlameGraph allocative 40/8 drop
 BoundedCache allocative_service - drop pointer Eq Hash 2
+Book allocative_service 48/8 drop pointer Ord
 Ledger allocative_service 48/8 drop
-Account allocative_service 56/8 drop
+Store allocative_service 48/8 drop pointer Ord
+Account allocative_service 64/8 drop pointer Ord
 History allocative_service 40/8 drop
 Value serde_json 32/8 drop
 Number serde_json 16/8 copy

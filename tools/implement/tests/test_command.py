@@ -137,14 +137,15 @@ class CommandTest(unittest.TestCase):
         self.assertIn("A.a: `Own` makes hashers, and is no type that is described", told[0])
 
     def test_lists_boxes_and_services(self) -> None:
-        head = "use allocative::FlameGraph;\nuse allocative_service::{cache::*, history::History, ledger::{Account, Ledger}};\nuse std::boxed::*;\nuse std::collections::*;\nuse std::hash::RandomState;\n#[derive(Drop)]\nstruct A {\n"
+        head = "use allocative::FlameGraph;\nuse allocative_service::{cache::*, history::History, ledger::{Account, Ledger}, store::Store};\nuse std::boxed::*;\nuse std::collections::*;\nuse std::hash::RandomState;\n#[derive(Drop)]\nstruct A {\n"
         counted = "BoxedSlice<BoxedStr>", "LinkedList<String>", "BinaryHeap<u8>"
         for kind, skipped in (
             *zip(counted, ("16 bytes", "24 bytes", "24 bytes")),
             ("FlameGraph", "40 bytes"),
             ("History", "40 bytes"),
             ("Ledger", "48 bytes"),
-            ("Account", "56 bytes"),
+            ("Account", "64 bytes"),
+            ("Store<String, u8>", "48 bytes"),
             ("(u8, u8, u8, u8, u8, u8, u8, u32)", "12 bytes"),
             ("BoundedCache<u8, u8, RandomState>", "0 bytes, and 1 of a size that only the checker knows"),
         ):
