@@ -8,3 +8,4 @@ pub mod Heaviest
 pub mod Reversing
 pub mod Choosing
 pub mod Growing
+pub mod Guiding

@@ -1,6 +1,6 @@
 -- Views of a graph: parts of it, its bytes by last key, its reversed paths, and its outline.
 use Rattle.std.specs.Prelude.{◌≡◌, ℕ, zero, suc, ◌<◌, ◌≤◌, ◌⊎◌, ◌-◌, ◌==◌, cond, List, [], ◌∷◌, drop, fold, length, reverse, sum_by, codes}
-use Rattle.std.specs.Prelude.{Bool, not, ◌&&◌, map, nat_lt}
+use Rattle.std.specs.Prelude.{Bool, not, ◌&&◌, map, nat_lt, slice_index_or, slice_set}
 use Rattle.std.specs.Borrow.{Bor}
 use Rattle.std.specs.List.{AllZip, list_any}
 use Rattle.std.specs.declared.alloc.Global.{Global}
@@ -10,7 +10,7 @@ use Rattle.allocative_graph.specs.Path.{Key, Path, texts}
 use Rattle.allocative_graph.specs.Graph.{Graph, default, add_self, sum_of, under, total, size_at, IsBehind, HasNothing}
 use Rattle.allocative_graph.specs.Graph.{begins, ends_in}
 use Rattle.allocative_graph.specs.Rows.{node, sum_of_all, AreChildren}
-use Rattle.allocative_graph.specs.Representation.Children.{graph_of_path}
+use Rattle.allocative_graph.specs.Representation.Children.{IsChildGap, IsFound, graph_of_path}
 use Rattle.allocative_graph.specs.declared.flamegraph.Child.{Child}
 use Rattle.allocative_picture.specs.declared.views.Gathered.{Gathered}
 
@@ -91,6 +91,19 @@ pub record HasChildren (g : Graph) (cs : List Child) : Type 0 where
 -- graph if that is nothing.
 abbrev pub GuidesChild : Graph → Child → Graph → Type 0
 GuidesChild g c x = IsBehind g (c.key ∷ []) x ⊎ (HasNothing g (c.key ∷ []) × (x ≡ c.graph))
+
+-- The graph x is taken from the guides us for the child c, and leaves the guides vs: it is that of the guide with the
+-- child's key, which then has another graph, or, if there is none, the child's own.
+abbrev pub TakesGuide : List Child → Child → Graph → List Child → Type 0
+TakesGuide us c x vs =
+    ((i : ℕ) × (v : Child) × IsFound us c.key i × (v.key ≡ c.key) × ((d : Child) → (slice_index_or us i d).graph ≡ x)
+    × (vs ≡ slice_set us i v))
+    ⊎ ((i : ℕ) × IsChildGap us c.key i × (x ≡ c.graph) × (vs ≡ us))
+
+-- The child c is the first of those that waited, and the graph x is taken for it from the guides.
+pub record TakesNext (c : Child) (x : Graph) (guides left waited waiting : List Child) : Type 0 where
+  pub front : waited ≡ c ∷ waiting
+  pub taken : TakesGuide guides c x left
 
 -- The second list has the keys of the first one in their order, and R holds of each two children with one key.
 abbrev pub InStep : (Child → Graph → Type 0) → List Child → List Child → Type 0

@@ -1,17 +1,19 @@
 //! Views of a flame graph, which say what is heavy where its keys are data: the outline of a graph, the bytes by last key,
 //! and the reversed paths, which keep the total, and parts. Each is a graph.
-ghost use Rattle.std.specs.Prelude.{◌≡◌, ◌<◌, ◌+◌, ◌-◌, ◌^◌, [], ◌∷◌, ◌++◌, IfOk, OnOk, cond, reverse};
+ghost use Rattle.std.specs.Prelude.{◌≡◌, ◌<◌, ◌+◌, ◌-◌, ◌^◌, [], ◌∷◌, ◌++◌, IfErr, IfNone, IfOk, IfSome, OnOk, cond, reverse};
 ghost use Rattle.std.specs.FinMap.{entries, len};
-ghost use Rattle.allocative_graph.specs.Path.{Key, Path, texts};
+ghost use Rattle.allocative_graph.specs.Path.{Key, Path, key_cmp, texts};
 ghost use Rattle.allocative_graph.specs.Graph.{default, size_at, sum_of, total, under};
-ghost use Rattle.allocative_graph.specs.Rows.{under_rows};
-ghost use Rattle.allocative_graph.specs.Representation.Children.{graph_of_path};
-ghost use Rattle.allocative_picture.specs.Views.{all_of, by_last_key, by_last_keys, bytes_alone, bytes_ending_in, bytes_within, chosen_onto, is_chosen, is_within, joined, only, paths_of, reversed, reversed_onto, without, GuidesChild, IsOutline};
+ghost use Rattle.allocative_graph.specs.Rows.{AllSmaller, AreChildren, node, under_rows};
+ghost use Rattle.allocative_graph.specs.Representation.Children.{InOrder, IsChildGap, IsFound, graph_of_path};
+ghost use Rattle.allocative_picture.specs.Views.{all_of, by_last_key, by_last_keys, bytes_alone, bytes_ending_in, bytes_within, chosen_onto, is_chosen, is_within, joined, only, paths_of, reversed, reversed_onto, without, IsOutline, TakesGuide, TakesNext};
 ghost use Rattle.allocative_picture.specs.Table.{behind};
 
 use allocative_graph::flamegraph::{Child, FlameGraph, add_at};
 use allocative_graph::key::Key;
 use std::alloc::{AllocError, Global};
+use std::cmp::Ordering;
+use std::collections::VecDeque;
 use std::mem;
 
 /// Adds bytes to the root of an empty view, where they fit.
@@ -49,111 +51,161 @@ fn put(
 }
 
 /// The graphs of some children, added up.
-#[tactic(auto, using(std::proofs::Common::take_all, std::proofs::lemmas::List::Sums::fold_more))]
-fn joined(alloc: Global, children: &[Child]) -> Result<FlameGraph, AllocError>
-    ensures { IfOk result (λ graph. graph ≡ joined children.now) }
+fn joined(alloc: Global, children: VecDeque<Child>) -> Result<FlameGraph, AllocError>
+    ensures { IfOk result (λ graph. graph ≡ joined children.items) }
 {
     let mut graph = FlameGraph::default(alloc);
-    for child in children {
-        graph.add(child.graph.clone()?).map_err(|_| AllocError)?;
+    let mut waiting = children;
+    while let Some(child) = waiting.pop_front() {
+        graph.add(child.graph).map_err(|_| AllocError)?;
     }
     Ok(graph)
 }
 
-/// What guides the outline of a child: what the guide has at the child's key, or the child itself if that is nothing.
-#[inline(never)]
-fn guide_of<'a>(guide: &'a FlameGraph, child: &'a Child) -> &'a FlameGraph
-    ensures { GuidesChild guide.now child.now result.now }
+/// The place of a key among some children, or else the place where it belongs.
+fn place_of(children: &[Child], key: &Key) -> Result<usize, usize>
+    requires { InOrder children.now }
+    ensures found { IfOk result (IsFound children.now key.now) }
+    ensures missing { IfErr result (IsChildGap children.now key.now) }
 {
-    match guide.get(&[child.key.as_str()]) {
-        Some(found) => found,
-        None => &child.graph,
+    children.binary_search_by(
+        |child: &Child| -> Ordering
+            ensures { result ≡ key_cmp child.entry.now.key key.entry.now }
+        { child.key.as_str().cmp(key.as_str()) },
+    )
+}
+
+/// Takes what guides the outline of a child: the graph of the guide with its key, or a copy of its own if there is none.
+fn take_guide(
+    alloc: Global,
+    guides: &mut Vec<Child>,
+    child: &Child,
+) -> Result<FlameGraph, AllocError>
+    requires { InOrder guides.old.items }
+    ensures { IfOk result (λ graph. TakesGuide guides.old.items child.now graph guides.new.items) }
+{
+    match place_of(guides.as_slice(), &child.key) {
+        Ok(place) => {
+            let guide = &mut guides[place];
+            Ok(mem::replace(&mut guide.graph, FlameGraph::default(alloc)))
+        }
+        Err(_) => Ok(child.graph.clone()?),
     }
 }
 
-/// What is below the children of a guide and of a graph, added up.
+/// A graph whose outline is to be made, and what guides it. It is in a box, so that a level of an outline takes less of
+/// the stack.
 #[derive(Drop)]
-struct Folded {
+struct Guided {
     guide: FlameGraph,
     graph: FlameGraph,
 }
 
-/// The graphs of the children of a guide and of a graph, added up. It is a call of its own, and its result in a box, so
-/// that a level of an outline takes less of the stack.
+/// The children of a guide and of a graph. It is a call of its own, as all that an outline calls.
+#[inline(never)]
+fn take_apart(both: Box<Guided>) -> (Vec<Child>, VecDeque<Child>)
+    ensures guide { both.value.guide ≡ node (size_at both.value.guide []) result.0.items }
+    ensures guides { AreChildren result.0.items }
+    ensures graph { both.value.graph ≡ node (size_at both.value.graph []) result.1.items }
+    ensures children { AreChildren result.1.items }
+    ensures smaller { AllSmaller result.1.items both.value.graph }
+{
+    let Guided { guide, graph } = Box::into_inner(both);
+    let children = graph.into_children();
+    (guide.into_children(), VecDeque::from(children))
+}
+
+/// The graphs of the children of a guide and of a graph, added up.
 #[inline(never)]
 fn fold_children(
     alloc: Global,
-    guides: &[Child],
-    children: &[Child],
-) -> Result<Box<Folded>, AllocError>
-    ensures guide { IfOk result (λ both. both.value.guide ≡ joined guides.now) }
-    ensures graph { IfOk result (λ both. both.value.graph ≡ joined children.now) }
+    guides: Vec<Child>,
+    children: VecDeque<Child>,
+) -> Result<Box<Guided>, AllocError>
+    ensures guide { IfOk result (λ both. both.value.guide ≡ joined guides.items) }
+    ensures graph { IfOk result (λ both. both.value.graph ≡ joined children.items) }
 {
-    let both = Folded {
-        guide: joined(alloc, guides)?,
+    let both = Guided {
+        guide: joined(alloc, VecDeque::from(guides))?,
         graph: joined(alloc, children)?,
     };
     Ok(Box::new(alloc, both)?)
 }
 
-/// Drops what was added up. It is a call of its own, as `fold_children` is.
+/// Takes the next child that waits, and what guides its outline. It returns `None` exactly if none waits.
 #[inline(never)]
-fn release(_both: Box<Folded>) {}
+fn next_child(
+    alloc: Global,
+    guides: &mut Vec<Child>,
+    waiting: &mut VecDeque<Child>,
+) -> Result<Option<(Key, Box<Guided>)>, AllocError>
+    requires { InOrder guides.old.items }
+    ensures some { IfOk result (λ next. IfSome next (λ n. TakesNext (record { key = n.0; graph = n.1.value.graph })
+        n.1.value.guide guides.old.items guides.new.items waiting.old.items waiting.new.items)) }
+    ensures none { IfOk result (λ next. IfNone next (waiting.old.items ≡ [])) }
+{
+    let Some(child) = waiting.pop_front() else {
+        return Ok(None);
+    };
+    let guide = take_guide(alloc, guides, &child)?;
+    let Child { key, graph } = child;
+    let both = Box::new(alloc, Guided { guide, graph })?;
+    Ok(Some((key, both)))
+}
 
 /// The outline of a graph: the graph cut at a depth, with keys folded.
 ///
 /// A path has at most `depth` keys; what is below adds to its ancestor of so many keys. If a path has more than `most`
 /// children, they are one child `{}`, in which their graphs add up before they are folded in turn. If `most` is
 /// `usize::MAX` and the graph has fewer than `depth` paths, the outline is the graph. The children are counted in the
-/// guide, which is the graph itself, or the sum of several graphs whose outlines are to be alike. The only error is that
-/// memory runs out.
+/// guide, which is a copy of the graph, or the sum of several graphs whose outlines are to be alike. Both are taken apart,
+/// so no level keeps a copy. The only error is that memory runs out.
 pub fn outline(
     alloc: Global,
-    guide: &FlameGraph,
-    graph: &FlameGraph,
+    guide: FlameGraph,
+    graph: FlameGraph,
     depth: usize,
     most: usize,
 ) -> Result<FlameGraph, AllocError>
-    ensures outline { IfOk result (IsOutline depth most guide.now graph.now) }
-    ensures total { IfOk result (λ view. total view ≡ total graph.now) }
-    ensures whole { IfOk result (λ view. len graph.now < depth → most ≡ 2 ^ 64 - 1 → view ≡ graph.now) }
+    ensures outline { IfOk result (IsOutline depth most guide graph) }
+    ensures total { IfOk result (λ view. total view ≡ total graph) }
+    ensures whole { IfOk result (λ view. len graph < depth → most ≡ 2 ^ 64 - 1 → view ≡ graph) }
 {
     let mut view = FlameGraph::default(alloc);
-    add_outline(alloc, guide, graph, depth, most, &mut view)?;
+    let both = Box::new(alloc, Guided { guide, graph })?;
+    add_outline(alloc, both, depth, most, &mut view)?;
     Ok(view)
 }
 
 /// Makes the outline of a graph of an empty view. What it calls is not inlined, so that a level takes less of the stack.
 fn add_outline(
     alloc: Global,
-    guide: &FlameGraph,
-    graph: &FlameGraph,
+    both: Box<Guided>,
     depth: usize,
     most: usize,
     view: &mut FlameGraph,
 ) -> Result<(), AllocError>
     requires { view.old ≡ default }
-    ensures outline { OnOk result (IsOutline depth most guide.now graph.now view.new) }
-    ensures whole { OnOk result (len graph.now < depth → most ≡ 2 ^ 64 - 1 → view.new ≡ graph.now) }
+    ensures outline { OnOk result (IsOutline depth most both.value.guide both.value.graph view.new) }
+    ensures whole { OnOk result
+        (len both.value.graph < depth → most ≡ 2 ^ 64 - 1 → view.new ≡ both.value.graph) }
 {
     let Some(rest) = depth.checked_sub(1) else {
-        return add_bytes(view, graph.total_size());
+        return add_bytes(view, both.graph.total_size());
     };
-    add_bytes(view, graph.self_size())?;
-    let guides = guide.children();
-    let children = graph.children();
+    add_bytes(view, both.graph.self_size())?;
+    // The contract of `total_size` says that the bytes of the guide fit a `usize`.
+    let _all = both.guide.total_size();
+    let (mut guides, mut waiting) = take_apart(both);
     let mut below = FlameGraph::default(alloc);
     if guides.len() > most {
-        let both = fold_children(alloc, guides, children)?;
-        let outlined = add_outline(alloc, &both.guide, &both.graph, rest, most, &mut below);
-        release(both);
-        outlined?;
+        let both = fold_children(alloc, guides, waiting)?;
+        add_outline(alloc, both, rest, most, &mut below)?;
         return put(alloc, view, &Key::new("{}"), &mut below);
     }
-    for child in children {
-        let child_guide = guide_of(guide, child);
-        add_outline(alloc, child_guide, &child.graph, rest, most, &mut below)?;
-        put(alloc, view, &child.key, &mut below)?;
+    while let Some((key, both)) = next_child(alloc, &mut guides, &mut waiting)? {
+        add_outline(alloc, both, rest, most, &mut below)?;
+        put(alloc, view, &key, &mut below)?;
     }
     Ok(())
 }

@@ -123,11 +123,12 @@ Writes asked change g h made = MatchBool asked.as_text (made ≡ text h)
     (MatchBool (nat_lt 0 asked.top) (IsTableOf asked change g h made)
     ((o : Options) × IsOptions asked o × (made ≡ cond change (change_drawing o g h) (profile_drawing o h))))
 
--- What is written of the graphs g and h is what the arguments ask for, of what is shown of them.
+-- What is written of the graphs g and h is what the arguments ask for, of what is shown of them. If no change is asked
+-- for, g is not shown.
 pub record Shows (asked : Arguments) (change : Bool) (g h : Graph) (made : List ℕ) : Type 0 where
   pub shown_earlier : Graph
   pub shown_later : Graph
-  pub earlier_shown : IsShown asked (guide_of change g h) g shown_earlier
+  pub earlier_shown : change ≡ true → IsShown asked (guide_of change g h) g shown_earlier
   pub later_shown : IsShown asked (guide_of change g h) h shown_later
   pub is : Writes asked change shown_earlier shown_later made
 

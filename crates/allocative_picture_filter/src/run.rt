@@ -220,11 +220,11 @@ fn guide_of(
 fn outline_of(
     alloc: Global,
     asked: &Arguments<'_>,
-    guide: &FlameGraph,
+    guide: FlameGraph,
     graph: FlameGraph,
 ) -> Result<FlameGraph, AllocError>
     ensures outlined { IfOk result (λ made. is_outlined asked.now ≡ true
-        → IsOutline (limit_of asked.now.depth) (limit_of asked.now.fold) guide.now graph made) }
+        → IsOutline (limit_of asked.now.depth) (limit_of asked.now.fold) guide graph made) }
     ensures whole { IfOk result (λ made. is_outlined asked.now ≡ false → made ≡ graph) }
     ensures total { IfOk result (λ made. total made ≡ total graph) }
 {
@@ -234,7 +234,7 @@ fn outline_of(
     outline(
         alloc,
         guide,
-        &graph,
+        graph,
         limit_of(asked.depth),
         limit_of(asked.fold),
     )
@@ -244,11 +244,11 @@ fn outline_of(
 fn shown(
     alloc: Global,
     asked: &Arguments<'_>,
-    guide: &FlameGraph,
+    guide: FlameGraph,
     graph: FlameGraph,
 ) -> Result<FlameGraph, AllocError>
     ensures shown { IfOk result (λ made. (u : Graph)
-        → (is_outlined asked.now ≡ true → guide.now ≡ u) → IsShown asked.now u graph made) }
+        → (is_outlined asked.now ≡ true → guide ≡ u) → IsShown asked.now u graph made) }
     ensures total { IfOk result (λ made. total made ≡ total graph) }
 {
     let outlined = outline_of(alloc, asked, guide, graph)?;
@@ -256,6 +256,24 @@ fn shown(
         return by_last_key(alloc, &outlined);
     }
     Ok(outlined)
+}
+
+// What is shown of the earlier graph of a change. Otherwise nothing is, and no copy of the guide is made.
+fn shown_before(
+    alloc: Global,
+    asked: &Arguments<'_>,
+    change: bool,
+    guide: &FlameGraph,
+    earlier: FlameGraph,
+) -> Result<FlameGraph, AllocError>
+    ensures shown { IfOk result (λ made. change ≡ true → (u : Graph)
+        → (is_outlined asked.now ≡ true → guide.now ≡ u) → IsShown asked.now u earlier made) }
+    ensures total { IfOk result (λ made. total made ≡ total earlier) }
+{
+    if !change {
+        return Ok(earlier);
+    }
+    shown(alloc, asked, guide.clone()?, earlier)
 }
 
 // Which bytes a table shows.
@@ -341,8 +359,8 @@ fn made_of_turned(
         → 2 ^ 64 ≤ cond change (total earlier + total later) 0 }
 {
     let guide = guide_of(alloc, asked, change, &earlier, &later)?;
-    let shown_earlier = shown(alloc, asked, &guide, earlier)?;
-    let shown_later = shown(alloc, asked, &guide, later)?;
+    let shown_earlier = shown_before(alloc, asked, change, &guide, earlier)?;
+    let shown_later = shown(alloc, asked, guide, later)?;
     written(alloc, asked, change, &shown_earlier, &shown_later)
 }
 

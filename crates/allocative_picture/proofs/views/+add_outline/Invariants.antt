@@ -1,6 +1,7 @@
 -- of add_outline: its recursion ends, and the invariant of its loop
-use Rattle.std.proofs.Common.{◌≡◌, ◌<◌, ◌-◌, ◌^◌, List, [], take}
-use Rattle.allocative_picture.proofs.Common.{Child, Graph, default, len, size_at, sum_of_all}
+use Rattle.std.proofs.Common.{◌≡◌, ◌<◌, ◌-◌, ◌^◌, ◌++◌, All, List, [], length}
+use Rattle.allocative_picture.proofs.Common.{Child, Graph, InOrder, default, len, size_at, sum_of_all}
+use Rattle.allocative_picture.proofs.Guiding.{AreLeft}
 use Rattle.allocative_picture.specs.Views.{bytes_alone, GuidesChild, InStep, IsOutline}
 use Rattle.allocative_picture.proofs.views.+add_outline.Given as goal
 
@@ -8,14 +9,19 @@ use Rattle.allocative_picture.proofs.views.+add_outline.Given as goal
 abbrev pub decreases-add_outline : goal.decreases-add_outline
 decreases-add_outline l = l.depth
 
--- The children before this one are outlined and added; if nothing is cut or folded, they are added as they are.
-abbrev pub invariant-loop-child : goal.invariant-loop-child
-invariant-loop-child l = record {
+abbrev pub decreases-loop-below : goal.decreases-loop-below
+decreases-loop-below l = length l.waiting.items
+
+-- The children that do not wait are outlined and added; if nothing is cut or folded, they are added as they are. The
+-- guides of the others are left.
+abbrev pub invariant-loop-below : goal.invariant-loop-below
+invariant-loop-below l = record {
   empty : l.below ≡ default;
-  outlined : (ds : List Child)
-      × InStep (λ c o. (x : Graph) × GuidesChild l.guide c x × IsOutline l.rest l.most x c.graph o)
-      (take l.child-index l.children) ds
-      × (l.view ≡ sum_of_all (bytes_alone (size_at l.graph [])) ds);
-  whole : len l.graph < l.depth → l.most ≡ 2 ^ 64 - 1 →
-      l.view ≡ sum_of_all (bytes_alone (size_at l.graph [])) (take l.child-index l.children);
+  order : InOrder l.waiting.items;
+  smaller : All (λ c. len c.graph < len l.fn.both.value.graph) l.waiting.items;
+  left : AreLeft l.initial.guides.items l.guides.items l.waiting.items;
+  outlined : (done : List Child) × (ds : List Child) × (l.initial.waiting.items ≡ done ++ l.waiting.items)
+      × InStep (λ c o. (x : Graph) × GuidesChild l.fn.both.value.guide c x × IsOutline l.rest l.most x c.graph o) done ds
+      × (l.view ≡ sum_of_all (bytes_alone (size_at l.fn.both.value.graph [])) ds)
+      × (len l.fn.both.value.graph < l.depth → l.most ≡ 2 ^ 64 - 1 → l.view ≡ sum_of_all (bytes_alone (size_at l.fn.both.value.graph [])) done);
 }

@@ -10,7 +10,7 @@ returns-clause-ok c =
     IfOk-weaker c.written.result _ _ (λ made is. record {
       shown_earlier = c.in_ok-shown_earlier.shown_earlier;
       shown_later = c.in_ok-shown_later.shown_later;
-      earlier_shown = c.in_ok-shown_earlier.ensures.shown u c.in_ok-guide.ensures.guide;
+      earlier_shown = λ asked. c.in_ok-shown_earlier.ensures.shown asked u c.in_ok-guide.ensures.guide;
       later_shown = c.in_ok-shown_later.ensures.shown u c.in_ok-guide.ensures.guide;
       is = is;
     }) c.written.ensures.ok
