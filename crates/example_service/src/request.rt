@@ -41,6 +41,7 @@ pub enum Request<'a> {
     Clear,
     Pages,
     Bill,
+    Metrics,
     Profile,
     Report,
     /// So many of the paths that grew most.
@@ -56,6 +57,7 @@ pub fn read_request(line: &str) -> Option<Request<'_>> {
         "pages" => Some(Request::Pages),
         "clear" => Some(Request::Clear),
         "bill" => Some(Request::Bill),
+        "metrics" => Some(Request::Metrics),
         "profile" => Some(Request::Profile),
         "report" => Some(Request::Report),
         "picture" => Some(Request::Picture),
