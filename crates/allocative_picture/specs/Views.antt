@@ -9,7 +9,7 @@ use Rattle.std.specs.FinMap.{entries}
 use Rattle.allocative_graph.specs.Path.{Key, Path, texts}
 use Rattle.allocative_graph.specs.Graph.{Graph, default, add_self, sum_of, under, total, size_at, IsBehind, HasNothing}
 use Rattle.allocative_graph.specs.Graph.{begins, ends_in}
-use Rattle.allocative_graph.specs.Rows.{node, sum_of_all, AreChildren}
+use Rattle.allocative_graph.specs.Rows.{node, sum_of_all, AllSmaller, AreChildren}
 use Rattle.allocative_graph.specs.Representation.Children.{IsChildGap, IsFound, graph_of_path}
 use Rattle.allocative_graph.specs.declared.flamegraph.Child.{Child}
 use Rattle.allocative_picture.specs.declared.views.Gathered.{Gathered}
@@ -91,6 +91,12 @@ pub record HasChildren (g : Graph) (cs : List Child) : Type 0 where
 -- graph if that is nothing.
 abbrev pub GuidesChild : Graph → Child → Graph → Type 0
 GuidesChild g c x = IsBehind g (c.key ∷ []) x ⊎ (HasNothing g (c.key ∷ []) × (x ≡ c.graph))
+
+-- The children of the roots of g and of h, which each have fewer paths than h.
+pub record IsTakenApart (g h : Graph) (us cs : List Child) : Type 0 where
+  pub guides : HasChildren g us
+  pub children : HasChildren h cs
+  pub smaller : AllSmaller cs h
 
 -- The graph x is taken from the guides us for the child c, and leaves the guides vs: it is that of the guide with the
 -- child's key, which then has another graph, or, if there is none, the child's own.

@@ -1,12 +1,12 @@
 //! Views of a flame graph, which say what is heavy where its keys are data: the outline of a graph, the bytes by last key,
 //! and the reversed paths, which keep the total, and parts. Each is a graph.
-ghost use Rattle.std.specs.Prelude.{◌≡◌, ◌<◌, ◌+◌, ◌-◌, ◌^◌, [], ◌∷◌, ◌++◌, IfErr, IfNone, IfOk, IfSome, OnOk, cond, reverse};
+ghost use Rattle.std.specs.Prelude.{◌≡◌, ◌<◌, ◌+◌, ◌-◌, ◌^◌, [], ◌∷◌, ◌++◌, IfErr, IfNone, IfOk, IfSome, OnOk, cond, length, reverse};
 ghost use Rattle.std.specs.FinMap.{entries, len};
 ghost use Rattle.allocative_graph.specs.Path.{Key, Path, key_cmp, texts};
 ghost use Rattle.allocative_graph.specs.Graph.{default, size_at, sum_of, total, under};
-ghost use Rattle.allocative_graph.specs.Rows.{AllSmaller, AreChildren, node, under_rows};
+ghost use Rattle.allocative_graph.specs.Rows.{under_rows};
 ghost use Rattle.allocative_graph.specs.Representation.Children.{InOrder, IsChildGap, IsFound, graph_of_path};
-ghost use Rattle.allocative_picture.specs.Views.{all_of, by_last_key, by_last_keys, bytes_alone, bytes_ending_in, bytes_within, chosen_onto, is_chosen, is_within, joined, only, paths_of, reversed, reversed_onto, without, IsOutline, TakesGuide, TakesNext};
+ghost use Rattle.allocative_picture.specs.Views.{all_of, by_last_key, by_last_keys, bytes_alone, bytes_ending_in, bytes_within, chosen_onto, is_chosen, is_within, joined, only, paths_of, reversed, reversed_onto, without, IsOutline, IsTakenApart, TakesGuide, TakesNext};
 ghost use Rattle.allocative_picture.specs.Table.{behind};
 
 use allocative_graph::flamegraph::{Child, FlameGraph, add_at};
@@ -101,33 +101,45 @@ struct Guided {
     graph: FlameGraph,
 }
 
+/// The children of a guide, and those of a graph that are still to be outlined.
+#[derive(Drop)]
+struct Level {
+    guides: Vec<Child>,
+    waiting: VecDeque<Child>,
+}
+
 /// The children of a guide and of a graph. It is a call of its own, as all that an outline calls.
 #[inline(never)]
-fn take_apart(both: Box<Guided>) -> (Vec<Child>, VecDeque<Child>)
-    ensures guide { both.value.guide ≡ node (size_at both.value.guide []) result.0.items }
-    ensures guides { AreChildren result.0.items }
-    ensures graph { both.value.graph ≡ node (size_at both.value.graph []) result.1.items }
-    ensures children { AreChildren result.1.items }
-    ensures smaller { AllSmaller result.1.items both.value.graph }
+fn take_apart(alloc: Global, both: Box<Guided>) -> Result<Box<Level>, AllocError>
+    ensures { IfOk result (λ level. IsTakenApart both.value.guide both.value.graph level.value.guides.items
+        level.value.waiting.items) }
 {
     let Guided { guide, graph } = Box::into_inner(both);
     let children = graph.into_children();
-    (guide.into_children(), VecDeque::from(children))
+    let level = Level {
+        guides: guide.into_children(),
+        waiting: VecDeque::from(children),
+    };
+    Ok(Box::new(alloc, level)?)
+}
+
+/// How many guides there are.
+fn count_guides(level: &Box<Level>) -> usize
+    ensures { result ≡ length level.now.value.guides.items }
+{
+    level.guides.len()
 }
 
 /// The graphs of the children of a guide and of a graph, added up.
 #[inline(never)]
-fn fold_children(
-    alloc: Global,
-    guides: Vec<Child>,
-    children: VecDeque<Child>,
-) -> Result<Box<Guided>, AllocError>
-    ensures guide { IfOk result (λ both. both.value.guide ≡ joined guides.items) }
-    ensures graph { IfOk result (λ both. both.value.graph ≡ joined children.items) }
+fn fold_children(alloc: Global, level: Box<Level>) -> Result<Box<Guided>, AllocError>
+    ensures guide { IfOk result (λ both. both.value.guide ≡ joined level.value.guides.items) }
+    ensures graph { IfOk result (λ both. both.value.graph ≡ joined level.value.waiting.items) }
 {
+    let Level { guides, waiting } = Box::into_inner(level);
     let both = Guided {
         guide: joined(alloc, VecDeque::from(guides))?,
-        graph: joined(alloc, children)?,
+        graph: joined(alloc, waiting)?,
     };
     Ok(Box::new(alloc, both)?)
 }
@@ -136,18 +148,18 @@ fn fold_children(
 #[inline(never)]
 fn next_child(
     alloc: Global,
-    guides: &mut Vec<Child>,
-    waiting: &mut VecDeque<Child>,
+    level: &mut Box<Level>,
 ) -> Result<Option<(Key, Box<Guided>)>, AllocError>
-    requires { InOrder guides.old.items }
+    requires { InOrder level.old.value.guides.items }
     ensures some { IfOk result (λ next. IfSome next (λ n. TakesNext (record { key = n.0; graph = n.1.value.graph })
-        n.1.value.guide guides.old.items guides.new.items waiting.old.items waiting.new.items)) }
-    ensures none { IfOk result (λ next. IfNone next (waiting.old.items ≡ [])) }
+        n.1.value.guide level.old.value.guides.items level.new.value.guides.items level.old.value.waiting.items
+        level.new.value.waiting.items)) }
+    ensures none { IfOk result (λ next. IfNone next (level.old.value.waiting.items ≡ [])) }
 {
-    let Some(child) = waiting.pop_front() else {
+    let Some(child) = level.waiting.pop_front() else {
         return Ok(None);
     };
-    let guide = take_guide(alloc, guides, &child)?;
+    let guide = take_guide(alloc, &mut level.guides, &child)?;
     let Child { key, graph } = child;
     let both = Box::new(alloc, Guided { guide, graph })?;
     Ok(Some((key, both)))
@@ -196,14 +208,14 @@ fn add_outline(
     add_bytes(view, both.graph.self_size())?;
     // The contract of `total_size` says that the bytes of the guide fit a `usize`.
     let _all = both.guide.total_size();
-    let (mut guides, mut waiting) = take_apart(both);
+    let mut level = take_apart(alloc, both)?;
     let mut below = FlameGraph::default(alloc);
-    if guides.len() > most {
-        let both = fold_children(alloc, guides, waiting)?;
+    if count_guides(&level) > most {
+        let both = fold_children(alloc, level)?;
         add_outline(alloc, both, rest, most, &mut below)?;
         return put(alloc, view, &Key::new("{}"), &mut below);
     }
-    while let Some((key, both)) = next_child(alloc, &mut guides, &mut waiting)? {
+    while let Some((key, both)) = next_child(alloc, &mut level)? {
         add_outline(alloc, both, rest, most, &mut below)?;
         put(alloc, view, &key, &mut below)?;
     }

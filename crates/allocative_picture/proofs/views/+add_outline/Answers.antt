@@ -23,15 +23,15 @@ returns-in_default-clause-whole t c =
     on_ok_weaker c.add_bytes.result (λ _ few all. absurd (omega (arith, few, none))) c.add_bytes.ensures
 
 -- Children that are too many are one child.
-pub returns-then-len-most-clause-outline : goal.returns-then-len-most-clause-outline
+pub returns-then-count_guides-most-clause-outline : goal.returns-then-count_guides-most-clause-outline
 unfolding IsOutline
-returns-then-len-most-clause-outline t c =
+returns-then-count_guides-most-clause-outline t c =
     let some : c.args.depth ≡ suc c.in-Some.rest = omega (arith, c.in-Some.ensures.0, c.in-Some.ensures.1) in
     on_ok_weaker c.put.result (λ is. rw some (
-      c.take_apart-guides.result.0.items,
-      c.take_apart-guides.result.1.items,
-      record { whole = c.take_apart-guides.ensures.guide; children = c.take_apart-guides.ensures.guides },
-      record { whole = c.take_apart-guides.ensures.graph; children = c.take_apart-guides.ensures.children },
+      c.in_ok-level.level.value.guides.items,
+      c.in_ok-level.level.value.waiting.items,
+      c.in_ok-level.ensures.guides,
+      c.in_ok-level.ensures.children,
       inl (
         omega arith,
         c.add_outline.new.view,
@@ -42,55 +42,55 @@ returns-then-len-most-clause-outline t c =
       ),
     )) c.put.ensures.sum
 
-pub returns-then-len-most-clause-whole : goal.returns-then-len-most-clause-whole
-returns-then-len-most-clause-whole t c =
+pub returns-then-count_guides-most-clause-whole : goal.returns-then-count_guides-most-clause-whole
+returns-then-count_guides-most-clause-whole t c =
     on_ok_weaker c.put.result (λ _ few all. absurd (omega (arith, all))) c.put.ensures.sum
 
 -- Before the first child all guides are left.
 pub loop-below-init : goal.loop-below-init
 loop-below-init t c =
-    let cs = c.take_apart-guides.result.1.items in
+    let cs = c.in_ok-level.level.value.waiting.items in
     let own = bytes_alone (size_at c.args.both.value.graph []) in
     let view = c.in_ok-add_bytes.ensures
     ∙ ap bytes_alone (c.self_size.ensures ∙ ap (λ (b : Guided). size_at b.graph []) c.deref-2.ensures) in
     record {
       empty = c.default-below.ensures;
-      order = c.take_apart-guides.ensures.children.sorted;
-      smaller = c.take_apart-guides.ensures.smaller;
+      order = c.in_ok-level.ensures.children.children.sorted;
+      smaller = c.in_ok-level.ensures.smaller;
       left = all_left _ _;
       outlined = ([], [], refl, tt, view, λ few all. view);
     }
 
 -- The guides that are left are in the order of their keys.
 pub next_child-requires : goal.next_child-requires
-next_child-requires t c = left_in_order c.take_apart-guides.result.0.items c.loop-below.guides.items c.loop-below.waiting.items
-    c.loop-below.invariant.left c.take_apart-guides.ensures.guides.sorted
+next_child-requires t c = left_in_order c.in_ok-level.level.value.guides.items c.loop-below.level.value.guides.items c.loop-below.level.value.waiting.items
+    c.loop-below.invariant.left c.in_ok-level.ensures.guides.children.sorted
 
 -- One child more is outlined.
 pub loop-below-preserved : goal.loop-below-preserved
 unfolding IsStrictlySortedBy
 loop-below-preserved t c =
-    let us = c.take_apart-guides.result.0.items in
-    let vs = c.loop-below.guides.items in
-    let ws = c.next_child.new.guides.items in
+    let us = c.in_ok-level.level.value.guides.items in
+    let vs = c.loop-below.level.value.guides.items in
+    let ws = c.next_child.new.level.value.guides.items in
     let g = c.args.both.value.guide in
     let n = size_at g [] in
     let b : Child = record { key = c.in-Some-2.key; graph = c.in-Some-2.both.value.graph } in
-    let rest = c.next_child.new.waiting.items in
+    let rest = c.next_child.new.level.value.waiting.items in
     let x = c.in-Some-2.both.value.guide in
-    let next : TakesNext b x vs ws c.loop-below.waiting.items rest = rw c.in-Some-2.is at c.in_ok-key.ensures.some in
+    let next : TakesNext b x vs ws c.loop-below.level.value.waiting.items rest = rw c.in-Some-2.is at c.in_ok-key.ensures.some in
     let below = c.add_outline-in-Some-2.new.view in
     let d : Child = record { key = b.key; graph = below } in
     let own = bytes_alone (size_at c.args.both.value.graph []) in
     let inv = c.loop-below.invariant in
-    let at : c.loop-below.waiting.items ≡ b ∷ rest = next.front in
+    let at : c.loop-below.level.value.waiting.items ≡ b ∷ rest = next.front in
     let order : InOrder (b ∷ rest) = subst InOrder at inv.order in
     let Small : Child → Type 0 = λ y. len y.graph < len c.args.both.value.graph in
     let small : All Small (b ∷ rest) = subst (All Small) at inv.smaller in
     let left : AreLeft us vs (b ∷ rest) = subst (AreLeft us vs) at inv.left in
     let fits : total g < 2 ^ 64 = omega (arith, c.total_size-all.ensures.total, ap (λ (b : Guided). total b.guide) c.deref-3.ensures) in
-    let whole = c.take_apart-guides.ensures.guide in
-    let guides = c.take_apart-guides.ensures.guides in
+    let whole = c.in_ok-level.ensures.guides.whole in
+    let guides = c.in_ok-level.ensures.guides.children in
     let guided : GuidesChild g b x = guides-taken g n us whole guides fits vs ws rest b x left order next.taken in
     let R : Child → Graph → Type 0 = λ y o. (u : Graph) × GuidesChild g y u × IsOutline c.in-Some.rest c.args.most u y.graph o in
     let done = inv.outlined.0 in
@@ -118,27 +118,27 @@ loop-below-preserved t c =
 pub returns-clause-outline : goal.returns-clause-outline
 unfolding IsOutline
 returns-clause-outline t c =
-    let cs = c.take_apart-guides.result.1.items in
+    let cs = c.in_ok-level.level.value.waiting.items in
     let inv = c.loop-below.invariant in
-    let none : c.loop-below.waiting.items ≡ [] = rw c.in_default-2.is at c.in_ok-key.ensures.none in
+    let none : c.loop-below.level.value.waiting.items ≡ [] = rw c.in_default-2.is at c.in_ok-key.ensures.none in
     let all : inv.outlined.0 ≡ cs = sym (inv.outlined.2 ∙ ap (λ (ys : List Child). inv.outlined.0 ++ ys) none ∙ append-nil inv.outlined.0) in
     let some : c.args.depth ≡ suc c.in-Some.rest = omega (arith, c.in-Some.ensures.0, c.in-Some.ensures.1) in
     let R : Child → Graph → Type 0 = λ y o. (u : Graph) × GuidesChild c.args.both.value.guide y u × IsOutline c.in-Some.rest c.args.most u y.graph o in
     rw some (
-      c.take_apart-guides.result.0.items,
+      c.in_ok-level.level.value.guides.items,
       cs,
-      record { whole = c.take_apart-guides.ensures.guide; children = c.take_apart-guides.ensures.guides },
-      record { whole = c.take_apart-guides.ensures.graph; children = c.take_apart-guides.ensures.children },
+      c.in_ok-level.ensures.guides,
+      c.in_ok-level.ensures.children,
       inr (omega arith, inv.outlined.1, subst (λ ys. InStep R ys inv.outlined.1) all inv.outlined.3, inv.outlined.4),
     )
 
 pub returns-clause-whole : goal.returns-clause-whole
 returns-clause-whole t c = λ few all.
-    let cs = c.take_apart-guides.result.1.items in
+    let cs = c.in_ok-level.level.value.waiting.items in
     let inv = c.loop-below.invariant in
-    let none : c.loop-below.waiting.items ≡ [] = rw c.in_default-2.is at c.in_ok-key.ensures.none in
+    let none : c.loop-below.level.value.waiting.items ≡ [] = rw c.in_default-2.is at c.in_ok-key.ensures.none in
     let done : inv.outlined.0 ≡ cs = sym (inv.outlined.2 ∙ ap (λ (ys : List Child). inv.outlined.0 ++ ys) none ∙ append-nil inv.outlined.0) in
     inv.outlined.5 few all
     ∙ ap (λ (ys : List Child). sum_of_all (bytes_alone (size_at c.args.both.value.graph [])) ys) done
-    ∙ sum_of_children (size_at c.args.both.value.graph []) cs c.take_apart-guides.ensures.children
-    ∙ sym c.take_apart-guides.ensures.graph
+    ∙ sum_of_children (size_at c.args.both.value.graph []) cs c.in_ok-level.ensures.children.children
+    ∙ sym c.in_ok-level.ensures.children.whole
