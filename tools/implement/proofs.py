@@ -102,7 +102,8 @@ class Proofs:
         """The proof of an arm with some values in its fields: what was entered means what may be shown."""
         means = joined([self.means(taken, arm, *each) for each in values], means_of)
         is_asked = self.writer.is_borrowed or bool(self.cycle)
-        for size in (SIZE,) * is_entry + (SIZE if is_asked else "refl",):
+        for is_call in [True] * is_entry + [is_asked]:
+            size = "refl" if not is_call else SIZE if self.definition.parameters else ensured(taken, "size", arm)
             means = f"(means_field refl {size} {means})"
         entered = ensured(taken, "enter", arm)
         only = "(search (rules, strict))" if self.flags else "strict_same"

@@ -94,19 +94,20 @@ class Writer:
         return size_of(self.layout).clause if self.is_borrowed else size_in_clause(definition.name + own)
 
     def variant_size(self, variant: Variant, definition: Definition) -> Layout:
-        """The size of the entry of a variant."""
-        if definition.name not in self.scope.tallied:
+        """The size of the entry of a variant. Where a type can have that layout, its size is one call for the checker."""
+        if definition.parameters:
             return size_of(self.layouts.of_variant(variant, definition))
-        return Layout(f"<{self.record(variant)}>::size()", size_in_clause(self.record(variant)))
+        record = self.record(variant, definition.name)
+        return Layout(f"<{record}>::size()", size_in_clause(record))
 
-    def record(self, variant: Variant) -> str:
-        """The type that has the layout of a variant, if its values are counted."""
-        return self.source.records[self.name, variant.name]
+    def record(self, variant: Variant, name: str = "") -> str:
+        """The type that has the layout of a variant."""
+        return self.source.records[name or self.name, variant.name]
 
     def records(self) -> str:
         """The types that have the layouts of the variants with an entry."""
         text = ""
-        for variant in self.definition.variants if self.definition.is_enum and self.name in self.scope.tallied else ():
+        for variant in self.definition.variants if self.definition.is_enum and not self.definition.parameters else ():
             if variant.is_entry:
                 name, layout = self.record(variant), self.layouts.of_variant(variant, self.definition)
                 about = f"/// The fields of the variant `{variant.name}` of `{self.name}`.\nstruct {name};\n\n"

@@ -450,6 +450,38 @@ impl Tallied for Cart {
     }
 }
 
+/// The fields of the variant `Pair` of `Json`.
+struct JsonPairFields;
+
+impl Described for JsonPairFields {
+    ghost layout = { pad_to_align (empty (codes "Pair")
+        with ⟦<Option<Box<Json>> as Described>⟧.layout
+        with ⟦<Vec<Json> as Described>⟧.layout) };
+
+    fn layout() -> Layout {
+        Layout::empty("Pair")
+            .with(<Option<Box<Json>>>::layout())
+            .with(<Vec<Json>>::layout())
+            .pad_to_align()
+    }
+}
+
+/// The fields of the variant `Part` of `Json`.
+struct JsonPartFields;
+
+impl Described for JsonPartFields {
+    ghost layout = { pad_to_align (empty (codes "Part")
+        with declared (codes "part0") 16 8 false
+        with ⟦<Box<Json> as Described>⟧.layout) };
+
+    fn layout() -> Layout {
+        Layout::empty("Part")
+            .with(Layout::new("part0", 16, 8, false))
+            .with(<Box<Json>>::layout())
+            .pad_to_align()
+    }
+}
+
 impl Described for Json {
     ghost layout = { pad_to_align (empty (codes "Json")
         with ⟦<u8 as Described>⟧.layout
@@ -485,15 +517,11 @@ impl Allocative for Json {
     ghost may_show = { recursive (opened out-Json (λ x. field (codes "Json") ⟦<Json as Described>⟧.layout.size (elim x [
       | Json-F.Null ↦ plain shows.Nothing
       | Json-F.Table a ↦ field (codes "Table") ⟦<BTreeMap<String, Json> as Described>⟧.layout.size (btree_map_of (pair_in ⟦<String as Described>⟧.layout.size ⟦<String as Allocative>⟧.may_show ⟦<Json as Described>⟧.layout.size child) a.entries)
-      | Json-F.Pair a b ↦ field (codes "Pair") (pad_to_align (empty (codes "Pair")
-          with ⟦<Option<Box<Json>> as Described>⟧.layout
-          with ⟦<Vec<Json> as Described>⟧.layout)).size
+      | Json-F.Pair a b ↦ field (codes "Pair") ⟦<JsonPairFields as Described>⟧.layout.size
           (both
           (field (codes "first") ⟦<Option<Box<Json>> as Described>⟧.layout.size (option_in ⟦<Option<Box<Json>> as Described>⟧.layout.size ⟦<Box<Json> as Described>⟧.layout.size (λ y. box_of (child y.value)) a))
           (field (codes "rest") ⟦<Vec<Json> as Described>⟧.layout.size (vec_in ⟦<Json as Described>⟧.layout.size child b)))
-      | Json-F.Part a b ↦ field (codes "Part") (pad_to_align (empty (codes "Part")
-          with declared (codes "part0") 16 8 false
-          with ⟦<Box<Json> as Described>⟧.layout)).size
+      | Json-F.Part a b ↦ field (codes "Part") ⟦<JsonPartFields as Described>⟧.layout.size
           (both
           (plain (shows.Inside (codes "0") 16 (shows.Inside (codes "Range") 16 shows.Nothing)))
           (field (codes "1") ⟦<Box<Json> as Described>⟧.layout.size (box_of (child b.value))))
@@ -511,29 +539,13 @@ impl Allocative for Json {
             Json::Pair { first, rest } => {
                 let first = Field("first", first);
                 let rest = Field("rest", rest);
-                let inside = Declared(
-                    "Pair",
-                    Layout::empty("Pair")
-                        .with(<Option<Box<Json>>>::layout())
-                        .with(<Vec<Json>>::layout())
-                        .pad_to_align()
-                        .size(),
-                    (first, rest),
-                );
+                let inside = Declared("Pair", <JsonPairFields>::size(), (first, rest));
                 Declared("Json", <Self as Described>::size(), inside).enter(visitor)
             }
             Json::Part(_a, b) => {
                 let a = Inside("0", 16, Inside("Range", 16, ()));
                 let b = Field("1", b);
-                let inside = Declared(
-                    "Part",
-                    Layout::empty("Part")
-                        .with(Layout::new("part0", 16, 8, false))
-                        .with(<Box<Json>>::layout())
-                        .pad_to_align()
-                        .size(),
-                    (a, b),
-                );
+                let inside = Declared("Part", <JsonPartFields>::size(), (a, b));
                 Declared("Json", <Self as Described>::size(), inside).enter(visitor)
             }
         }
@@ -618,9 +630,7 @@ impl Allocative for Job {
         (field (codes "earlier_by_number") ⟦<HashMap<u64, Job> as Described>⟧.layout.size (hash_map_of (pair_in ⟦<u64 as Described>⟧.layout.size ⟦<u64 as Allocative>⟧.may_show ⟦<Job as Described>⟧.layout.size (λ y. child (first y))) (out-Job x).earlier_by_number.entries))))
         (opened out-Payload (λ x. field (codes "Payload") ⟦<Payload as Described>⟧.layout.size (elim x [
           | Payload-F.Nothing ↦ plain shows.Nothing
-          | Payload-F.Done a b ↦ field (codes "Done") (pad_to_align (empty (codes "Done")
-              with ⟦<Box<Job> as Described>⟧.layout
-              with ⟦<u64 as Described>⟧.layout)).size
+          | Payload-F.Done a b ↦ field (codes "Done") ⟦<PayloadDoneFields as Described>⟧.layout.size
               (both
               (field (codes "job") ⟦<Box<Job> as Described>⟧.layout.size (box_of (child (first a.value))))
               (plain (shows.Field (codes "within_seconds") ⟦<u64 as Described>⟧.layout.size (⟦<u64 as Allocative>⟧.may_show b))))
@@ -638,6 +648,22 @@ impl Allocative for Job {
             (payload, earlier_by_number),
         )
         .enter(visitor)
+    }
+}
+
+/// The fields of the variant `Done` of `Payload`.
+struct PayloadDoneFields;
+
+impl Described for PayloadDoneFields {
+    ghost layout = { pad_to_align (empty (codes "Done")
+        with ⟦<Box<Job> as Described>⟧.layout
+        with ⟦<u64 as Described>⟧.layout) };
+
+    fn layout() -> Layout {
+        Layout::empty("Done")
+            .with(<Box<Job>>::layout())
+            .with(u64::layout())
+            .pad_to_align()
     }
 }
 
@@ -667,9 +693,7 @@ impl Allocative for Payload {
         (field (codes "earlier_by_number") ⟦<HashMap<u64, Job> as Described>⟧.layout.size (hash_map_of (pair_in ⟦<u64 as Described>⟧.layout.size ⟦<u64 as Allocative>⟧.may_show ⟦<Job as Described>⟧.layout.size (λ y. child (first y))) (out-Job x).earlier_by_number.entries))))
         (opened out-Payload (λ x. field (codes "Payload") ⟦<Payload as Described>⟧.layout.size (elim x [
           | Payload-F.Nothing ↦ plain shows.Nothing
-          | Payload-F.Done a b ↦ field (codes "Done") (pad_to_align (empty (codes "Done")
-              with ⟦<Box<Job> as Described>⟧.layout
-              with ⟦<u64 as Described>⟧.layout)).size
+          | Payload-F.Done a b ↦ field (codes "Done") ⟦<PayloadDoneFields as Described>⟧.layout.size
               (both
               (field (codes "job") ⟦<Box<Job> as Described>⟧.layout.size (box_of (child (first a.value))))
               (plain (shows.Field (codes "within_seconds") ⟦<u64 as Described>⟧.layout.size (⟦<u64 as Allocative>⟧.may_show b))))
@@ -687,15 +711,7 @@ impl Allocative for Payload {
             } => {
                 let job = Field("job", job);
                 let within_seconds = Field("within_seconds", within_seconds);
-                let inside = Declared(
-                    "Done",
-                    Layout::empty("Done")
-                        .with(<Box<Job>>::layout())
-                        .with(u64::layout())
-                        .pad_to_align()
-                        .size(),
-                    (job, within_seconds),
-                );
+                let inside = Declared("Done", <PayloadDoneFields>::size(), (job, within_seconds));
                 Declared("Payload", <Self as Described>::size(), inside).enter(visitor)
             }
         }

@@ -1,6 +1,6 @@
 -- Written by bin/implement.
 use Rattle.test_generated_types.specs.contracts.types.shown.EventAllocative.TheImpl.{ghosts}
-use Rattle.std.proofs.Common.{refl, rules}
+use Rattle.std.proofs.Common.{refl}
 use Rattle.allocative.proofs.ByHand.{visited_at}
 use Rattle.allocative.proofs.Meaning.{strict_same, means_field, means_same}
 use Rattle.test_generated_types.proofs.types.shown.EventAllocative.visit.Goals as goal
@@ -23,4 +23,4 @@ returns-in-Marked c =
 pub returns-in-Sale : goal.returns-in-Sale
 returns-in-Sale c =
     visited_at ghosts.may_show c.in-Sale.is c.enter-in-Sale.ensures strict_same
-    (means_field refl refl (means_field refl (search rules) means_same))
+    (means_field refl refl (means_field refl c.size.ensures means_same))

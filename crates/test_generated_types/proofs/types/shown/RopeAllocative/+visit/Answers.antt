@@ -1,6 +1,6 @@
 -- Written by bin/implement.
 use Rattle.test_generated_types.specs.declared.types.Rope.{out-Rope, Rope-F}
-use Rattle.std.proofs.Common.{refl, rules, ◌≡◌}
+use Rattle.std.proofs.Common.{refl, ◌≡◌}
 use Rattle.allocative.proofs.Levels.{means_opened}
 use Rattle.allocative.proofs.Meaning.{means_field, means_same, visited_as}
 use Rattle.test_generated_types.proofs.types.shown.RopeAllocative.+visit.Goals as goal
@@ -13,4 +13,4 @@ returns t c =
     visited_as c.enter.ensures
     (rw (variant-Rope (out-Rope c.args.self.now)).1
     (means_opened _ _ refl (variant-Rope (out-Rope c.args.self.now)).1
-    (means_field refl (search rules) means_same)))
+    (means_field refl c.size.ensures means_same)))
