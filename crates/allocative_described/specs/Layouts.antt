@@ -4,7 +4,6 @@ use Rattle.allocative_described.specs.Sizes.{size_sum, size_max, size_up}
 
 infixl 30 ◌with◌
 infixl 30 ◌or◌
-
 -- A name, a size in bytes or None if it does not fit a word, an alignment in bytes, and whether there is something to
 -- drop.
 pub record Declaration : Type 0 where
