@@ -34,7 +34,7 @@ pub struct Arguments<'a> {
     pub inclusive: bool,
     /// Whether to add up the paths that end in a key.
     pub by_last_key: bool,
-    /// The files of the earlier profile. If there is one, the picture is that of a change.
+    /// The files of the earlier profile. If there is one, the picture or the table is that of a change.
     pub before: Vec<&'a str>,
     /// The files of the profile.
     pub after: Vec<&'a str>,

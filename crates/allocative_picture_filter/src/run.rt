@@ -412,8 +412,8 @@ fn make<'a, R: Read>(
 /// After Ok what the arguments ask for is on the output: the picture of the graph that all texts add up to, that of the
 /// change to it from the graph of the earlier texts, the table of either, or its text. After `Fault::Writing` a
 /// beginning of that is on the output. After any other fault nothing goes to the output. The earlier texts are added up
-/// first, then the others, and the input last; the fault is the first one. It is `Fault::TooLarge` if the bytes of all lines of a profile exceed
-/// `usize::MAX`, or those of both parts that a change is made of.
+/// first, then the others, and the input last; the fault is the first one. It is `Fault::TooLarge` if the bytes of all
+/// lines of a profile exceed `usize::MAX`, or those of both parts, if a change is drawn or outlined.
 #[tactic(auto, using(crate::proofs::Faults::stopping))]
 pub fn run<'a, R: Read, W: Write>(
     alloc: Global,

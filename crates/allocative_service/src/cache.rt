@@ -358,7 +358,7 @@ impl<
         self.bound
     }
 
-    /// Which bytes of its values the cache counts.
+    /// Which bytes of its keys and values the cache counts.
     pub fn measure(&self) -> Measure
         ensures { result ≡ self.now.measure }
     {

@@ -5,7 +5,7 @@ ghost use Rattle.allocative_service.specs.Measured.{Declares, MayRefuseMeasure, 
 use allocative::{Allocative, Described, Refusal, size_of_owned, size_of_shown, size_of_unique};
 use std::alloc::Global;
 
-/// Which bytes a ledger or a cache counts of a value.
+/// Which bytes a ledger, a store or a cache counts of a value or a key.
 #[derive(Clone, Copy, Debug, Default, PartialEq, Eq)]
 pub enum Measure {
     /// The bytes that the value owns, as `size_of_owned` returns them. This is the measure for a limit. It takes no

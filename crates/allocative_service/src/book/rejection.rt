@@ -11,7 +11,7 @@ pub enum Rejection {
     /// The data would hold more bytes than the limit allows.
     #[error("{bytes} bytes exceed a limit of {limit}")]
     OverBudget { bytes: usize, limit: usize },
-    /// The data of all tenants together would hold more bytes than the ledger's limit allows.
+    /// The data of all tenants together would hold more bytes than the limit on all allows.
     #[error("{bytes} bytes in all exceed a limit of {limit}")]
     LedgerFull { bytes: usize, limit: usize },
     /// An entry has fewer bytes than are to be taken off it.
@@ -23,7 +23,7 @@ pub enum Rejection {
     /// The bytes of all data together do not fit a word.
     #[error("sizes do not fit")]
     TooLarge,
-    /// The ledger's own memory could not grow.
+    /// The memory of the ledger or the store itself could not grow.
     #[error("out of memory")]
     NotKept,
     /// The tenant has no account.
