@@ -1,13 +1,17 @@
 -- What a visit by a root visitor amounts to.
 use Rattle.std.proofs.Common.{◌≡◌, ℕ, suc, ◌+◌, ◌<◌, ◌^◌, List, length, take, get_or, Bool, IsTrue, Result, Ok}
-use Rattle.std.proofs.Common.{Err, IsErr, refl, ap, sym, subst, ◌∙◌, arith, IfOk, [], ◌∷◌, ◌++◌, drop}
+use Rattle.std.proofs.Common.{Err, IsErr, refl, ap, sym, subst, ◌∙◌, arith, IfOk, [], ◌∷◌, ◌++◌, drop, inl, inr}
 use Rattle.allocative.proofs.Common.{Restore, Refusal, Forest, followed_by, add_all, held, ShowsNoContent, Kind}
 use Rattle.allocative.proofs.Common.{OfGraph, OfSum, State, Failed, Going, leave, plus, Takes, visitors, is_graph}
 use Rattle.allocative.proofs.Common.{begin, outer_of, close_entry, nothing_held, Showing, Both, each_shows, AddsForest}
 use Rattle.allocative.proofs.Common.{refused, hidden, forgotten, OpensRoot, Settles, VisitsRoot, Profile, IsProfileOf}
 use Rattle.allocative.proofs.Common.{IsSum, MayRefuse, FailsOnlyIfFull, has_added, has_refused, RootFailsOnlyIfFull}
-use Rattle.allocative.proofs.Common.{ClosesEntry, all_bytes, HasRoomFor, CanTake}
-use Rattle.allocative.specs.SizeOf.{AnswersVisitOf}
+use Rattle.allocative.proofs.Common.{ClosesEntry, all_bytes, HasRoomFor, CanTake, Memory, TooLarge}
+use Rattle.allocative_graph.specs.declared.refusal.Refusal.TheVariants.{Open}
+use Rattle.allocative_graph.specs.Collector.{Summing, nothing_owned}
+use Rattle.allocative_graph.specs.Owned.{owned}
+use Rattle.allocative.specs.SizeOf.{AnswersVisitOf, FitsSum, MayRefuseHeld, MayRefuseOwned}
+use Rattle.allocative.specs.Strict.{CanBeProfiled, CanBeShown, MayRefuseProfile}
 use Rattle.allocative.proofs.Visits.{err_or, same_err}
 use Rattle.allocative.specs.Visited.{Effect, WasVisited, VisitsByRoot, not_begun, by_root}
 use Rattle.allocative_graph.specs.Forest.{met_after, Fits, own, all}
@@ -20,6 +24,7 @@ use Rattle.allocative_graph.specs.Visits.{added, Ends, IsProfile, IsSumOfTwo}
 use Rattle.allocative_graph.proofs.Plus.{plus-following, takes_both, visitors-leave, closed-visitors, closed-plus}
 use Rattle.allocative_graph.proofs.Plus.{figure_after-zero, figure_after-none, is_graph-plus, is_graph-leave}
 use Rattle.allocative_graph.proofs.Plus.{is_graph-begin}
+use Rattle.allocative_graph.proofs.Sums.{bytes_entered-empty}
 use Rattle.allocative.proofs.Strict.{bytes_entered-plus, can_first, can_second, may_refuse, each_append, each_one}
 use Rattle.allocative.proofs.Strict.{declared_append, around_item}
 use Rattle.allocative_graph.proofs.Showings.{all_is_meaning, reaches_exactly, one_sums, whole_following, graphs_add}
@@ -104,6 +109,35 @@ pub root_strict : {x : Bool} {p : Showing} {effect : Effect} {s t : State} {r : 
 root_strict {s = Failed z} (not_begun h) = tt
 root_strict {s = Going b} (not_begun h) = λ strict closed. absurd (h.1 closed)
 root_strict (by_root b v l k) = root_only_if_full _ _ b refl v.only_if_full l v.same_outer k
+
+-- What can be profiled, an empty collector of a flame graph can take.
+profile_taken : {p : Showing} → CanBeProfiled p → CanTake (OfGraph no_entries) p
+profile_taken can = (can.0, λ f x. omega (arith, bytes_entered-empty, can.1 f x))
+
+-- A strict visit in an empty collector of a flame graph is refused as the profile may be.
+pub profile_refused : {x : Bool} {p : Showing} {s : State} (t : State) {e : Refusal} → s ≡ Going (OfGraph no_entries) →
+    RootFailsOnlyIfFull x p s (Err e) t → MayRefuseProfile x p e
+profile_refused t {e = Memory} is h strict = inl refl
+profile_refused t {e = TooLarge} is h strict = inr (refl, λ can. ((rw is at h) strict refl).1 (profile_taken can))
+profile_refused t {e = Open} is h strict = absurd ((rw is at h) strict refl).1
+
+-- A strict visit in a closed collector of a sum is refused only if that cannot take all that p allows.
+sum_refused : {x : Bool} {p : Showing} {s : State} (t : State) {e : Refusal} {z : Summing} {Q : Type 0} →
+    (Q → CanTake (begin (OfSum z)) p) → IsClosed (OfSum z) → s ≡ Going (OfSum z) →
+    RootFailsOnlyIfFull x p s (Err e) t → IsTrue x → (e ≡ TooLarge) × ¬ Q
+sum_refused t {e = Memory} up closed is h strict = absurd (false≢true ((rw is at h) strict closed).1)
+sum_refused t {e = TooLarge} up closed is h strict = (refl, λ can. ((rw is at h) strict closed).1 (up can))
+sum_refused t {e = Open} up closed is h strict = absurd ((rw is at h) strict closed).1
+
+-- A strict visit in an empty collector of held bytes is refused as those may be.
+pub held_refused : {x : Bool} {p : Showing} {s : State} (t : State) {e : Refusal} → s ≡ Going (OfSum nothing_held) →
+    RootFailsOnlyIfFull x p s (Err e) t → MayRefuseHeld x p e
+held_refused t = sum_refused t (λ can. (can.0, λ f x. (omega (arith, (can.1 f x).0), (can.1 f x).1))) (refl, tt)
+
+-- A strict visit in an empty collector of owned bytes is refused as those may be.
+pub owned_refused : {x : Bool} {p : Showing} {s : State} (t : State) {e : Refusal} → s ≡ Going (OfSum nothing_owned) →
+    RootFailsOnlyIfFull x p s (Err e) t → MayRefuseOwned x p e
+owned_refused t = sum_refused t (λ can. (can.0, λ f x. (omega (arith, (can.1 f x).0), (can.1 f x).1))) (refl, refl)
 
 -- The sum of a run of held bytes.
 pub held_by_visit : (p : Showing) (s t : State) (u : Unit) (n : ℕ) → s ≡ Going (OfSum nothing_held) →
@@ -264,4 +298,12 @@ sum_of_profiles p q o o' m a b e =
 pub ruleset by_root_visitor = (root_visited, root_strict, as_graph-as_graph, built_visits, built_strict)
 
 -- The rules for visits of roots.
-pub ruleset running = (visits_one_more, profile_ended, sum_of_profiles, by_root_visitor)
+pub ruleset running = (
+  visits_one_more,
+  profile_ended,
+  sum_of_profiles,
+  profile_refused,
+  held_refused,
+  owned_refused,
+  by_root_visitor,
+)

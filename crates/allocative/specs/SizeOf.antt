@@ -9,7 +9,7 @@ use Rattle.allocative_graph.specs.Collector.{Kind, State, Going, OfGraph, OfSum,
 use Rattle.allocative_graph.specs.Collector.{no_entries, nothing_held, nothing_owned}
 use Rattle.allocative_graph.specs.Shows.{Showing}
 use Rattle.allocative_graph.specs.Visits.{Settles, IsGraphOf}
-use Rattle.allocative.specs.Strict.{CanTake}
+use Rattle.allocative.specs.Strict.{CanBeShown, FitsWords}
 use Rattle.allocative.specs.Closures.{AnswersSum}
 use Rattle.allocative.specs.Visited.{Effect, WasVisited}
 
@@ -22,9 +22,13 @@ abbrev pub IsSizeOfUnique : Option ℕ → Showing → ℕ → Type 0
 IsSizeOfUnique size p bytes = (own : ℕ) × (size ≡ Some own) × (f : Forest) × p f × ShowsNoContent f
     × (bytes ≡ held f + own)
 
--- What p allows can be counted: an empty collector of held bytes with a root visitor open can take it.
+-- The bytes of f that are summed fit a word, and with one visitor open, which is the root's, so does each entry.
+abbrev pub FitsSum : (Forest → ℕ) → Forest → Type 0
+FitsSum bytes f = (bytes f < 2 ^ 64) × FitsWords 1 f
+
+-- What p allows can be counted.
 abbrev pub CanBeHeld : Showing → Type 0
-CanBeHeld p = CanTake (begin (OfSum nothing_held)) p
+CanBeHeld = CanBeShown (FitsSum held)
 
 -- Why the bytes that a strict value holds are refused: only with TooLarge, if what it shows cannot be counted.
 abbrev pub MayRefuseHeld : Bool → Showing → Refusal → Type 0
@@ -63,10 +67,9 @@ AnswersVisit = AnswersVisitOf (OfSum nothing_held)
 abbrev pub IsSizeOfOwned : Showing → ℕ → Type 0
 IsSizeOfOwned p bytes = (f : Forest) × p f × ShowsNoContent f × (bytes ≡ owned f)
 
--- Why the bytes that a strict value owns are refused: only with TooLarge, if an empty collector of owned bytes with a
--- root visitor open cannot take all that p allows.
+-- Why the bytes that a strict value owns are refused: only with TooLarge, if not all that p allows can be counted.
 abbrev pub MayRefuseOwned : Bool → Showing → Refusal → Type 0
-MayRefuseOwned is_strict p e = IsTrue is_strict → (e ≡ TooLarge) × ¬ CanTake (begin (OfSum nothing_owned)) p
+MayRefuseOwned is_strict p e = IsTrue is_strict → (e ≡ TooLarge) × ¬ CanBeShown (FitsSum owned) p
 
 -- The result is what is answered of a collector of owned bytes after the visit: their sum, the first cause, or Open.
 abbrev pub AnswersOwned : Showing → Effect → Result ℕ Refusal → Type 0

@@ -1,11 +1,11 @@
 -- When a visit, a profile and the sum of two profiles refuse only if they must.
-use Rattle.std.specs.Prelude.{◌≡◌, ℕ, suc, ◌+◌, ◌<◌, ◌^◌, Bool, true, IsTrue, ⊤, Result, Ok, Err}
+use Rattle.std.specs.Prelude.{◌≡◌, ℕ, suc, ◌+◌, ◌<◌, ◌^◌, ◌⊎◌, Bool, true, IsTrue, ⊤, Result, Ok, Err}
 use Rattle.allocative_graph.specs.declared.refusal.Refusal.{Refusal}
 use Rattle.allocative_graph.specs.declared.refusal.Refusal.TheVariants.{Memory, TooLarge, Open}
 use Rattle.allocative_graph.specs.Forest.{Forest, Empty, Inline, Unique, First, Again}
 use Rattle.allocative_graph.specs.Sums.{bytes_entered}
 use Rattle.allocative_graph.specs.Collector.{Kind, OfGraph, OfSum, State, Failed, Going, plus, plus_sum, Takes, is_graph}
-use Rattle.allocative_graph.specs.Collector.{begin, IsClosed, no_entries}
+use Rattle.allocative_graph.specs.Collector.{begin, IsClosed}
 use Rattle.allocative_graph.specs.Shows.{Showing}
 use Rattle.allocative_graph.specs.Visits.{Profile, IsProfileOf}
 
@@ -46,10 +46,14 @@ ShowsContents (Again k n i after) = ⊥
 abbrev pub IsDeclared : Showing → Type 0
 IsDeclared p = (f : Forest) × p f × ShowsContents f
 
--- Whatever p allows can be added to the collector: p allows a forest that shows all its contents, and each forest
--- that p allows exceeds no bound.
+-- Whatever p allows can be shown: p allows a forest that shows all its contents, and there is room for each forest that
+-- p allows.
+abbrev pub CanBeShown : (Forest → Type 0) → Showing → Type 0
+CanBeShown HasRoom p = IsDeclared p × ((f : Forest) → p f → HasRoom f)
+
+-- Whatever p allows can be added to the collector.
 abbrev pub CanTake : Kind → Showing → Type 0
-CanTake b p = IsDeclared p × ((f : Forest) → p f → HasRoomFor b f)
+CanTake b = CanBeShown (HasRoomFor b)
 
 -- Why a visit that shows p may be refused at a collector: TooLarge, if not all that p allows can be added; Memory, if
 -- the collector is that of a flame graph; never Open.
@@ -76,10 +80,13 @@ RootFailsOnlyIfFull is_strict p (Going b) (Ok u) t = ⊤
 RootFailsOnlyIfFull is_strict p (Going b) (Err e) t =
     IsTrue is_strict → IsClosed b → (t ≡ Failed e) × MayRefuse p (begin b) e
 
--- Why the profile of a strict p is refused: with Memory, or with TooLarge, if an empty collector of a flame graph
--- cannot take all that p allows.
+-- Whatever p allows can be profiled: all bytes of a forest are below 2 ^ 63.
+abbrev pub CanBeProfiled : Showing → Type 0
+CanBeProfiled = CanBeShown (λ f. all_bytes f < 2 ^ 63)
+
+-- Why the profile of a strict p is refused: with Memory, or with TooLarge, if not all that p allows can be profiled.
 abbrev pub MayRefuseProfile : Bool → Showing → Refusal → Type 0
-MayRefuseProfile is_strict p e = IsTrue is_strict → MayRefuse p (OfGraph no_entries) e
+MayRefuseProfile is_strict p e = IsTrue is_strict → (e ≡ Memory) ⊎ ((e ≡ TooLarge) × ¬ CanBeProfiled p)
 
 -- Why the sum of two profiles is refused. The left one, of what p allows, is refused as its profile may be. Or it was
 -- made, and the right one, of what q allows, is refused so. Or both were made, and memory runs out when they are added.

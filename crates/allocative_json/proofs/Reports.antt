@@ -9,8 +9,7 @@ use Rattle.serde_json.specs.Read.{read}
 use Rattle.serde_json.proofs.OnLiterals.{serde_json_on_literals}
 use Rattle.allocative.specs.Refusal.{Refusal}
 use Rattle.allocative.specs.Forest.{Forest, followed_by}
-use Rattle.allocative.specs.Collector.{Kind, OfGraph, begin, no_entries}
-use Rattle.allocative.specs.Strict.{CanTake, MayRefuseProfile}
+use Rattle.allocative.specs.Strict.{CanBeProfiled, MayRefuseProfile}
 use Rattle.allocative.proofs.Strict.{each_one, followed_by-empty, may_refuse}
 use Rattle.allocative.specs.Visits.{Profile, IsProfileOf}
 use Rattle.allocative_json.specs.declared.fault.Fault.TheVariants.{Memory, TooLarge, Reading, Writing, Open}
@@ -36,8 +35,8 @@ refused_texts p exact o (Err f) m = subst (RefusesRoots p) (sym m) tt
 -- A refusal of a profile is a fault that may come for its roots.
 refused_so : (p : Showing) (r : Refusal) → MayRefuseProfile true p r → RefusesRoots p (fault_of r)
 refused_so p refused.Memory h = tt
-refused_so p refused.TooLarge h = h refl
-refused_so p refused.Open h = absurd (h refl)
+refused_so p refused.TooLarge h = elim (h refl) [ inl e ↦ absurd (cc) | inr w ↦ w.1 ]
+refused_so p refused.Open h = elim (h refl) [ inl e ↦ absurd (cc) | inr w ↦ absurd (cc) ]
 
 -- A profile was refused.
 pub refused_profile : {T : Type 0} (p : Showing) (refusal : Refusal) (r : Result T Fault) →
@@ -105,15 +104,17 @@ module _ {T : Type 0} (shows : T → Showing × Bool) (roots : List T) (x : Resu
       IsProfiled → IsProfiledAs true (Both q r)
   two_profiled a b q r is first last h =
       let p : T → Showing = λ y. (shows y).0 in
-      let k : Kind = begin (OfGraph no_entries) in
-      let can : CanTake k (Both (p a) (p b)) → CanTake k (each_shows p (a ∷ b ∷ [])) =
+      let can : CanBeProfiled (Both (p a) (p b)) → CanBeProfiled (each_shows p (a ∷ b ∷ [])) =
       λ w. ((w.0.0, both_shown p a b w.0.0 w.0.1, w.0.2), λ f y. w.1 f (two_shown p a b f y)) in
       let strict = ap (λ (y : Showing × Bool). y.1) first in
       let other = ap (λ (y : Showing × Bool). y.1) last in
       rw (← ap (λ (y : Showing × Bool). y.0) first, ← ap (λ (y : Showing × Bool). y.0) last) (record {
         profile = IfOk-weaker x _ _ (λ o g. profile_weaker (each_shows p (a ∷ b ∷ [])) (Both (p a) (p b)) o
             (two_shown p a b) g) (rw is at h.profile);
-        refused = IfErr-weaker x _ _ (λ e g _. may_refuse k k can refl e (g refl)) (rw (is, strict, other) at h.refused);
+        refused = IfErr-weaker x _ _ (λ e g _. elim (g refl) [
+          inl m ↦ inl m
+        | inr w ↦ inr (w.0, λ both. w.1 (can both))
+        ]) (rw (is, strict, other) at h.refused);
       })
 
   pub one_profiled : (a : T) (q : Showing) → roots ≡ a ∷ [] → shows a ≡ (q, true) → IsProfiled →

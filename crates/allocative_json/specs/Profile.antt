@@ -10,8 +10,7 @@ use Rattle.allocative.specs.Graph.{text, last_key, without_lines}
 use Rattle.allocative.specs.Path.{key_cmp}
 use Rattle.allocative.specs.Shows.{Showing, Nothing, Both, Inside, Field, each_shows}
 use Rattle.allocative.specs.Visits.{Profile, IsProfileOf}
-use Rattle.allocative.specs.Collector.{OfGraph, begin, no_entries}
-use Rattle.allocative.specs.Strict.{CanTake}
+use Rattle.allocative.specs.Strict.{CanBeProfiled}
 use Rattle.allocative.specs.JsonShows.{stored_value}
 use Rattle.allocative.specs.Parts.{optional_shows}
 use Rattle.allocative_json.specs.declared.fault.Fault.{Fault}
@@ -56,11 +55,11 @@ pub record IsRightReport (input : List ℕ) (index exact : Bool) (made : Report)
   pub roots : AreRoots input index (view document) numbers
   pub report : IsReportOf (roots_show document numbers) exact made
 
--- The faults that making a report of what p allows may return: Memory; and TooLarge, if an empty collector of a flame
--- graph cannot take all that p allows.
+-- The faults that making a report of what p allows may return: Memory; and TooLarge, if not all that p allows can be
+-- profiled.
 abbrev pub RefusesRoots : Showing → Fault → Type 0
 RefusesRoots p Memory = ⊤
-RefusesRoots p TooLarge = ¬ CanTake (begin (OfGraph no_entries)) p
+RefusesRoots p TooLarge = ¬ CanBeProfiled p
 RefusesRoots p f = ⊥
 
 -- The faults that making a report of the input may return: Memory only if the input is not empty; NotJson only if
