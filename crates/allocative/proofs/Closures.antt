@@ -4,12 +4,11 @@ use Rattle.allocative.proofs.Common.{Restore, Refusal, Key, Forest, held, ShowsN
 use Rattle.allocative.proofs.Common.{nothing_held, close_entry, Showing, Inside, AddsForest, Settles, Visitor, IsSum}
 use Rattle.allocative.proofs.Common.{ClosesEntry, FnOnceReturnsAtMut, HasFailed, OpensEntry, with_state}
 use Rattle.std.specs.Fn.{Once}
-use Rattle.allocative.specs.Closures.{KeepsVisitor, CallShows, CallsInside, CalledInside, not_called, called_inside}
-use Rattle.allocative.specs.Closures.{CalledAt, Tells, told_ok, told_err, CalledAtRoot, AnswersSum}
+use Rattle.allocative.specs.Closures.{KeepsVisitor, CalledInside, not_called, called_inside}
+use Rattle.allocative.specs.Closures.{CalledAt, told_ok, told_err, AnswersSum}
 use Rattle.allocative.specs.Visited.{Refused}
 use Rattle.allocative.proofs.Visits.{adds_entry, entry_err, not_entered, not_entered_cause, adds_refused_err}
 use Rattle.allocative.proofs.Visits.{close_cause}
-use Rattle.allocative.proofs.Roots.{visits_root, held_by_visit}
 
 -- what is answered once the visitor is left
 pub sum_answered : (o : Restore) (c : State) (n : ℕ) {t : State} {q : Result (Unit {0}) Refusal} → ClosesEntry o c t →
@@ -68,25 +67,3 @@ module _ {F : Type 0} (g : Once F (MutBor Visitor × Unit {0}) (Result (Unit {0}
     calls = called_inside w h l;
     cause = closed_cause r l h.cause;
   }
-
-  -- A call shows what each call of the closure shows.
-  called_shows : {p : Showing} {x y : Visitor} {r : Result (Unit {0}) Refusal} → Tells g f x y r → CallShows g f p →
-      AddsForest p x.collector.now r y.collector.now
-  called_shows (told_ok h) each = each _ _ _ h
-  called_shows (told_err {e = e} h q) each = adds_refused_err e (each _ _ _ h) q.after
-
-  -- The call shows an entry with the closure's forest inside it, if each call of the closure shows one of p.
-  pub with_shows : (p : Showing) {k : Key} {n : ℕ} {s t : State} {r : Result (Unit {0}) Refusal} →
-      CallsInside g f k n s t r → CallShows g f p → AddsForest (Inside k n p) s r t
-  with_shows p (not_called w) each = not_entered w
-  with_shows p {r = Ok u} (called_inside w h l) each = adds_entry w refl (called_shows h.tells each) l refl
-  with_shows p {r = Err e} (called_inside w h l) each = entry_err w refl (called_shows h.tells each) l
-
-  -- the sum of a closure's entries, if each call of it shows one of p
-  pub held_with_shows : (p : Showing) (n : ℕ) → CalledAtRoot g f (Ok n) → CallShows g f p →
-      (t : Forest) × p t × ShowsNoContent t × (n ≡ held t)
-  held_with_shows p n h each =
-      let begun = Going (OfSum nothing_held) in
-      let end = close_entry h.after.outer h.after.collector.now in
-      held_by_visit p begun end tt n refl (visits_root begun (Ok tt) h.begun refl (called_shows h.called.1.tells each)
-      (record { closes = refl }) h.called.1.same_outer h.answers.0) h.answers.1

@@ -1,5 +1,6 @@
 -- The lemmas for implementations by parts.
 use Rattle.allocative.proofs.Meaning.{visited_as, visited_of_strict, visited_if, entered_loosely, entered_as}
+use Rattle.allocative.proofs.Meaning.{visited, entered_refused}
 use Rattle.allocative.proofs.Meaning.{strict_always, strict_same, strict_first, strict_second, strict_both, means_inside}
 use Rattle.allocative.proofs.Meaning.{means_unique, means_field, means_both, means_shared, means_same}
 use Rattle.allocative.proofs.ContainerMeaning.{means_buffer, means_cut, means_index_data, means_table, means_spilled}
@@ -28,3 +29,6 @@ pub ruleset parts = (
 
 -- The lemmas for a type with parameters, of which each case is strict if the parts of that case are.
 pub ruleset strict = (visited_if, strict_always, strict_same, strict_first, strict_second, strict_both)
+
+-- The lemmas for a visit that also returns a refusal by hand.
+pub ruleset refusing = (visited, entered_refused)

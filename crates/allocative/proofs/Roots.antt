@@ -52,7 +52,7 @@ takes_begin : (b : Kind) (f : Forest) → Takes (begin b) f → Takes b f
 takes_begin (OfGraph c) f t = t
 takes_begin (OfSum s) f t = t
 
--- A step of `visits_root`: adding at the root visitor, and then leaving it, is a visit of a root.
+-- A step of `root_visited`: adding at the root visitor, and then leaving it, is a visit of a root.
 visits_going : {p : Showing} (b : Kind) {c : State} {r : Result Unit Refusal} (q : Result Unit Refusal) → IsClosed b →
     IsAtRoot b → AddsForest p (Going (begin b)) r c → Settles (close_entry (outer_of 0 b) c) q →
     VisitsRoot p (Going b) q (close_entry (outer_of 0 b) c)
@@ -68,15 +68,6 @@ visits_going b (Err x) h here (added {c = c} f p t g) k =
     (k.0, k.1, (λ n. absurd (n h)), same)
 visits_going b (Ok u) h here (added f p t g) k = (k, f, p, takes_begin b f t, cc (out_of_begin b f here))
 
--- A root visitor that was opened, what was shown there, leaving, and the result are a run.
-pub visits_root : (s : State) (q : Result Unit Refusal) {p : Showing} {t a c d : State} {o w : Restore}
-    {r : Result Unit Refusal} → OpensRoot s (Ok o) t → a ≡ t → AddsForest p a r c → ClosesEntry w c d → w ≡ o →
-    Settles d q → VisitsRoot p s q d
-visits_root (Failed x) q h i v l e k = absurd h
-visits_root (Going b) q {c = c} h i v l e k =
-    let d = l.closes ∙ ap (λ (o : Restore). close_entry o c) (e ∙ h.2) in
-    rw d (visits_going b q h.0 h.1 (rw (i ∙ h.3) at v) (rw d at k))
-
 -- A strict visit that was opened by a root visitor leaves its collector closed, or failed with what it returned.
 only_if_full_going : {p : Showing} (b : Kind) {c : State} {r : Result Unit Refusal} (q : Refusal) → IsClosed b →
     IsAtRoot b → FailsOnlyIfFull p (Going (begin b)) r c → Settles (close_entry (outer_of 0 b) c) (Err q) →
@@ -86,29 +77,26 @@ only_if_full_going b q h here (has_added {c = c} f x t g) k =
     absurd (k.1 (rw same (closed-plus b f h)))
 only_if_full_going b q h here (has_refused {e = y} m) k = let is : q ≡ y = cc in rw is (refl, m)
 
--- A root visitor that was opened, a strict visit there, leaving, and the result refuse only if they must.
-pub root_only_if_full : (s : State) (q : Result Unit Refusal) {x : Bool} {p : Showing} {t a c d : State} {o w : Restore}
-    {r : Result Unit Refusal} → OpensRoot s (Ok o) t → a ≡ t → (IsTrue x → FailsOnlyIfFull p a r c) →
-    ClosesEntry w c d → w ≡ o → Settles d q → RootFailsOnlyIfFull x p s q d
-root_only_if_full (Failed z) q h i v l e k = tt
-root_only_if_full (Going b) (Ok u) h i v l e k = tt
-root_only_if_full (Going b) (Err z) {c = c} h i v l e k = λ strict closed.
-    let g = l.closes ∙ ap (λ (o : Restore). close_entry o c) (e ∙ h.2) in
-    rw g (only_if_full_going b z closed h.1 (rw (i ∙ h.3) at (v strict)) (rw g at k))
-
 -- A visit by a root visitor is a visit of a root.
 pub root_visited : {x : Bool} {p : Showing} {effect : Effect} {s t : State} {r : Result Unit Refusal} →
     VisitsByRoot x p effect s t r → VisitsRoot p s r t
 root_visited {s = Failed z} (not_begun h) = (ap Err h.0, h.1)
 root_visited {s = Going b} (not_begun h) = rw h.2 (h.0, h.1, (λ n. refl), refl)
-root_visited (by_root b v l k) = visits_root _ _ b refl v.shown l v.same_outer k
+root_visited {s = Failed z} (by_root h v l k) = absurd h
+root_visited {s = Going b} {r = q} (by_root {w = w} h v l k) =
+    let d = l.closes ∙ ap (λ (o : Restore). close_entry o w.collector.now) (v.same_outer ∙ h.2) in
+    rw d (visits_going b q h.0 h.1 (rw h.3 at v.shown) (rw d at k))
 
 -- A strict visit by a root visitor refuses only if it must.
 pub root_strict : {x : Bool} {p : Showing} {effect : Effect} {s t : State} {r : Result Unit Refusal} →
     VisitsByRoot x p effect s t r → RootFailsOnlyIfFull x p s r t
 root_strict {s = Failed z} (not_begun h) = tt
 root_strict {s = Going b} (not_begun h) = λ strict closed. absurd (h.1 closed)
-root_strict (by_root b v l k) = root_only_if_full _ _ b refl v.only_if_full l v.same_outer k
+root_strict {s = Failed z} (by_root h v l k) = tt
+root_strict {s = Going b} {r = Ok u} (by_root h v l k) = tt
+root_strict {s = Going b} {r = Err z} (by_root {w = w} h v l k) = λ strict closed.
+    let d = l.closes ∙ ap (λ (o : Restore). close_entry o w.collector.now) (v.same_outer ∙ h.2) in
+    rw d (only_if_full_going b z closed h.1 (rw h.3 at (v.only_if_full strict)) (rw d at k))
 
 -- What can be profiled, an empty collector of a flame graph can take.
 profile_taken : {p : Showing} → CanBeProfiled p → CanTake (OfGraph no_entries) p
@@ -138,16 +126,6 @@ held_refused t = sum_refused t (λ can. (can.0, λ f x. (omega (arith, (can.1 f 
 pub owned_refused : {x : Bool} {p : Showing} {s : State} (t : State) {e : Refusal} → s ≡ Going (OfSum nothing_owned) →
     RootFailsOnlyIfFull x p s (Err e) t → MayRefuseOwned x p e
 owned_refused t = sum_refused t (λ can. (can.0, λ f x. (omega (arith, (can.1 f x).0), (can.1 f x).1))) (refl, refl)
-
--- The sum of a run of held bytes.
-pub held_by_visit : (p : Showing) (s t : State) (u : Unit) (n : ℕ) → s ≡ Going (OfSum nothing_held) →
-    VisitsRoot p s (Ok u) t → IsSum t n → (f : Forest) × p f × ShowsNoContent f × (n ≡ held f)
-held_by_visit p (Failed r) t u n e h k = absurd (cc)
-held_by_visit p (Going b) (Failed r) u n e h k = absurd h
-held_by_visit p (Going b) (Going c) u n e (z, f, a, t, g) k =
-    let i : b ≡ OfSum nothing_held = cc in
-    let k' : n ≡ 0 + (held f + 0) = rw (g, i) at k in
-    (f, a, rw i at t, omega (arith, k'))
 
 -- After a visit at a closed collector, the result is what is answered of the collector that the visit left.
 pub visit_answered : {T : Type 0} {z : Kind} {x : Bool} {p : Showing} {effect : Effect}
@@ -293,6 +271,9 @@ sum_of_profiles p q o o' m a b e =
       is_one = λ apart can.
           (whole_following a.shown b.shown a.whole b.whole apart, is ∙ graphs_add a.shown b.shown can);
     }
+
+-- The rules for calls that open a root visitor.
+pub ruleset rooted = (not_begun, by_root)
 
 -- The rules for visits by a root visitor, also of the collector of a builder.
 pub ruleset by_root_visitor = (root_visited, root_strict, as_graph-as_graph, built_visits, built_strict)

@@ -24,11 +24,6 @@ module _ {F : Type 0}
   KeepsVisitor = (x y : Visitor) (r : Result (Unit {0}) Refusal) → FnOnceReturnsAtMut g f x r y
       → (y.collector.ghost_name ≡ x.collector.ghost_name) × (y.outer ≡ x.outer)
 
-  -- Each call shows what p allows.
-  abbrev pub CallShows : Showing → Type 0
-  CallShows p = (x y : Visitor) (r : Result (Unit {0}) Refusal) → FnOnceReturnsAtMut g f x r y
-      → AddsForest p x.collector.now r y.collector.now
-
   -- The closure was called at the visitor and told Ok. Or it told an error, with which the collector failed unless it
   -- had failed before; the first cause is returned.
   pub data Tells (old new : Visitor) : Result (Unit {0}) Refusal → Type 0 where

@@ -279,6 +279,7 @@ impl Collector {
 
     /// Visits an object by a root visitor. What the visit returns is not looked at: the collector keeps the first
     /// cause.
+    #[tactic(auto, using(crate::proofs::Roots::rooted))]
     pub(crate) fn visit_object(&mut self, root: &dyn Allocative) -> Result<(), Refusal>
         ensures { VisitsByRoot (Allocative-dyn root.now).is_strict (may_show root.now)
             (effect root.now) self.old self.new result }
@@ -290,6 +291,7 @@ impl Collector {
     }
 
     /// Visits a value of a known type by a root visitor, with no trait object.
+    #[tactic(auto, using(crate::proofs::Roots::rooted))]
     pub(crate) fn visit_value<T: Allocative>(&mut self, root: &T) -> Result<(), Refusal>
         ensures { VisitsByRoot T.is_strict (T.may_show root.now) (T.effect root.now)
             self.old self.new result }

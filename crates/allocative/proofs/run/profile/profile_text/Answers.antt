@@ -9,7 +9,8 @@ use Rattle.allocative.specs.Runs.{IsTextOf}
 use Rattle.allocative.proofs.run.profile.profile_text.Goals as goal
 
 -- The text of a profile's graph is that of a profile.
-written : (r : Result (String Global) Refusal) (p : Showing) (o : Profile) → IsProfileOf p o → ReturnsText r (text o.graph) →
+written : (r : Result (String Global) Refusal) (p : Showing) (o : Profile) →
+    IsProfileOf p o → ReturnsText r (text o.graph) →
     IfText r (IsTextOf p)
 written (Ok t) p o shown is = record { profile = o; shown = shown; written = is }
 written (Err e) p o shown is = tt
