@@ -1,6 +1,6 @@
 -- How reports of roots are reports of an input, and how their errors are those of a run.
 use Rattle.std.proofs.Common.{◌≡◌, ℕ, ◌<◌, ℤ, length, arith, Bool, true, List, [], ◌∷◌, Option, Some, Result, Ok, Err}
-use Rattle.std.proofs.Common.{IfOk, IfErr, IsErrAnd, IfSome, MatchResult, refl, ap, ◌∙◌, sym, subst, BTreeSet}
+use Rattle.std.proofs.Common.{IfOk, IfErr, IsErrAnd, IfSome, MatchResult, refl, ap, ◌∙◌, sym, subst, inl, inr, BTreeSet}
 use Rattle.allocative_json.proofs.Common.{view, Value, Showing, roots_show, Word, AreWords, list_all, IfOk-weaker}
 use Rattle.allocative_json.proofs.Common.{IfErr-weaker, Data, fault_of, Nothing, Both, each_shows, Fault, AreTexts, IsReportOf}
 use Rattle.allocative_json.proofs.Common.{IsRightReport, RefusesRoots, RefusesReport, IsReportFor, MayEndRun, Asks}
@@ -112,8 +112,8 @@ module _ {T : Type 0} (shows : T → Showing × Bool) (roots : List T) (x : Resu
         profile = IfOk-weaker x _ _ (λ o g. profile_weaker (each_shows p (a ∷ b ∷ [])) (Both (p a) (p b)) o
             (two_shown p a b) g) (rw is at h.profile);
         refused = IfErr-weaker x _ _ (λ e g _. elim (g refl) [
-          inl m ↦ inl m
-        | inr w ↦ inr (w.0, λ both. w.1 (can both))
+          | inl m ↦ inl m
+          | inr w ↦ inr (w.0, λ both. w.1 (can both))
         ]) (rw (is, strict, other) at h.refused);
       })
 
