@@ -48,7 +48,15 @@ pub more_within : {X : Type 0} (f : X → Child) (start : Graph) (xs : List X) (
 more_within {X} f start xs i x within here =
     let bytes : X → ℕ = λ y. total (f y).graph in
     let same : bytes x ≡ bytes (get_or xs i x) = ap bytes here in
-    omega (arith, same, total-all start (map f (take i xs)), total-all start (map f xs), fold-map (λ n (c : Child). n + total c.graph) f 0 (take i xs), fold-map (λ n (c : Child). n + total c.graph) f 0 xs, sum_by_more_le bytes xs i x within)
+    omega (
+      arith,
+      same,
+      total-all start (map f (take i xs)),
+      total-all start (map f xs),
+      fold-map (λ n (c : Child). n + total c.graph) f 0 (take i xs),
+      fold-map (λ n (c : Child). n + total c.graph) f 0 xs,
+      sum_by_more_le bytes xs i x within,
+    )
 
 -- ---- refusals
 -- A refusal of a graph is one of a graph with as many bytes.
@@ -206,7 +214,8 @@ refused_for asked by_lines known input r is read e = rw is (IfErr-weaker r _ _ (
 -- The text of the fields of the input that was read is one for the reader's bytes.
 pub fields_for : (asked : Option Bool) (by_lines : Bool) (known : Option (List ℕ)) (input : List ℕ)
     (r : Result (String Global) FieldsFault) → asked ≡ Some by_lines → IfSome known (λ bytes. input ≡ bytes) →
-    IfOk r (λ made. AreFields by_lines input (string_bytes made)) → IfOk r (λ made. AreFieldsFor asked known (string_bytes made))
+    IfOk r (λ made. AreFields by_lines input (string_bytes made)) →
+    IfOk r (λ made. AreFieldsFor asked known (string_bytes made))
 fields_for asked by_lines known input r is read e = IfOk-weaker r _ _
     (λ made h. record { by_lines = by_lines; is_asked = is; input = input; is_read = read; fields = h }) e
 
@@ -331,8 +340,10 @@ last_line known now next n is_ended l old new r h t unended a w =
     let documents : AreDocuments (texts_of true (h.bytes ++ l)) (h.documents ++ more) =
     rw parts (more_documents h.lines l h.documents more h.are are) in
     let fields = written true (h.bytes ++ l) (h.documents ++ more) r documents (w _ made) in
-    let read = all_known known now h.bytes l h.taken (t.last unended) in
-    (fields_for (Some true) true known _ r refl read fields.0, refused_for (Some true) true known _ r refl read fields.1)
+    let read = all_known known now h.bytes l h.taken (t.last unended) in (
+      fields_for (Some true) true known _ r refl read fields.0,
+      refused_for (Some true) true known _ r refl read fields.1,
+    )
 
 -- A line is no document.
 pub wrong_line : {T : Type 0} (known now next : Option (List ℕ)) (n : ℕ) (is_ended : Bool) (l : List ℕ)

@@ -23,6 +23,7 @@ members_numbers-snoc (m ∷ ms) k v = ap (λ ns. numbers_of (view m.1) ++ ns) (m
 pub AddsNumbers-append : (ms ns : List Num) (old mid new : BTreeSet ℤ) → AddsNumbers ms old mid →
     AddsNumbers ns mid new → AddsNumbers (ms ++ ns) old new
 AddsNumbers-append ms ns old mid new s p k =
-    p k ∙ ap (λ b. has_number ns k || b) (s k) ∙ sym (or_assoc (has_number ns k) (has_number ms k) (contains int_cmp old k))
+    p k ∙ ap (λ b. has_number ns k || b) (s k)
+    ∙ sym (or_assoc (has_number ns k) (has_number ms k) (contains int_cmp old k))
     ∙ ap (λ b. b || contains int_cmp old k) (or_comm (has_number ns k) (has_number ms k)
     ∙ sym (list_any-append (λ n. is_number n k) ms ns))

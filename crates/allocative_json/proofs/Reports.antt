@@ -10,7 +10,7 @@ use Rattle.serde_json.proofs.OnLiterals.{serde_json_on_literals}
 use Rattle.allocative.specs.Refusal.{Refusal}
 use Rattle.allocative.specs.Forest.{Forest, followed_by}
 use Rattle.allocative.specs.Strict.{CanBeProfiled, MayRefuseProfile}
-use Rattle.allocative.proofs.Strict.{each_one, followed_by-empty, may_refuse}
+use Rattle.allocative.proofs.Strict.{each_one, followed_by-empty}
 use Rattle.allocative.specs.Visits.{Profile, IsProfileOf}
 use Rattle.allocative_json.specs.declared.fault.Fault.TheVariants.{Memory, TooLarge, Reading, Writing, Open}
 use Rattle.allocative_json.specs.declared.profile.Report.{Report}
@@ -91,15 +91,18 @@ two_shown p a b f (g, h, here, (k, none, there, empty, e), d) =
 both_shown : {T : Type 0} (p : T → Showing) (a b : T) (f : Forest) → Both (p a) (p b) f → each_shows p (a ∷ b ∷ []) f
 both_shown p a b f (g, h, here, there, e) = (g, h, here, each_one p b h there, e)
 
--- Roots of strict types: what is profiled of two is what both show, and what is profiled of one is what it shows, followed by
--- nothing. They are refused if all together may be.
+-- Roots of strict types, each with what it shows and whether it is strict.
 module _ {T : Type 0} (shows : T → Showing × Bool) (roots : List T) (x : Result Profile Refusal) where
+  -- The profile is one of what p allows, and an error is one that may refuse it.
   abbrev IsProfiledAs : Bool → Showing → Type 0
-  IsProfiledAs is_strict p = record { profile : IfOk x (IsProfileOf p); refused : IfErr x (MayRefuseProfile is_strict p) }
+  IsProfiledAs is_strict p =
+      record { profile : IfOk x (IsProfileOf p); refused : IfErr x (MayRefuseProfile is_strict p) }
 
+  -- The profile of all roots.
   abbrev IsProfiled : Type 0
   IsProfiled = IsProfiledAs (list_all (λ y. (shows y).1) roots) (each_shows (λ y. (shows y).0) roots)
 
+  -- The profile of two roots is one of what both show, and is refused only if both together may be.
   pub two_profiled : (a b : T) (q r : Showing) → roots ≡ a ∷ b ∷ [] → shows a ≡ (q, true) → shows b ≡ (r, true) →
       IsProfiled → IsProfiledAs true (Both q r)
   two_profiled a b q r is first last h =
@@ -117,6 +120,7 @@ module _ {T : Type 0} (shows : T → Showing × Bool) (roots : List T) (x : Resu
         ]) (rw (is, strict, other) at h.refused);
       })
 
+  -- The profile of one root is one of what it shows, followed by nothing, and is refused only if that may be.
   pub one_profiled : (a : T) (q : Showing) → roots ≡ a ∷ [] → shows a ≡ (q, true) → IsProfiled →
       IsProfiledAs true (Both q Nothing)
   one_profiled a q is first h =

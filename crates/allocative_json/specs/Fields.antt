@@ -162,16 +162,16 @@ RefusesDocument t given (Other f) = ⊥
 abbrev pub RefusesLine : List ℕ → ℕ → FieldsFault → Type 0
 RefusesLine l n f = (is_blank l ≡ false) × RefusesDocument l (Some n) f
 
--- The texts of the input are documents, and `made` is the text of their fields, with some room in their texts, names and
--- arrays.
+-- The texts of the input are documents, and `made` is the text of their fields, with some room in their texts, names
+-- and arrays.
 pub record AreFields (by_lines : Bool) (input made : List ℕ) : Type 0 where
   pub documents : List Value
   pub are_read : AreDocuments (texts_of by_lines input) documents
   pub is_text : made ≡ text (all_fields documents)
 
--- Why there is no text of the fields of an input: NotJson only if it is no document or, by lines, for the first line that
--- is none; Memory, but not for an empty input that is one document; TooLarge only if the texts are documents whose bytes,
--- with some room, exceed a word; and no other.
+-- Why there is no text of the fields of an input: NotJson only if it is no document or, by lines, for the first line
+-- that is none; Memory, but not for an empty input that is one document; TooLarge only if the texts are documents whose
+-- bytes, with some room, exceed a word; and no other.
 abbrev pub RefusesFields : Bool → List ℕ → FieldsFault → Type 0
 RefusesFields false input (NotJson line column said) = (d : Data) → ¬ IsDocument input d
 RefusesFields true input (NotJson line column said) = IsFirstFault input line
@@ -235,8 +235,8 @@ pub record CutsOffFields (asked : Option Bool) (known output output' errors erro
   pub begun : AppendsBeginning output output' made
   pub told : AppendsBeginning errors errors' (line_of program Writing)
 
--- The status is that of a fault that may end the run before anything is written. Its line, or a beginning of it, follows
--- what the errors held.
+-- The status is that of a fault that may end the run before anything is written. Its line, or a beginning of it,
+-- follows what the errors held.
 pub record FailsFields (asked : Option Bool) (known errors errors' : Option (List ℕ)) (status : ℕ) : Type 0 where
   pub cause : FieldsFault
   pub is_status : status ≡ fields_status cause

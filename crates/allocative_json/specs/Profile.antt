@@ -35,8 +35,8 @@ kept_line l = cond (eq_by_cmp key_cmp (codes "unused_capacity") (last_key l)) []
 abbrev pub kept_lines : List ℕ → List ℕ
 kept_lines t = without_lines (codes "unused_capacity") t
 
--- The texts of a profile: that of its graph, which with `exact` is without the lines that `exact` drops, and that of its
--- warnings.
+-- The texts of a profile: that of its graph, which with `exact` is without the lines that `exact` drops, and that of
+-- its warnings.
 abbrev pub AreTexts : Bool → Profile → Report → Type 0
 AreTexts exact o made = (string_bytes made.profile ≡ cond exact (kept_lines (text o.graph)) (text o.graph))
     × (string_bytes made.warnings ≡ o.warnings)

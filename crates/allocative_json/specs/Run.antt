@@ -51,8 +51,8 @@ pub record IsWritten (output output' errors errors' : Option (List ℕ)) (made :
   pub profile : Appends output output' (string_bytes made.profile)
   pub warnings : Appends errors errors' (string_bytes made.warnings)
 
--- A beginning of the profile follows what the output held, and the errors are as they were; or all of the profile, and a
--- beginning of the warnings follows what the errors held.
+-- A beginning of the profile follows what the output held, and the errors are as they were; or all of the profile, and
+-- a beginning of the warnings follows what the errors held.
 abbrev pub IsBegun : Option (List ℕ) → Option (List ℕ) → Option (List ℕ) → Option (List ℕ) → Report → Type 0
 IsBegun output output' errors errors' made =
     (AppendsBeginning output output' (string_bytes made.profile) × (errors' ≡ errors))
@@ -69,8 +69,8 @@ pub record EndsWell (texts : List Word) (known output output' errors errors' : O
   pub report : IsReportFor texts known made
   pub written : IsWritten output output' errors errors' made
 
--- A report is right for what is read, and a beginning of it follows what the two writers held. The line of a failed write,
--- or a beginning of it, follows what the errors then hold.
+-- A report is right for what is read, and a beginning of it follows what the two writers held. The line of a failed
+-- write, or a beginning of it, follows what the errors then hold.
 pub record EndsCutOff (texts : List Word) (known output output' errors errors' : Option (List ℕ)) : Type 0 where
   pub made : Report
   pub report : IsReportFor texts known made
@@ -94,8 +94,8 @@ MayEndRun texts known Open = ⊥
 MayEndRun texts known f = AreWords texts
     × ((asked : Words) × Asks texts asked × IfSome known (λ bytes. RefusesReport bytes asked.index f))
 
--- The status is that of a fault that may end the run before anything is written. Its line, or a beginning of it, follows
--- what the errors held; the line begins with `start`.
+-- The status is that of a fault that may end the run before anything is written. Its line, or a beginning of it,
+-- follows what the errors held; the line begins with `start`.
 pub record EndsIn (start : List ℕ) (may_end : Fault → Type 0) (errors errors' : Option (List ℕ)) (status : ℕ)
     : Type 0 where
   pub cause : Fault

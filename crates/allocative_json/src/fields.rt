@@ -21,8 +21,8 @@ use std::mem;
 /// Why there is no text of fields.
 #[derive(Clone, Copy)]
 pub enum FieldsFault {
-    /// A text is not JSON: its line, counted from 1, its column in bytes, which is 0 before the first byte of a line, and
-    /// what is wrong there.
+    /// A text is not JSON: its line, counted from 1, its column in bytes, which is 0 before the first byte of a line,
+    /// and what is wrong there.
     NotJson(usize, usize, InlineText<40>),
     /// Any other fault.
     Other(Fault),

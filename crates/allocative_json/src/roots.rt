@@ -73,8 +73,8 @@ fn add_members(
 /// numbers at any depth.
 ///
 /// It returns `Fault::NotJson` only if `serde_json` refuses the input for a reason other than memory, `Fault::NotWhole`
-/// only if the document has a number that is neither an i64 nor a u64, and otherwise `Fault::Memory`, which an empty input
-/// never causes.
+/// only if the document has a number that is neither an i64 nor a u64, and otherwise `Fault::Memory`, which an empty
+/// input never causes.
 #[tactic(auto, using(crate::proofs::Reports::some_text))]
 pub fn read_roots(
     alloc: Global,

@@ -11,7 +11,8 @@ graph_of_items-returns-in_err-graph_of t c =
     let xs = c.deref-item-items.result.now in
     let f = value_below (codes "[]") in
     let start = bytes_alone (array_bytes (length c.args.items.now.items) (vec_capacity c.args.items.now)) in
-    let within = more_within f start xs c.loop-item.item-index c.item-item.result c.loop-item-test.true c.item-item.is in
+    let within =
+    more_within f start xs c.loop-item.item-index c.item-item.result c.loop-item-test.true c.item-item.is in
     subst (λ (ys : List Value). Makes (sum_of_all start (map f ys)) c.from_residual-in_err-graph_of.result)
     c.deref-item-items.ensures.value (refused_more _ (fields_of c.item-item.result) (sum_of_all start (map f xs))
     c.from_residual-in_err-graph_of.result c.in_err-graph_of.field-0.0 c.from_residual-in_err-graph_of.ensures.1
@@ -22,10 +23,12 @@ graph_of_items-returns-in_err-add_child t c =
     let xs = c.deref-item-items.result.now in
     let f = value_below (codes "[]") in
     let start = bytes_alone (array_bytes (length c.args.items.now.items) (vec_capacity c.args.items.now)) in
-    let within = more_within f start xs c.loop-item.item-index c.item-item.result c.loop-item-test.true c.item-item.is in
+    let within =
+    more_within f start xs c.loop-item.item-index c.item-item.result c.loop-item-test.true c.item-item.is in
     let before : total c.loop-item.graph ≡ total (sum_of_all start (map f (take c.loop-item.item-index xs))) =
     ap total c.loop-item.invariant in
-    let next : total c.in_ok-graph_of.field-0 ≡ total (fields_of c.item-item.result) = ap total c.in_ok-graph_of.ensures in
+    let next : total c.in_ok-graph_of.field-0 ≡ total (fields_of c.item-item.result) =
+    ap total c.in_ok-graph_of.ensures in
     subst (λ (ys : List Value). Makes (sum_of_all start (map f ys)) c.from_residual-in_err-add_child.result)
     c.deref-item-items.ensures.value (refused_sum _ (sum_of_all start (map f xs)) _
     c.from_residual-in_err-add_child.result c.in_err-add_child.field-0.0 c.from_residual-in_err-add_child.ensures.1
@@ -56,6 +59,11 @@ graph_of_members-returns-in_err-member_of t c =
     let made : total c.in_ok-value.value ≡ total (fields_of c.in-Some.member.now) = ap total c.in_ok-value.ensures in
     refused_more _ (member_below (c.in-Some.name.now, c.in_ok-value.value)).graph
     (sum_of_all (bytes_alone 32) (map member_of entries)) c.from_residual-in_err-member_of.result
-    c.in_err-member_of.field-0.0 c.from_residual-in_err-member_of.ensures.1 (omega
-    (arith, within, made, total-add_self size c.in_ok-value.value, total-add_self size (fields_of c.in-Some.member.now)))
+    c.in_err-member_of.field-0.0 c.from_residual-in_err-member_of.ensures.1 (omega (
+      arith,
+      within,
+      made,
+      total-add_self size c.in_ok-value.value,
+      total-add_self size (fields_of c.in-Some.member.now),
+    ))
     c.in_err-member_of.ensures

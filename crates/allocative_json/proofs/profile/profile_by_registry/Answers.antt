@@ -18,7 +18,8 @@ returns c =
     let numbers = read_made own-1 _ (inr (inl tt)) refl (Showing × Bool) (λ j v. (j.1.may_show v, j.1.is_strict))
     _ _ c.in_ok-new-2.field-0.value c.into_dyn_box-in_ok-new-2.ensures.1
     ∙ ap (λ v. (index_shows v, true)) c.in_ok-new-2.ensures.ok in
-    rw c.in-Some.is (two_profiled (λ b. ((own-1.entry b.vtable).1.may_show b.value, (own-1.entry b.vtable).1.is_strict)) _ c.profile_roots-2.result
+    rw c.in-Some.is (two_profiled (λ b. ((own-1.entry b.vtable).1.may_show b.value, (own-1.entry b.vtable).1.is_strict))
+    _ c.profile_roots-2.result
     c.into_dyn_box.result c.into_dyn_box-in_ok-new-2.result _ _ (grind (arith, common_steps)) document numbers
     (record { profile = c.profile_roots-2.ensures.profile; refused = c.profile_roots-2.ensures.refused }))
 
@@ -28,6 +29,7 @@ returns-in_default c =
     let document = read_made own-1 _ (inl tt) refl (Showing × Bool) (λ j v. (j.1.may_show v, j.1.is_strict))
     _ _ c.in_ok-new.field-0.value c.into_dyn_box.ensures.1
     ∙ ap (λ v. (stored_value v, true)) c.in_ok-new.ensures.ok in
-    rw c.in_default.is (one_profiled (λ b. ((own-1.entry b.vtable).1.may_show b.value, (own-1.entry b.vtable).1.is_strict)) _ c.profile_roots.result
+    rw c.in_default.is (one_profiled
+    (λ b. ((own-1.entry b.vtable).1.may_show b.value, (own-1.entry b.vtable).1.is_strict)) _ c.profile_roots.result
     c.into_dyn_box.result _ (grind (arith, common_steps)) document
     (record { profile = c.profile_roots.ensures.profile; refused = c.profile_roots.ensures.refused }))

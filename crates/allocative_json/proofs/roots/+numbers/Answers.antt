@@ -14,7 +14,8 @@ add_items-loop-item-preserved t c =
     let h = c.loop-item.invariant in
     rw (take_more _ _ c.item-item.result c.loop-item-test.true, ← c.item-item.is) (record {
       whole = rw (items_numbers-snoc, list_all-append, ← h.whole, ← c.in_ok-all_whole.ensures.whole) refl;
-      keys = λ i. rw items_numbers-snoc (AddsNumbers-append (items_numbers (items_view (take c.loop-item.item-index c.deref-item-items.result.now)))
+      keys = λ i. rw items_numbers-snoc (AddsNumbers-append
+          (items_numbers (items_view (take c.loop-item.item-index c.deref-item-items.result.now)))
           (numbers_of (view c.item-item.result)) c.args.set.now _ _ (h.keys i) (c.in_ok-all_whole.ensures.keys i));
       ordered = λ o. c.add_numbers.ensures.ordered (h.ordered o);
     })
@@ -25,7 +26,8 @@ add_members-loop-key-preserved t c =
     let h = c.loop-key.invariant in
     rw map-append (record {
       whole = rw (members_numbers-snoc, list_all-append, ← h.whole, ← c.in_ok-all_whole.ensures.whole) refl;
-      keys = λ i. rw members_numbers-snoc (AddsNumbers-append (members_numbers (members_view (map deref_pair c.loop-key.yielded)))
+      keys = λ i. rw members_numbers-snoc (AddsNumbers-append
+          (members_numbers (members_view (map deref_pair c.loop-key.yielded)))
           (numbers_of (view c.in-Some.member.now)) c.args.set.now _ _ (h.keys i) (c.in_ok-all_whole.ensures.keys i));
       ordered = λ o. c.add_numbers.ensures.ordered (h.ordered o);
     })
@@ -36,5 +38,6 @@ add_members-returns-clause-keys t c =
     let e = items_from_drains c.loop-key.yielded
     (c.loop-key._key-iterator, c.loop-key.yielded_by, λ _. (c.next.new.self, c.in-None.ensures.steps))
     (YieldsList-from_rest _ (c.into_iter-key-iterator.ensures.into_iter_gives ∙ c.iter-key-items.ensures.rest)) in
-    let Q : List _ → Type 0 = λ ms. IsTrue c.args.index → AddsNumbers (members_numbers (members_view ms)) c.args.set.now c.loop-key.set in
+    let Q : List _ → Type 0 = λ ms. IsTrue c.args.index →
+    AddsNumbers (members_numbers (members_view ms)) c.args.set.now c.loop-key.set in
     subst Q e c.loop-key.invariant.keys
