@@ -1,6 +1,6 @@
 -- The bills of an account's entries after each change of them.
-use Rattle.std.proofs.Common.{◌≡◌, ℕ, ◌+◌, ◌≤◌, Bool, true, false, List, [], ◌∷◌, Option, Some, None, arith, cond, refl}
-use Rattle.std.proofs.Common.{unwrap_or}
+use Rattle.std.proofs.Common.{◌≡◌, ℕ, ◌+◌, ◌-◌, ◌^◌, ◌≤◌, Bool, true, false, List, [], ◌∷◌, Option, Some, None, arith, cond, refl}
+use Rattle.std.proofs.Common.{Result, inl, inr, unwrap_or}
 use Rattle.std.specs.BTreeMap.{is_at, insert_entry}
 use Rattle.std.specs.Cmp.{IsTotalOrder}
 use Rattle.std.specs.List.Sorted.{IsStrictlySortedBy}
@@ -16,7 +16,10 @@ use Rattle.std.proofs.lemmas.Option.{same_Some}
 use Rattle.allocative.specs.Forest.{Forest}
 use Rattle.allocative_service.specs.declared.measure.Measure.{Measure}
 use Rattle.allocative_service.specs.declared.kept.Kept.{Kept}
+use Rattle.allocative_service.specs.declared.book.rejection.Rejection.{Rejection}
+use Rattle.allocative_service.specs.declared.book.rejection.Rejection.TheVariants.{TooLarge}
 use Rattle.allocative_service.specs.Measured.{Declares}
+use Rattle.allocative_service.specs.Rejected.{RejectsRoom, RejectsThen}
 use Rattle.allocative_service.specs.Kept.{IsBilled}
 use Rattle.allocative_service.proofs.Accounts.{sum_by-written}
 use Rattle.allocative_service.specs.Book.{AreBilled, billed_sum, bytes_in}
@@ -39,7 +42,8 @@ module _ {K E : Type 0} (P : K → E → Type 0) where
   pub billed-found : (test : K → Bool) (es : List (K × E)) (k : K) (e : E) → AreBilled P es →
       Some k ≡ lookup_key test es → Some e ≡ lookup test es → P k e
   billed-found test [] k e h key entry = absurd cc
-  billed-found test (f ∷ es) k e h key entry = by (test f.0) (billed-found test es k e (All-tail Billed f es h)) key entry
+  billed-found test (f ∷ es) k e h key entry =
+      by (test f.0) (billed-found test es k e (All-tail Billed f es h)) key entry
     where
       by : (b : Bool) → (Some k ≡ lookup_key test es → Some e ≡ lookup test es → P k e) →
           Some k ≡ cond b (Some f.0) (lookup_key test es) → Some e ≡ cond b (Some f.1) (lookup test es) → P k e
@@ -71,7 +75,8 @@ module _ {K E : Type 0} (P : K → E → Type 0) where
   billed-insert total [] key w sorted is h = All-cons Billed (key, w) [] is (All-nil Billed)
   billed-insert {cmp} total (e ∷ es) key w sorted is h =
       let none : cmp key e.0 ≡ Less → lookup_key (is_at (cmp key)) (e ∷ es) ≡ None =
-      λ less. key_none (is_at (cmp key)) (e ∷ es) (lookup-none (is_at (cmp key)) (e ∷ es) (none_below_head total key e es sorted less)) in
+      λ less. key_none (is_at (cmp key)) (e ∷ es)
+      (lookup-none (is_at (cmp key)) (e ∷ es) (none_below_head total key e es sorted less)) in
       by (cmp key e.0) (λ less. rw (none less) at is)
       (λ put. billed-insert total es key w (sorted_tail cmp e.0 (keys_of es) sorted) put (All-tail Billed e es h)) is
     where
@@ -85,7 +90,8 @@ module _ {K E : Type 0} (P : K → E → Type 0) where
 
 module _ {K E : Type 0} (test : K → Bool) where
   -- What is found under a key that has an entry is what was written there.
-  pub lookup_written : (es : List (K × E)) (had w : E) → lookup test es ≡ Some had → lookup test (set_value test es w) ≡ Some w
+  pub lookup_written : (es : List (K × E)) (had w : E) → lookup test es ≡ Some had →
+      lookup test (set_value test es w) ≡ Some w
   lookup_written [] had w found = absurd cc
   lookup_written (e ∷ es) had w found = grind (arith, lookup_written es had w)
 
@@ -105,7 +111,8 @@ module _ {K E : Type 0} (billed : E → ℕ) (test : K → Bool) (es : List (K �
   entry_within = (refl, omega (arith, sum_by-remove_entry billed test es))
 
   -- The bytes of an entry that is removed, and those of the others, are the bytes of all.
-  pub removed_sum : (e : E) → Some e ≡ lookup test es → billed_sum billed (remove_entry test es) + billed e ≡ billed_sum billed es
+  pub removed_sum : (e : E) → Some e ≡ lookup test es →
+      billed_sum billed (remove_entry test es) + billed e ≡ billed_sum billed es
   removed_sum e is = rw (← is) at (sum_by-remove_entry billed test es)
 
   -- The bytes of an entry that is found are part of those of all.
@@ -119,8 +126,24 @@ pub ruleset removing = (sum_by-remove_entry, billed-remove, entry_within)
 pub ruleset putting = (sum_by-insert_entry, billed-insert, billed-found, entry_within)
 
 -- The lemmas on an account after an entry was changed.
-pub ruleset changing =
-    (sum_by-written, sum_by-remove_entry, billed-set, billed-remove, lookup_written, key_written, removed_written, entry_within)
+pub ruleset changing = (
+  sum_by-written,
+  sum_by-remove_entry,
+  billed-set,
+  billed-remove,
+  lookup_written,
+  key_written,
+  removed_written,
+  entry_within,
+)
+
+-- Bytes that do not fit beside those of the others have no room in place of what was there.
+pub no_room : (P : Result ℕ Rejection → Type 0) (all sum limit had key_bytes : ℕ) (r : Rejection) → had ≤ all →
+    RejectsThen P (λ n s. (s ≡ TooLarge) × (2 ^ 64 ≤ all - had + key_bytes + n)) r →
+    RejectsThen P (λ n. RejectsRoom all None sum limit had (key_bytes + n)) r
+no_room P all sum limit had key_bytes r part (inl refused) = inl refused
+no_room P all sum limit had key_bytes r part (inr (n, gives, (is, large))) =
+    inr (n, gives, rw is (omega (arith, part, large)))
 
 -- A key that is found declares the bytes that are billed for it.
 pub key_billed : {K V : Type 0} {key_size : Option ℕ} {key_shows : K → Forest → Type 0} {size : Option ℕ}
@@ -128,5 +151,5 @@ pub key_billed : {K V : Type 0} {key_size : Option ℕ} {key_shows : K → Fores
     AreBilled (IsBilled key_size key_shows size may_show m) es → Some k ≡ lookup_key test es → Some e ≡ lookup test es →
     Declares m key_size (key_shows k) e.key_bytes
 key_billed {key_size} {key_shows} {size} {may_show} {m} test es k e h key entry =
-    let it : IsBilled key_size key_shows size may_show m k e = billed-found (IsBilled key_size key_shows size may_show m) test es k e h key entry in
-    it.of_key
+    let bill = billed-found (IsBilled key_size key_shows size may_show m) test es k e h key entry in
+    bill.of_key

@@ -65,5 +65,14 @@ module _ {F K V : Type 0} (step : F → K → V → F → Type 0) (on_evict : F)
       let whole : k ∷ rest ≡ x ∷ (others ++ r.gone) = r.parts in
       let first : x ≡ k = cc in
       let parts : rest ≡ others ++ r.gone = cc in
-      let needed = subst (λ (y : K × Kept V). IsNeeded room (y ∷ others) r.gone) first r.needed in
-      (others, ap (λ y. y ∷ others) first, record { gone = r.gone; parts = parts; needed = less_needed room k others r.gone fits needed; last = r.last; handed = r.handed })
+      let needed = subst (λ (y : K × Kept V). IsNeeded room (y ∷ others) r.gone) first r.needed in (
+        others,
+        ap (λ y. y ∷ others) first,
+        record {
+          gone = r.gone;
+          parts = parts;
+          needed = less_needed room k others r.gone fits needed;
+          last = r.last;
+          handed = r.handed;
+        },
+      )

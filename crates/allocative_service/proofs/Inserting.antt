@@ -7,7 +7,7 @@ use Rattle.allocative_service.specs.declared.kept.Kept.{Kept}
 use Rattle.allocative_service.specs.Book.{AreBilled}
 use Rattle.allocative_service.specs.Entries.{Entries, bytes_of, Bounded, KeepsRecent, IsBounded, AreKept}
 use Rattle.allocative_service.specs.Entries.{with_entries, stored_key, Inserts}
-use Rattle.allocative_service.specs.Kept.{IsBilled}
+use Rattle.allocative_service.specs.Kept.{IsBilled, kept_bytes}
 use Rattle.allocative_service.specs.Measured.{Declares}
 use Rattle.std.specs.Option.{option_map, option_map_or, unwrap_or}
 use Rattle.std.proofs.lemmas.List.Elements.{All-cons, All-head, All-tail, All-take}
@@ -16,7 +16,7 @@ use Rattle.std.proofs.lemmas.Map.Entries.{sum_by-remove_entry}
 use Rattle.std.proofs.Math.Seq.{take-append_seam}
 use Rattle.lru.specs.LruCache.{LruCache, put_entries}
 use Rattle.allocative_service.specs.declared.measure.Measure.{Measure}
-use Rattle.allocative_service.proofs.Billing.{billed-remove}
+use Rattle.allocative_service.proofs.Billing.{billed-remove, entry_within}
 use Rattle.allocative_service.proofs.Evicting.{bytes_of-cons, first_stays}
 
 module _ {K V : Type 0} where
@@ -26,19 +26,10 @@ module _ {K V : Type 0} where
   none_removed test (e ∷ es) none = grind (arith, none_removed test es)
 
   -- Below the capacity, `put` places the pair first and removes only the entry of an equal key.
-  pub put_entries-unbounded : (eq : K → K → Bool) (c : LruCache K (Kept V)) (key : K) (k : Kept V) → length c.entries < c.cap
-      → put_entries eq c key k ≡ (stored_key eq key c.entries, k) ∷ remove_entry (eq key) c.entries
+  pub put_entries-unbounded : (eq : K → K → Bool) (c : LruCache K (Kept V)) (key : K) (k : Kept V) →
+      length c.entries < c.cap →
+      put_entries eq c key k ≡ (stored_key eq key c.entries, k) ∷ remove_entry (eq key) c.entries
   put_entries-unbounded eq c key k fewer = grind (arith, none_removed, take_all)
-
-  -- The bytes under a removed key and those of the remaining entries are the bytes of all.
-  pub bytes_of-remove_entry : (test : K → Bool) (es : Entries K V) (had : Option (Kept V)) → had ≡ lookup test es →
-      bytes_of (remove_entry test es) + unwrap_or (option_map (λ (k : Kept V). k.bytes) had) 0 ≡ bytes_of es
-  bytes_of-remove_entry test es had is = rw is (sum_by-remove_entry (λ (k : Kept V). k.bytes) test es)
-
-  -- The bytes under a key are part of the bytes of all.
-  pub kept_within : (test : K → Bool) (es : Entries K V) → (lookup test es ≡ lookup test es)
-      × (unwrap_or (option_map (λ (k : Kept V). k.bytes) (lookup test es)) 0 ≤ bytes_of es)
-  kept_within test es = (refl, omega (arith, bytes_of-remove_entry test es (lookup test es) refl))
 
 module _ {K V : Type 0} {key_size : Option ℕ} {key_shows : K → Forest → Type 0} {size : Option ℕ}
     {may_show : V → Forest → Type 0} {m : Measure} where
@@ -46,7 +37,7 @@ module _ {K V : Type 0} {key_size : Option ℕ} {key_shows : K → Forest → Ty
   pub without-kept : {es : Entries K V} {n : ℕ} (test : K → Bool) → AreKept key_size key_shows size may_show m es n →
       AreKept key_size key_shows size may_show m (remove_entry test es) n
   without-kept {es} test h = record {
-    within = let sum = bytes_of-remove_entry test es (lookup test es) refl in omega (arith, sum, h.within);
+    within = let sum = sum_by-remove_entry kept_bytes test es in omega (arith, sum, h.within);
     measured = billed-remove (IsBilled key_size key_shows size may_show m) test es h.measured;
   }
 
@@ -61,8 +52,9 @@ module _ {K V : Type 0} {key_size : Option ℕ} {key_shows : K → Forest → Ty
 
   module _ {F : Type 0} {step : F → K → V → F → Type 0} {on_evict : F} where
     -- What stays after evictions is kept.
-    pub recent-kept : {before after : Entries K V} {room n : ℕ} (most : ℕ) → KeepsRecent step on_evict room before after →
-        bytes_of after ≤ most → AreKept key_size key_shows size may_show m before n →
+    pub recent-kept : {before after : Entries K V} {room n : ℕ} (most : ℕ) →
+        KeepsRecent step on_evict room before after → bytes_of after ≤ most →
+        AreKept key_size key_shows size may_show m before n →
         AreKept key_size key_shows size may_show m after most
     recent-kept {before} {after} {room} most recent within h = record {
       within = within;
@@ -72,12 +64,12 @@ module _ {K V : Type 0} {key_size : Option ℕ} {key_shows : K → Forest → Ty
     }
 
 module _ {F K V : Type 0} {key_size : Option ℕ} {key_shows : K → Forest → Type 0} {size : Option ℕ}
-    {may_show : V → Forest → Type 0} {eq : K → K → Bool} {step : F → K → V → F → Type 0} {on_evict : F} {key : K} {v : V}
-    {old : Bounded K V} where
+    {may_show : V → Forest → Type 0} {eq : K → K → Bool} {step : F → K → V → F → Type 0} {on_evict : F} {key : K}
+    {v : V} {old : Bounded K V} where
   -- Putting a value first and then evicting others is an insertion.
   pub insertion : (entry : Kept V) (put now : Entries K V) → entry.value ≡ v →
-      IsBilled key_size key_shows size may_show old.measure (stored_key eq key old.entries) entry → entry.bytes ≤ old.bound
-      → put ≡ (stored_key eq key old.entries, entry) ∷ remove_entry (eq key) old.entries →
+      IsBilled key_size key_shows size may_show old.measure (stored_key eq key old.entries) entry →
+      entry.bytes ≤ old.bound → put ≡ (stored_key eq key old.entries, entry) ∷ remove_entry (eq key) old.entries →
       KeepsRecent step on_evict old.bound put now → bytes_of now ≤ old.bound
       → Inserts key_size key_shows size may_show eq step on_evict key v old (with_entries old now)
   insertion entry put now value bill fits is recent within =
@@ -121,9 +113,10 @@ stored_billed {K} {V} {key_size} {key_shows} {size} {may_show} {m} eq key (e ∷
     by : (b : Bool) → Declares m key_size (key_shows e.0) e.1.key_bytes →
         (Some k ≡ lookup (eq key) es → Declares m key_size (key_shows (stored_key eq key es)) k.key_bytes) →
         Some k ≡ cond b (Some e.1) (lookup (eq key) es) →
-        Declares m key_size (key_shows (option_map_or (λ f. f.0) (cond b (Some e) (lookup_entry (eq key) es)) key)) k.key_bytes
+        Declares m key_size (key_shows (option_map_or (λ f. f.0) (cond b (Some e) (lookup_entry (eq key) es)) key))
+        k.key_bytes
     by true here rest is = rw (same_Some k e.1 is) here
     by false here rest is = rest is
 
 -- The lemmas on the entries that a value is put into.
-pub ruleset putting = (bytes_of-remove_entry, put_entries-unbounded, kept_within)
+pub ruleset putting = (sum_by-remove_entry, put_entries-unbounded, entry_within)

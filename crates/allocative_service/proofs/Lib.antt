@@ -5,5 +5,6 @@ mod Evicting
 mod Inserting
 mod Most
 mod Sums
+pub mod Texts
 mod Using
 mod Walk

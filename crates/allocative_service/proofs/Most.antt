@@ -31,12 +31,16 @@ grew_first n cs qs h =
       rest = left;
       chosen = rw (← parts) h.same;
       enough = length-map (take n qs) change_data ∙ length-take n qs
-          ∙ ap (min n) (sym (length-map qs change_data) ∙ length_permutation (filter is_grown cs) (map change_data qs) h.same);
+          ∙ ap (min n) (sym (length-map qs change_data)
+          ∙ length_permutation (filter is_grown cs) (map change_data qs) h.same);
       falling = λ i j d before short.
           let h = rw (get_or_append_left top left d i (omega arith), get_or_append_left top left d j short)
           at (fall i j d before (omega (arith, short, length-append top left))) in
           omega (arith, h);
       most = λ i d in_top j e in_rest.
-          let h = rw (get_or_append_left top left d i in_top, get_or-append-add top left j d, get_or_default left j d e in_rest) at (fall i (length top + j) d (omega arith) (omega (arith, in_rest, length-append top left))) in
+          let far : length top + j < length (top ++ left) = omega (arith, in_rest, length-append top left) in
+          let there = get_or_default left j d e in_rest in
+          let h = rw (get_or_append_left top left d i in_top, get_or-append-add top left j d, there)
+          at (fall i (length top + j) d (omega arith) far) in
           omega (arith, h);
     }

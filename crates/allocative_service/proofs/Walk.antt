@@ -25,9 +25,12 @@ module _ (s t : Path → ℕ) (ks : Path) where
   under : (k : Key) (rs : List (Path × ℕ)) →
       changes_behind (λ p. s (k ∷ p)) (λ p. t (k ∷ p)) (ks ++ k ∷ []) rs ≡ changes_behind s t ks (under_rows k rs)
   under k [] = refl
-  under k (r ∷ rs) = λ i. cond (s (k ∷ r.0) == t (k ∷ r.0)) [] (record { path = append_assoc ks (k ∷ []) r.0 i; earlier = s (k ∷ r.0); later = t (k ∷ r.0) } ∷ []) ++ under k rs i
+  under k (r ∷ rs) = λ i. cond (s (k ∷ r.0) == t (k ∷ r.0)) []
+      (record { path = append_assoc ks (k ∷ []) r.0 i; earlier = s (k ∷ r.0); later = t (k ∷ r.0) } ∷ [])
+      ++ under k rs i
 
-  of_rows : (es : List Child) → of_children (λ k p. s (k ∷ p)) (λ k p. t (k ∷ p)) ks es ≡ changes_behind s t ks (rows_of es)
+  of_rows : (es : List Child) →
+      of_children (λ k p. s (k ∷ p)) (λ k p. t (k ∷ p)) ks es ≡ changes_behind s t ks (rows_of es)
   of_rows [] = refl
   of_rows (e ∷ es) = (λ i. under e.key (entries e.graph) i ++ of_rows es i)
       ∙ sym (flat_map-append (λ (r : Path × ℕ). change_behind s t ks r.0) (rows_of_child e) (rows_of es))
@@ -81,7 +84,8 @@ in_order : (c d : Child) (cs ds : List Child) → AreChildren (c ∷ cs) → Are
 in_order c d cs ds a b Less e =
     in_first c cs (d ∷ ds) a.trees.0 (above_all c.key d ds e b) (next_less refl a b (ap Some e))
 in_order c d cs ds a b Greater e =
-    in_second d ds (c ∷ cs) b.trees.0 (above_all d.key c cs (key_turn c.key d.key e) a) (next_greater refl a b (ap Some e))
+    let above = above_all d.key c cs (key_turn c.key d.key e) a in
+    in_second d ds (c ∷ cs) b.trees.0 above (next_greater refl a b (ap Some e))
 in_order c d cs ds a b Equal e =
     let theirs = subst (λ k. Takes k (d ∷ ds) (d.graph, ds)) (sym (exact_bytes c.key d.key e)) (takes_first d ds) in
     let added = added_trees c.graph d.graph a.trees.0 b.trees.0 in
@@ -104,7 +108,14 @@ pub record Walks (ks : Path) (cs ds : List Child) (made : List Changed) (cs' ds'
 pub walk_begins : (ks : Path) (cs ds : List Child) → AreChildren cs → AreChildren ds → Walks ks cs ds [] cs ds
 walk_begins ks cs ds a b = record {
   out = [];
-  first = record { goes_on = λ b es m. m; mine = a; theirs = b; fewer = omega arith; fewer_rows = omega arith; fits = omega arith };
+  first = record {
+    goes_on = λ b es m. m;
+    mine = a;
+    theirs = b;
+    fewer = omega arith;
+    fewer_rows = omega arith;
+    fits = omega arith;
+  };
   changes = λ es m. refl;
 }
 
@@ -115,7 +126,8 @@ module _ {ks : Path} {cs ds cs' ds' : List Child} {made : List Changed} (w : Wal
 
   -- The walk goes on with the changes of what it takes.
   pub walk_on : (n : Next) → Step cs' ds' n →
-      Walks ks cs ds (made ++ changes_behind (size_at n.1.0) (size_at n.2.0) (ks ++ n.0 ∷ []) (entries (sum_of n.1.0 n.2.0))) n.1.1 n.2.1
+      Walks ks cs ds (made ++ changes_behind (size_at n.1.0) (size_at n.2.0) (ks ++ n.0 ∷ [])
+      (entries (sum_of n.1.0 n.2.0))) n.1.1 n.2.1
   walk_on n s =
       let o : Child = record { key = n.0; graph = s.0 } in
       record {
@@ -123,13 +135,17 @@ module _ {ks : Path} {cs ds cs' ds' : List Child} {made : List Changed} (w : Wal
         first = merges_then w.first s.1.1 refl refl;
         changes = λ es m. ap (of_children (size_below cs) (size_below ds) ks) (append_assoc w.out (o ∷ []) es)
             ∙ w.changes (o ∷ es) (s.1.1.goes_on true es m)
-            ∙ (λ i. made ++ (changes_behind (λ p. s.1.2.here p i) (λ p. s.1.3.here p i) (ks ++ n.0 ∷ []) (entries (s.1.0 i)) ++ rest es (first_below o es (s.1.1.goes_on true es m).children) i))
-            ∙ sym (append_assoc made (changes_behind (size_at n.1.0) (size_at n.2.0) (ks ++ n.0 ∷ []) (entries (sum_of n.1.0 n.2.0))) _);
+            ∙ (λ i. made ++ (changes_behind (λ p. s.1.2.here p i) (λ p. s.1.3.here p i) (ks ++ n.0 ∷ [])
+            (entries (s.1.0 i)) ++ rest es (first_below o es (s.1.1.goes_on true es m).children) i))
+            ∙ sym (append_assoc made (changes_behind (size_at n.1.0) (size_at n.2.0) (ks ++ n.0 ∷ [])
+            (entries (sum_of n.1.0 n.2.0))) _);
       }
     where
-      rest : (es : List Child) → AllAbove es n.0 → of_children (size_below cs') (size_below ds') ks es ≡ of_children (size_below n.1.1) (size_below n.2.1) ks es
+      rest : (es : List Child) → AllAbove es n.0 → of_children (size_below cs') (size_below ds') ks es
+          ≡ of_children (size_below n.1.1) (size_below n.2.1) ks es
       rest [] a = refl
-      rest (e ∷ es) a = λ i. changes_behind (λ p. s.1.2.after e.key a.0 p i) (λ p. s.1.3.after e.key a.0 p i) (ks ++ e.key ∷ []) (entries e.graph) ++ rest es a.1 i
+      rest (e ∷ es) a = λ i. changes_behind (λ p. s.1.2.after e.key a.0 p i) (λ p. s.1.3.after e.key a.0 p i)
+          (ks ++ e.key ∷ []) (entries e.graph) ++ rest es a.1 i
 
   -- If nothing remains, the walk has appended the changes of a node but for its own.
   pub walk_ends : (m n : ℕ) → AreChildren cs → AreChildren ds → (cs' ≡ []) × (ds' ≡ [])
@@ -143,10 +159,12 @@ module _ {ks : Path} {cs ds cs' ds' : List Child} {made : List Changed} (w : Wal
       subst₂ (λ x y. Merged true x y []) (sym e.0) (sym e.1) (merged_same [] no_children) in
       let below : changes_behind s t ks (rows_of w.out) ≡ made =
       sym (of_rows s t ks w.out)
-      ∙ (λ i. of_children (λ k p. unwrap_or (get-under m cs k p a.sorted i) 0) (λ k p. unwrap_or (get-under n ds k p b.sorted i) 0) ks (sym (append-nil w.out) i))
+      ∙ (λ i. of_children (λ k p. unwrap_or (get-under m cs k p a.sorted i) 0)
+      (λ k p. unwrap_or (get-under n ds k p b.sorted i) 0) ks (sym (append-nil w.out) i))
       ∙ w.changes [] none ∙ append-nil made in
       let before : s [] ≡ m = ap (λ o. unwrap_or o 0) (get-root m cs a.sorted) in
       let after : t [] ≡ n = ap (λ o. unwrap_or o 0) (get-root n ds b.sorted) in
       sym (ap (changes_behind s t ks) (ap entries (sym (added_sum (added_node true m n cs ds w.out a b merged) refl))
       ∙ entries-node (m + n) w.out merged.children.sorted)
-      ∙ (λ i. cond (before i == after i) [] (record { path = append-nil ks i; earlier = before i; later = after i } ∷ []) ++ below i))
+      ∙ (λ i. cond (before i == after i) []
+      (record { path = append-nil ks i; earlier = before i; later = after i } ∷ []) ++ below i))

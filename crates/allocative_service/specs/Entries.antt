@@ -127,9 +127,9 @@ module _ {K V : Type 0} (key_size : Option ℕ) (key_shows : K → Forest → Ty
   IsBounded c = AreKept c.measure c.entries c.bound
 
   module _ {F : Type 0} (eq : K → K → Bool) (step : F → K → V → F → Type 0) where
-    -- The key now has v, with a bill of the stored key and v, as the most recently used entry. The old entry of the key is
-    -- gone. Of the others the least recently used are evicted, only as many as the bound requires, and the closure was
-    -- called once with each.
+    -- The key now has v, with a bill of the stored key and v, as the most recently used entry. The old entry of the key
+    -- is gone. Of the others the least recently used are evicted, only as many as the bound requires, and the closure
+    -- was called once with each.
     pub record Inserts (on_evict : F) (key : K) (v : V) (old new : Bounded K V) : Type 0 where
       pub entry : Kept V
       pub others : Entries K V

@@ -1,19 +1,13 @@
 -- What a ledger holds, and how its calls change it: a book of bytes by number.
-use Rattle.std.specs.Prelude.{◌≡◌, ◌⊎◌, ℕ, Bool, ◌+◌, ◌^◌, ◌<◌, ◌≤◌, List}
-use Rattle.std.specs.Prelude.{Option, None, Some, IsSome, max, unwrap_or, IsSomeAnd}
+use Rattle.std.specs.Prelude.{◌≡◌, ℕ, ◌+◌, ◌^◌, ◌≤◌, List, Option, Some, Result, Ok, Err, max, unwrap_or, IsSomeAnd, MatchOption}
 use Rattle.std.specs.BTreeMap.{insert_entry, is_at}
 use Rattle.std.specs.Map.{lookup, remove_entry}
 use Rattle.std.specs.Option.{option_and_then}
 use Rattle.std.specs.Ordering.{nat_cmp}
-use Rattle.allocative.specs.Refusal.{Refusal}
-use Rattle.allocative.specs.Shows.{Showing}
 use Rattle.allocative_service.specs.Book.{AccountData, BookData, account_of, all_billed, billed_sum, without_entry, SetsAccount}
 use Rattle.allocative_service.specs.declared.book.rejection.Rejection.{Rejection}
-use Rattle.allocative_service.specs.declared.book.rejection.Rejection.TheVariants.{NotMeasured, NotThere, OverCredit}
-use Rattle.allocative_service.specs.declared.book.rejection.Rejection.TheVariants.{Taken, TooLarge}
-use Rattle.allocative_service.specs.Measured.{Declares, MayRefuseMeasure}
-use Rattle.allocative_service.specs.declared.measure.Measure.{Measure}
-use Rattle.allocative_service.specs.Rejected.{RejectsKept, RejectsRoom}
+use Rattle.allocative_service.specs.declared.book.rejection.Rejection.TheVariants.{NotThere, Taken, TooLarge}
+use Rattle.allocative_service.specs.Rejected.{RejectsEntry, RejectsIn, RejectsThen}
 
 -- ---- an account
 -- The sum of the bytes of these entries.
@@ -66,38 +60,23 @@ Releases tenant number old new bytes = IsSomeAnd (account_of tenant old) (λ h. 
     × (sum_of (remove_entry (is_at (nat_cmp number)) h.entries) + bytes ≡ sum_of h.entries)
     × SetsAccount tenant (without_entry (is_at (nat_cmp number)) h) old new) × (total_of new + bytes ≡ total_of old)
 
--- Replacing the `had` bytes of one entry of this account by `bytes` is rejected. The bytes and the limit of all
--- accounts are the ledger's.
-abbrev pub RejectsPut : BookData ℕ ℕ → ℕ → ℕ → AccountData ℕ ℕ → Rejection → Type 0
-RejectsPut l had bytes h = RejectsRoom (total_of l) (Some l.limit) (sum_of h.entries) h.limit had bytes
+-- ---- rejections
+-- What becomes of a number without an entry is said by P. One with an entry is rejected as taken.
+abbrev pub IsNew : ℕ → (Result ℕ Rejection → Type 0) → Option ℕ → Result ℕ Rejection → Type 0
+IsNew number P had result = MatchOption had (P result) (λ _. result ≡ Err (Taken number))
 
--- A new entry of `bytes` in this account is rejected. The bytes and the limit of all accounts are the ledger's.
-abbrev pub RejectsNewBytes : BookData ℕ ℕ → ℕ → AccountData ℕ ℕ → Rejection → Type 0
-RejectsNewBytes l bytes h = RejectsKept (total_of l) l.limit (sum_of h.entries) h.limit 0 bytes
+-- What becomes of an entry is said by P of its bytes. A number without one is rejected as not there.
+abbrev pub IsThere : ℕ → (ℕ → Result ℕ Rejection → Type 0) → Option ℕ → Result ℕ Rejection → Type 0
+IsThere number P had result = MatchOption had (result ≡ Err (NotThere number)) (λ bytes. P bytes result)
 
--- Growth of an entry from `had` bytes to `bytes` is rejected: the sum of all accounts does not fit a word.
-abbrev pub RejectsGrowth : BookData ℕ ℕ → ℕ → ℕ → AccountData ℕ ℕ → Rejection → Type 0
-RejectsGrowth l had bytes h r = (r ≡ TooLarge) × (2 ^ 64 + had ≤ total_of l + bytes)
+-- Adding `more` bytes to those of an entry gives their sum, or is rejected: the sum does not fit a word.
+abbrev pub Adds : ℕ → ℕ → Result ℕ Rejection → Type 0
+Adds more had (Ok bytes) = bytes ≡ had + more
+Adds more had (Err r) = (r ≡ TooLarge) × (2 ^ 64 ≤ had + more)
 
--- ---- rejections by the account
--- Taking `less` bytes off the `had` bytes of an entry is rejected: there are fewer, as the rejection says.
-abbrev pub RejectsCredit : ℕ → ℕ → AccountData ℕ ℕ → Rejection → Type 0
-RejectsCredit less had h r = (r ≡ OverCredit had less) × (had < less)
-
--- A new entry under a number is rejected. The number has an entry, as the rejection says, or it has none and P says
--- why.
-abbrev pub RejectsNew : ℕ → (AccountData ℕ ℕ → Rejection → Type 0) → AccountData ℕ ℕ → Rejection → Type 0
-RejectsNew number P h r = ((r ≡ Taken number) × IsSome (bytes_at number h)) ⊎ ((bytes_at number h ≡ None) × P h r)
-
--- A change of the entry under a number is rejected. The number has no entry, as the rejection says, or P says of the
--- entry's bytes why.
-abbrev pub RejectsChange : ℕ → (ℕ → AccountData ℕ ℕ → Rejection → Type 0) → AccountData ℕ ℕ → Rejection → Type 0
-RejectsChange number P h r = ((r ≡ NotThere number) × (bytes_at number h ≡ None))
-    ⊎ ((had : ℕ) × (bytes_at number h ≡ Some had) × P had h r)
-
--- The value could not be measured, as the rejection says, or it declares bytes with a rejection that P allows.
-abbrev pub RejectsMeasured : Measure → Bool → Option ℕ → Showing → (ℕ → AccountData ℕ ℕ → Rejection → Type 0)
-    → AccountData ℕ ℕ → Rejection → Type 0
-RejectsMeasured measure is_strict size p P h r =
-    ((e : Refusal) × (r ≡ NotMeasured e) × MayRefuseMeasure measure is_strict size p e)
-    ⊎ ((bytes : ℕ) × Declares measure size p bytes × P bytes h r)
+-- The ledger, which may have `most` bytes, rejects what P makes of the bytes under the tenant's number: there is no
+-- account, P rejects them, or what P makes of them is not entered.
+abbrev pub Rejects : List ℕ → ℕ → Option ℕ → (Option ℕ → Result ℕ Rejection → Type 0) → BookData ℕ ℕ → Rejection
+    → Type 0
+Rejects tenant number most P l = RejectsIn (λ h. RejectsThen (P (bytes_at number h))
+    (RejectsEntry (total_of l) most (sum_of h.entries) h.limit (bytes_at number h))) (account_of tenant l)

@@ -220,12 +220,15 @@ impl<K: Ord + Drop, E: Billed<K>> Book<K, E> {
 
     /// Removes the tenant's entry under the key, and returns it with its key. If there is none, it returns None and
     /// nothing changes.
-    #[tactic(auto, using(crate::proofs::Accounts::account_sums))]
+    #[tactic(auto, using(crate::proofs::Accounts::accounts))]
     pub(crate) fn take(&mut self, tenant: &str, key: &K) -> Option<(K, E)>
+        // The key and the entry that were there are returned.
         ensures key { option_map (λ e. e.0) result
             ≡ option_and_then (λ h. lookup_key (is_at (K.cmp key.now)) h.entries) (account_of tenant.now self.old) }
         ensures entry { option_map (λ e. e.1) result
             ≡ option_and_then (λ h. lookup (is_at (K.cmp key.now)) h.entries) (account_of tenant.now self.old) }
+
+        // The entry is gone, and nothing else changed. The sums are less by its bytes.
         ensures taken { OnSome result
             (MapsAccount tenant.now (without_entry (is_at (K.cmp key.now))) self.old self.new) }
         ensures unchanged { IfNone result (self.new ≡ self.old) }

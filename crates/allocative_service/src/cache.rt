@@ -21,8 +21,9 @@ use std::alloc::{AllocError, AllocFailed, Global};
 use std::hash::{BuildHasher, BuildHasherDefault, FoldHasher, Hash};
 use std::marker::Model;
 
-/// A map whose keys and values have together at most as many declared bytes as its bound. When a new value needs room, the
-/// least recently used values are evicted, and each of them is handed back to the caller. `S` makes the hashers of keys.
+/// A map whose keys and values have together at most as many declared bytes as its bound. When a new value needs room,
+/// the least recently used values are evicted, and each of them is handed back to the caller. `S` makes the hashers of
+/// keys.
 #[derive(Drop)]
 pub struct BoundedCache<
     K: Eq + Hash + Allocative + Described,
@@ -58,12 +59,18 @@ pub(crate) fn put<K: Eq + Hash + Drop, V: Drop, S: BuildHasher + Drop>(
     kept: Kept<V>,
 ) -> Result<(Option<V>, usize), AllocFailed<(K, Kept<V>)>>
     requires { entries.old.cap ≡ 2 ^ 64 - 1 }
+
+    // The pair is first, without the entry that it replaces. That has the bytes that are returned.
     ensures first { OnOk result (entries.new.entries
         ≡ (stored_key K.eq key entries.old.entries, kept) ∷ remove_entry (K.eq key) entries.old.entries) }
     ensures had { IfOk result (λ had. had.0 ≡ value_at (K.eq key) entries.old.entries) }
     ensures bytes { IfOk result (λ had.
         bytes_of (remove_entry (K.eq key) entries.old.entries) + had.1 ≡ bytes_of entries.old.entries) }
+
+    // The capacity stays.
     ensures capacity { entries.new.cap ≡ entries.old.cap }
+
+    // An error hands both back, and nothing changed.
     ensures returned { IfErr result (λ failed. failed.value ≡ (key, kept)) }
     ensures err { OnErr result (entries.new ≡ entries.old) }
 {
@@ -86,10 +93,14 @@ fn evict<K: Eq + Hash, V: Drop, S: BuildHasher, F: FnMut(K, V)>(
 ) -> usize
     requires callable { F.IsAlwaysCallable on_evict }
     requires bytes { bytes ≡ bytes_of entries.old.entries }
+
+    // The most recently used stay, no fewer than there is room for, and their bytes are returned.
     ensures recent { KeepsRecent (step_of F.step)
         on_evict room entries.old.entries entries.new.entries }
     ensures bytes { result ≡ bytes_of entries.new.entries }
     ensures fits { result ≤ room }
+
+    // The capacity stays.
     ensures capacity { entries.new.cap ≡ entries.old.cap }
 {
     let mut left = bytes;
@@ -139,8 +150,8 @@ impl<
         })
     }
 
-    /// The bytes that are billed for the key itself. A key that the cache has keeps its bytes, and another is measured. The
-    /// error is that of `Measure::size_of`.
+    /// The bytes that are billed for the key itself. A key that the cache has keeps its bytes, and another is measured.
+    /// The error is that of `Measure::size_of`.
     fn key_bytes(&self, key: &K) -> Result<usize, Refusal>
         ensures key { IfOk result (Declares self.now.measure K.layout.size
             (K.may_show (stored_key K.eq key.now self.now.entries))) }
@@ -153,8 +164,8 @@ impl<
         }
     }
 
-    /// The bytes of the key alone, and those of the key and the value, if these are within the bound. The errors are those
-    /// of `insert` but `Memory`.
+    /// The bytes of the key alone, and those of the key and the value, if these are within the bound. The errors are
+    /// those of `insert` but `Memory`.
     fn bill(&self, key: &K, value: &V) -> Result<(usize, usize), CacheError>
         ensures bill { IfOk result (λ bill. IsBill K.layout.size K.may_show V.layout.size V.may_show self.now.measure
             (stored_key K.eq key.now self.now.entries) value.now bill.0 bill.1) }
@@ -174,13 +185,13 @@ impl<
         Ok((key_bytes, bytes))
     }
 
-    /// Measures the key and the value, and inserts the value under the key, as the most recently used. It returns the value that was there
-    /// before. Of the others the least recently used are evicted, no more than necessary. Each is passed to `on_evict`
-    /// with its key, the least recently used first.
+    /// Measures the key and the value, and inserts the value under the key, as the most recently used. It returns the
+    /// value that was there before. Of the others the least recently used are evicted, no more than necessary. Each is
+    /// passed to `on_evict` with its key, the least recently used first.
     ///
-    /// The error is `NotMeasured` if `Measure::size_of` returns an error or the bytes of both fit no word, `TooLarge` if
-    /// the key and the value alone exceed the bound, and `Memory` if they are within the bound and memory runs out. The
-    /// key and the value come with the error, and the cache is unchanged.
+    /// The error is `NotMeasured` if `Measure::size_of` returns an error or the bytes of both fit no word, `TooLarge`
+    /// if the key and the value alone exceed the bound, and `Memory` if they are within the bound and memory runs out.
+    /// The key and the value come with the error, and the cache is unchanged.
     pub fn insert<F: FnMut(K, V)>(
         &mut self,
         key: K,
@@ -188,14 +199,21 @@ impl<
         on_evict: F,
     ) -> Result<Option<V>, Refused<K, V>>
         requires { F.IsAlwaysCallable on_evict }
+
+        // The value is inserted and billed with its key, and the value before it is returned.
         ensures ok { OnOk result
-            (Inserts K.layout.size K.may_show V.layout.size V.may_show K.eq (step_of F.step) on_evict key value self.old self.new) }
+            (Inserts K.layout.size K.may_show V.layout.size V.may_show K.eq (step_of F.step) on_evict key value self.old
+            self.new) }
         ensures had { IfOk result (λ had. had ≡ value_at (K.eq key) self.old.entries) }
+
+        // A refusal has its cause and hands both back, and nothing changed.
         ensures refused { IfErr result
-            (λ r. RefusesInsert K.layout.size K.may_show V.layout.size V.may_show K.is_strict V.is_strict K.eq key value self.old
-            r.error) }
+            (λ r. RefusesInsert K.layout.size K.may_show V.layout.size V.may_show K.is_strict V.is_strict K.eq key value
+            self.old r.error) }
         ensures returned { IfErr result (λ r. (r.key ≡ key) × (r.value ≡ value)) }
         ensures err { OnErr result (self.new ≡ self.old) }
+
+        // The cache is within its bound.
         ensures bounded { IsBounded K.layout.size K.may_show V.layout.size V.may_show self.new }
     {
         let (key_bytes, bytes) = match self.bill(&key, &value) {
@@ -268,13 +286,20 @@ impl<
     ) -> Result<bool, Refused<K, V>>
         requires changes { C.IsAlwaysCallable change }
         requires callable { F.IsAlwaysCallable on_evict }
+
+        // The changed value is measured again and inserted. Without one nothing changed.
         ensures ok { IfOk result (λ there. MatchBool there
             (Changes K.layout.size K.may_show V.layout.size V.may_show K.eq (step_of F.step) on_evict (K.eq key.now)
             (ChangesTo C.FnOnce change) self.old self.new)
             ((lookup_entry (K.eq key.now) self.old.entries ≡ None) × (self.new ≡ self.old))) }
+
+        // A refusal hands the key and the changed value back, and they are gone.
         ensures refused { IfErr result
-            (RefusesChange K.layout.size K.may_show V.layout.size V.may_show K.is_strict V.is_strict K.eq (K.eq key.now) (ChangesTo C.FnOnce change) self.old) }
+            (RefusesChange K.layout.size K.may_show V.layout.size V.may_show K.is_strict V.is_strict K.eq (K.eq key.now)
+            (ChangesTo C.FnOnce change) self.old) }
         ensures err { OnErr result (self.new ≡ without (K.eq key.now) self.old) }
+
+        // The cache is within its bound.
         ensures bounded { IsBounded K.layout.size K.may_show V.layout.size V.may_show self.new }
     {
         let Some((key, mut value)) = self.remove(key) else {
@@ -291,7 +316,8 @@ impl<
     pub fn get(&mut self, key: &K) -> Option<&V>
         ensures* order { sem 𝓛 (ends_as
             (the_row K.row V.row S.row S.Hasher.row (record {}) (record { eq = K.eq })
-            (record { hash_input = K.hash_input }) K.Allocative K.Described V.Allocative V.Described S.BuildHasher S.Hasher.Hasher) self.entry (used (K.eq key.now) self.old)) }
+            (record { hash_input = K.hash_input }) K.Allocative K.Described V.Allocative V.Described S.BuildHasher
+            S.Hasher.Hasher) self.entry (used (K.eq key.now) self.old)) }
         ensures value { option_copied result ≡ value_at (K.eq key.now) self.old.entries }
     {
         let kept = self.entries.get(key)?;

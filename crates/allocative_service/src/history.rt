@@ -81,13 +81,18 @@ impl History {
         alloc: Global,
         profile: FlameGraph,
     ) -> Result<Option<Vec<Change>>, Refusal>
+        // The profile is kept, and the changes are those since the one before.
         ensures changes { IfOk result (λ found. option_map (λ changes. data_of changes.items) found
             ≡ option_map (λ earlier. changes_of earlier profile) (latest_of self.old)) }
         ensures kept { OnOk result (KeepsProfile profile self.old self.new) }
+
+        // Why there is an error, after which the profiles are as they were.
         ensures too_large { IsErrOf result Refusal.TooLarge
             ↔ IsSomeAnd (latest_of self.old) (λ earlier. ExceedWord earlier profile) }
         ensures never_open { ¬ (IsErrOf result Refusal.Open) }
         ensures unchanged { OnErr result (profiles_of self.new ≡ profiles_of self.old) }
+
+        // The number of profiles that it may keep stays.
         ensures most { most_of self.new ≡ most_of self.old }
     {
         let changes = match self.latest() {

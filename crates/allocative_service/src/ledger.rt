@@ -1,9 +1,9 @@
 //! A ledger: the bytes of each tenant's values, by number.
 ghost use Rattle.std.specs.Prelude.{◌≡◌, ℕ, ◌+◌, ◌^◌, ◌<◌, ◌≤◌, [], Some, None, Ok, Err, IfOk, IfErr, IfSome, IfNone, IsSomeAnd, MatchOption, OnErr, unwrap_or};
 ghost use Rattle.allocative_service.specs.Book.{account_of, StandsAt};
-ghost use Rattle.allocative_service.specs.Ledger.{bytes_at, entry_of, sum_of, total_of, Enters, RejectsChange, RejectsCredit, RejectsGrowth, RejectsMeasured, RejectsNew, RejectsNewBytes, RejectsPut, Releases, Stores};
+ghost use Rattle.allocative_service.specs.Ledger.{bytes_at, entry_of, total_of, Adds, Enters, IsNew, IsThere, Rejects, Releases, Stores};
 ghost use Rattle.allocative_service.specs.Measured.{Declares, Measures};
-ghost use Rattle.allocative_service.specs.Rejected.{RejectsBy, RejectsIn};
+ghost use Rattle.allocative_service.specs.Rejected.{RejectsIn};
 
 mod account;
 
@@ -40,16 +40,14 @@ impl Ledger {
         ensures admitted { IfOk result
             (λ total. (bytes : ℕ) × Declares self.old.measure T.layout.size (T.may_show value.now) bytes
             × Enters tenant.now number bytes None self.old self.new total) }
-        ensures rejected { IfErr result (RejectsIn
-            (RejectsNew number (RejectsMeasured self.old.measure T.is_strict T.layout.size (T.may_show value.now)
-            (RejectsNewBytes self.old))) (account_of tenant.now self.old)) }
+        ensures rejected { IfErr result (Rejects tenant.now number (Some self.old.limit)
+            (IsNew number (Measures self.old.measure T.is_strict T.layout.size (T.may_show value.now))) self.old) }
         ensures unchanged { OnErr result (self.new ≡ self.old) }
     {
         let (measure, alloc) = (self.measure, self.alloc);
         let bytes_of = |had|
-            ensures { MatchOption had
-                (Measures measure T.is_strict T.layout.size (T.may_show value.entry.now) result)
-                (λ _. result ≡ Err (Rejection.Taken number)) }
+            ensures { IsNew number (Measures measure T.is_strict T.layout.size (T.may_show value.entry.now)) had
+                result }
         {
             match had {
                 None => Ok(measure.size_of(alloc, value)?),
@@ -76,36 +74,34 @@ impl Ledger {
             (λ total. (bytes : ℕ) × (had : ℕ) × Declares self.old.measure T.layout.size (T.may_show value.now)
             bytes
             × Enters tenant.now number bytes (Some had) self.old self.new total) }
-        ensures rejected { IfErr result (RejectsIn
-            (RejectsChange number (λ had. RejectsMeasured self.old.measure T.is_strict T.layout.size
-            (T.may_show value.now)
-            (RejectsPut self.old had))) (account_of tenant.now self.old)) }
+        ensures rejected { IfErr result (Rejects tenant.now number (Some self.old.limit)
+            (IsThere number (λ _. Measures self.old.measure T.is_strict T.layout.size (T.may_show value.now)))
+            self.old) }
         ensures unchanged { OnErr result (self.new ≡ self.old) }
     {
-        let (measure, alloc) = (self.measure, self.alloc);
+        let (measure, alloc, most) = (self.measure, self.alloc, self.limit);
         let bytes_of = |had|
-            ensures { MatchOption had
-                (result ≡ Err (Rejection.NotThere number))
-                (λ _. Measures measure T.is_strict T.layout.size (T.may_show value.entry.now) result) }
+            ensures { IsThere number (λ _. Measures measure T.is_strict T.layout.size (T.may_show value.entry.now)) had
+                result }
         {
             match had {
                 None => Err(Rejection::NotThere { number }),
                 Some(_) => Ok(measure.size_of(alloc, value)?),
             }
         };
-        let standing = self.put_with(tenant, number, Some(self.limit), bytes_of)?;
+        let standing = self.put_with(tenant, number, Some(most), bytes_of)?;
         Ok(standing.bytes)
     }
 
     /// Measures a value again after it has changed, replaces the bytes of the entry under the number, also beyond the
     /// limits, and returns the bytes of all entries of the tenant with what of them exceeds the limits.
     ///
-    /// While an account exceeds its limit, `admit`, `record` and `charge` enter nothing for it: they return `OverBudget`,
-    /// unless an earlier cause holds. While the ledger does, they return `LedgerFull` in the same way.
+    /// While an account exceeds its limit, `admit`, `record` and `charge` enter nothing for it: they return
+    /// `OverBudget`, unless an earlier cause holds. While the ledger does, they return `LedgerFull` in the same way.
     ///
-    /// The error is `NoAccount` if the tenant has no account, otherwise `NotThere` if the number has no entry, otherwise
-    /// `NotMeasured` if `Measure::size_of` returns an error, and otherwise `TooLarge` if the bytes of all accounts
-    /// together do not fit a word. After an error the ledger is unchanged.
+    /// The error is `NoAccount` if the tenant has no account, otherwise `NotThere` if the number has no entry,
+    /// otherwise `NotMeasured` if `Measure::size_of` returns an error, and otherwise `TooLarge` if the bytes of all
+    /// accounts together do not fit a word. After an error the ledger is unchanged.
     pub fn enter_growth<T: Allocative + Described>(
         &mut self,
         tenant: &str,
@@ -116,17 +112,15 @@ impl Ledger {
             (λ s. (bytes : ℕ) × (had : ℕ) × Declares self.old.measure T.layout.size (T.may_show value.now) bytes
             × Stores tenant.now number bytes (Some had) self.old self.new s.bytes) }
         ensures standing { IfOk result (StandsAt (λ n. n) tenant.now self.new) }
-        ensures rejected { IfErr result (RejectsIn
-            (RejectsChange number (λ had. RejectsMeasured self.old.measure T.is_strict T.layout.size
-            (T.may_show value.now)
-            (RejectsGrowth self.old had))) (account_of tenant.now self.old)) }
+        ensures rejected { IfErr result (Rejects tenant.now number None
+            (IsThere number (λ _. Measures self.old.measure T.is_strict T.layout.size (T.may_show value.now)))
+            self.old) }
         ensures unchanged { OnErr result (self.new ≡ self.old) }
     {
         let (measure, alloc) = (self.measure, self.alloc);
         let bytes_of = |had|
-            ensures { MatchOption had
-                (result ≡ Err (Rejection.NotThere number))
-                (λ _. Measures measure T.is_strict T.layout.size (T.may_show value.entry.now) result) }
+            ensures { IsThere number (λ _. Measures measure T.is_strict T.layout.size (T.may_show value.entry.now)) had
+                result }
         {
             match had {
                 None => Err(Rejection::NotThere { number }),
@@ -137,12 +131,12 @@ impl Ledger {
     }
 
     /// Adds an entry with bytes that the caller knows for the tenant, under a number that has none, and returns the
-    /// bytes of all entries of the tenant. Nothing is measured. The errors are those of `admit` but `NotMeasured`. After
-    /// an error the ledger is unchanged.
+    /// bytes of all entries of the tenant. Nothing is measured. The errors are those of `admit` but `NotMeasured`.
+    /// After an error the ledger is unchanged.
     pub fn record(&mut self, tenant: &str, number: u64, bytes: usize) -> Result<usize, Rejection>
         ensures recorded { IfOk result (Enters tenant.now number bytes None self.old self.new) }
         ensures rejected { IfErr result
-            (RejectsIn (RejectsNew number (RejectsNewBytes self.old bytes)) (account_of tenant.now self.old)) }
+            (Rejects tenant.now number (Some self.old.limit) (IsNew number (λ given. given ≡ Ok bytes)) self.old) }
         ensures unchanged { OnErr result (self.new ≡ self.old) }
     {
         let standing = self.put_with(tenant, number, Some(self.limit), |had| match had {
@@ -152,21 +146,25 @@ impl Ledger {
         Ok(standing.bytes)
     }
 
-    /// Adds so many bytes to the tenant's entry under the number, for a value that has grown by as many, and returns the
-    /// bytes of all entries of the tenant. Nothing is measured. The errors are those of `measure_again` but
+    /// Adds so many bytes to the tenant's entry under the number, for a value that has grown by as many, and returns
+    /// the bytes of all entries of the tenant. Nothing is measured. The errors are those of `measure_again` but
     /// `NotMeasured`. After an error the ledger is unchanged.
     pub fn charge(&mut self, tenant: &str, number: u64, more: usize) -> Result<usize, Rejection>
         ensures charged { IfOk result
             (λ total. (had : ℕ) × Enters tenant.now number (had + more) (Some had) self.old self.new total) }
-        ensures rejected { IfErr result
-            (RejectsIn (RejectsChange number (λ had. RejectsPut self.old had (had + more)))
-            (account_of tenant.now self.old)) }
+        ensures rejected { IfErr result (Rejects tenant.now number (Some self.old.limit)
+            (IsThere number (Adds more)) self.old) }
         ensures unchanged { OnErr result (self.new ≡ self.old) }
     {
-        let standing = self.put_with(tenant, number, Some(self.limit), |had| match had {
-            None => Err(Rejection::NotThere { number }),
-            Some(had) => had.checked_add(more).ok_or(Rejection::TooLarge),
-        })?;
+        let bytes_of = |had: Option<usize>|
+            ensures { IsThere number (Adds more) had result }
+        {
+            match had {
+                None => Err(Rejection::NotThere { number }),
+                Some(had) => had.checked_add(more).ok_or(Rejection::TooLarge),
+            }
+        };
+        let standing = self.put_with(tenant, number, Some(self.limit), bytes_of)?;
         Ok(standing.bytes)
     }
 
@@ -178,8 +176,9 @@ impl Ledger {
     pub fn credit(&mut self, tenant: &str, number: u64, less: usize) -> Result<usize, Rejection>
         ensures credited { IfOk result (λ total. (had : ℕ) × (bytes : ℕ) × (bytes + less ≡ had)
             × Stores tenant.now number bytes (Some had) self.old self.new total) }
-        ensures rejected { IfErr result
-            (RejectsIn (RejectsChange number (RejectsCredit less)) (account_of tenant.now self.old)) }
+        ensures rejected { IfErr result (RejectsIn (λ h r. IsThere number
+            (λ had credited. (credited ≡ Err (Rejection.OverCredit had less)) × (had < less)) (bytes_at number h)
+            (Err r)) (account_of tenant.now self.old)) }
         ensures unchanged { OnErr result (self.new ≡ self.old) }
     {
         let standing = self.put_with(tenant, number, None, |entry| match entry {
@@ -207,7 +206,7 @@ impl Ledger {
     ///
     /// The error is `NoAccount` if the tenant has no account, and otherwise that of `Account::put_with`. After an error
     /// the ledger is unchanged.
-    #[tactic(auto, using(crate::proofs::Accounts::account_sums))]
+    #[tactic(auto, using(crate::proofs::Accounts::accounts))]
     fn put_with<F: FnOnce(Option<usize>) -> Result<usize, Rejection>>(
         &mut self,
         tenant: &str,
@@ -216,16 +215,20 @@ impl Ledger {
         bytes_of: F,
     ) -> Result<Standing, Rejection>
         requires { F.IsAlwaysCallable bytes_of }
+
+        // The number has the bytes that `bytes_of` made, within the limits that count, and nothing else changed.
         ensures stored { IfOk result (λ s. (bytes : ℕ)
             × F.post bytes_of (entry_of tenant.now number self.old) (Ok bytes)
             × Stores tenant.now number bytes (entry_of tenant.now number self.old) self.old self.new s.bytes
             × IfSome most (λ m. IsSomeAnd (account_of tenant.now self.old) (λ h. s.bytes ≤ h.limit)
             × (total_of self.new ≤ m))) }
         ensures standing { IfOk result (StandsAt (λ n. n) tenant.now self.new) }
-        ensures part { unwrap_or (entry_of tenant.now number self.old) 0 ≤ total_of self.old }
+
+        // The bytes of all accounts fit a word.
         ensures fits { total_of self.old < 2 ^ 64 }
-        ensures rejected { IfErr result (RejectsIn (λ h. RejectsBy (total_of self.old) most (F.post bytes_of)
-            (bytes_at number h) (sum_of h.entries) h.limit) (account_of tenant.now self.old)) }
+
+        // An error has the first cause that holds, and nothing changed.
+        ensures rejected { IfErr result (Rejects tenant.now number most (F.post bytes_of) self.old) }
         ensures unchanged { OnErr result (self.new ≡ self.old) }
     {
         let Some(account) = self.accounts.get_mut(tenant) else {

@@ -1,5 +1,6 @@
 //! What is counted of a value.
-ghost use Rattle.std.specs.Prelude.{IfOk, IfErr};
+ghost use Rattle.std.specs.Prelude.{◌≡◌, ℕ, ◌+◌, IfOk, IfErr, Some, String, string_capacity};
+ghost use Rattle.std.specs.Global.{Global};
 ghost use Rattle.allocative_service.specs.Measured.{Declares, MayRefuseMeasure, AnswersMeasure};
 
 use allocative::{Allocative, Described, Refusal, size_of_owned, size_of_shown, size_of_unique};
@@ -40,3 +41,12 @@ impl Measure {
         }
     }
 }
+
+/// A law for proofs of callers: by `Owned`, and by `Unique`, a text declares 24 bytes and its capacity.
+#[tactic(auto, using(crate::proofs::Texts::texts))]
+pub fn text_bytes_law()
+    ensures owned { (text : String Global) → (bytes : ℕ) → Declares Measure.Owned (Some 24)
+        (⟦<String as Allocative>⟧.may_show text) bytes → bytes ≡ 24 + string_capacity text }
+    ensures unique { (text : String Global) → (bytes : ℕ) → Declares Measure.Unique (Some 24)
+        (⟦<String as Allocative>⟧.may_show text) bytes → bytes ≡ 24 + string_capacity text }
+{}

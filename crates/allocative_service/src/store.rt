@@ -42,12 +42,15 @@ impl<K: Ord + Allocative + Described, V: Allocative + Described> Store<K, V> {
     /// - otherwise `NotKept` if memory runs out.
     ///
     /// The key and the value come with the error, and the store is unchanged.
-    #[tactic(auto, using(crate::proofs::Accounts::account_sums))]
+    #[tactic(auto, using(crate::proofs::Accounts::accounts))]
     pub fn put(&mut self, tenant: &str, key: K, value: V) -> Result<Option<V>, NotKept<K, V>>
+        // The value is kept and billed with its key, and no other entry changed.
         ensures ok { OnOk result (Replaces tenant.now (PutsOnShelf K.layout.size K.may_show V.layout.size V.may_show
             K.cmp (all_billed kept_bytes self.old.accounts) self.old.limit key value) self.old self.new) }
         ensures had { IfOk result
             (λ had. had ≡ option_and_then (value_at (is_at (K.cmp key))) (account_of tenant.now self.old)) }
+
+        // A refusal has the first cause that holds and hands both back, and nothing changed.
         ensures refused { IfErr result (λ r. RejectsIn (RefusesPut K.layout.size K.may_show V.layout.size V.may_show
             K.is_strict V.is_strict K.cmp (all_billed kept_bytes self.old.accounts) self.old.limit key value)
             (account_of tenant.now self.old) r.error) }
@@ -74,7 +77,7 @@ impl<K: Ord + Allocative + Described, V: Allocative + Described> Store<K, V> {
     /// The error is `NotMeasured` if `Measure::size_of` returns an error, and otherwise `TooLarge` if the bytes of all
     /// accounts together do not fit a word. After an error the key and the value are no longer in the store, and come
     /// with the error.
-    #[tactic(auto, using(crate::proofs::Accounts::account_sums))]
+    #[tactic(auto, using(crate::proofs::Accounts::accounts))]
     pub fn change<C: FnOnce(&mut V)>(
         &mut self,
         tenant: &str,
@@ -82,15 +85,21 @@ impl<K: Ord + Allocative + Described, V: Allocative + Described> Store<K, V> {
         change: C,
     ) -> Result<Option<Standing>, NotKept<K, V>>
         requires { C.IsAlwaysCallable change }
+
+        // The changed value is measured again and entered, and the standing is that after it.
         ensures changed { IfOk result (λ there. OnSome there (Replaces tenant.now (KeepsChanged V.layout.size V.may_show
             (is_at (K.cmp key.now)) (ChangesTo C.FnOnce change)) self.old self.new)) }
         ensures standing { IfOk result (λ there. IfSome there (StandsAt kept_bytes tenant.now self.new)) }
+
+        // None is returned if there is no such value, and nothing changed.
         ensures none { IfOk result (λ there. IfNone there
             ((option_and_then (λ h. lookup (is_at (K.cmp key.now)) h.entries) (account_of tenant.now self.old) ≡ None)
             × (self.new ≡ self.old))) }
+
+        // A refusal hands the key and the changed value back, and they are gone.
         ensures refused { IfErr result (λ r. MatchOption (account_of tenant.now self.old) ⊥
-            (λ h. RefusesChanged V.layout.size V.may_show V.is_strict (is_at (K.cmp key.now)) (ChangesTo C.FnOnce change)
-            (all_billed kept_bytes self.old.accounts) h r)) }
+            (λ h. RefusesChanged V.layout.size V.may_show V.is_strict (is_at (K.cmp key.now))
+            (ChangesTo C.FnOnce change) (all_billed kept_bytes self.old.accounts) h r)) }
         ensures err { OnErr result
             (MapsAccount tenant.now (without_entry (is_at (K.cmp key.now))) self.old self.new) }
     {

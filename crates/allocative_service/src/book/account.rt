@@ -84,9 +84,12 @@ impl<K: Ord + Drop, E: Billed<K>> Account<K, E> {
     /// Replaces the limit. The error is `OverBudget` exactly if the bytes of all entries exceed the new one, and then
     /// the account is unchanged.
     pub fn set_budget(&mut self, budget: Budget) -> Result<(), Rejection>
+        // The bytes of all entries are within the new limit, and nothing else changed.
         ensures set { OnOk result (self.new ≡ with_limit budget.limit self.old) }
         ensures entries { self.new.entries ≡ self.old.entries }
         ensures within { OnOk result (billed_sum E.billed self.old.entries ≤ budget.limit) }
+
+        // A rejection says by how much they exceed it, and nothing changed.
         ensures rejected { IfErr result (IsOverBudget (billed_sum E.billed self.old.entries) budget.limit) }
         ensures unchanged { OnErr result (self.new ≡ self.old) }
     {
@@ -177,8 +180,11 @@ impl<K: Ord + Drop, E: Billed<K>> Account<K, E> {
     /// changes. The peak stays.
     #[tactic(auto, using(crate::proofs::Billing::removing))]
     pub fn remove(&mut self, key: &K) -> Option<(K, E)>
+        // The key and the entry that were there are returned.
         ensures key { option_map (λ e. e.0) result ≡ lookup_key (is_at (K.cmp key.now)) self.old.entries }
         ensures entry { option_map (λ e. e.1) result ≡ lookup (is_at (K.cmp key.now)) self.old.entries }
+
+        // The entry is gone, and nothing else changed. The sum is less by its bytes.
         ensures without { self.new ≡ without_entry (is_at (K.cmp key.now)) self.old }
         ensures unchanged { IfNone result (self.new ≡ self.old) }
         ensures sum { billed_sum E.billed self.new.entries

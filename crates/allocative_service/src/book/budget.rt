@@ -1,7 +1,7 @@
 //! A limit in bytes and the check against it.
 ghost use Rattle.std.specs.Prelude.{◌≡◌, ◌^◌, ◌<◌, ◌≤◌, IfOk, IfErr, OnOk};
-ghost use Rattle.allocative_service.specs.Measured.{Declares};
-ghost use Rattle.allocative_service.specs.Rejected.{HasRoom, IsOverBudget, RejectsRoom, RejectsValue};
+ghost use Rattle.allocative_service.specs.Measured.{Declares, Measures};
+ghost use Rattle.allocative_service.specs.Rejected.{HasRoom, IsOverBudget, RejectsRoom, RejectsThen};
 
 use crate::book::rejection::Rejection;
 use crate::measure::Measure;
@@ -79,7 +79,8 @@ impl Budget {
         ensures admitted { IfOk result
             (λ bytes. Declares measure T.layout.size (T.may_show value.now) bytes × (bytes ≤ self.now.limit)) }
         ensures rejected { IfErr result
-            (RejectsValue measure T.is_strict T.layout.size (T.may_show value.now) self.now.limit) }
+            (RejectsThen (Measures measure T.is_strict T.layout.size (T.may_show value.now))
+            (λ bytes. IsOverBudget bytes self.now.limit)) }
     {
         self.check(measure.size_of(alloc, value)?)
     }

@@ -42,7 +42,8 @@ pub enum Rejection {
 
 impl Rejection {
     /// Whether the caller asked for more than a limit allows: `OverBudget` or `LedgerFull`. `TooLarge`, `NotKept` and
-    /// `NotMeasured` are failures of the service itself, and the others say that the request does not fit what there is.
+    /// `NotMeasured` are failures of the service itself, and the others say that the request does not fit what there
+    /// is.
     pub fn is_limit(self) -> bool
         ensures { result ≡ is_limit self }
     {

@@ -40,8 +40,8 @@ impl<
     ghost may_show = { λ c. shows.Field (codes "BoundedCache") ⟦<BoundedCache<K, V, S> as Described>⟧.layout.size
         (shows.Field (codes "entries") ⟦<LruCache<K, Kept<V>, S> as Described>⟧.layout.size
         (shows.Field (codes "LruCache") ⟦<LruCache<K, Kept<V>, S> as Described>⟧.layout.size
-        (lru_cache_inside K.layout.size K.may_show ⟦<Kept<V> as Described>⟧.layout.size ⟦<Kept<V> as Allocative>⟧.may_show
-        c.entries))) };
+        (lru_cache_inside K.layout.size K.may_show ⟦<Kept<V> as Described>⟧.layout.size
+        ⟦<Kept<V> as Allocative>⟧.may_show c.entries))) };
 
     ghost is_strict = { K.is_strict && V.is_strict };
 

@@ -46,8 +46,8 @@ impl Change {
 }
 
 /// The changes from one profile to another: exactly the paths whose bytes differ, each with its bytes in both, in the
-/// order of paths. A change holds its whole path, so the changes of a chain take the square of its depth; `change_picture`
-/// of the crate `allocative_picture` needs no list.
+/// order of paths. A change holds its whole path, so the changes of a chain take the square of its depth;
+/// `change_picture` of the crate `allocative_picture` needs no list.
 ///
 /// It returns `TooLarge` exactly if the two totals together exceed `usize::MAX`. The totals of two finished profiles
 /// never do. The only other error is that memory runs out.
@@ -92,8 +92,8 @@ pub fn by_growth(alloc: Global, changes: &[Change]) -> Result<Vec<Change>, Alloc
 
 /// The changes, or only those that grew, by growth, the greatest first.
 fn sorted(alloc: Global, changes: &[Change], only_grown: bool) -> Result<Vec<Change>, AllocError>
-    ensures { IfOk result (λ list.
-        IsByGrowth (cond only_grown (filter is_grown (data_of changes.now)) (data_of changes.now)) (data_of list.items)) }
+    ensures { IfOk result (λ list. IsByGrowth
+        (cond only_grown (filter is_grown (data_of changes.now)) (data_of changes.now)) (data_of list.items)) }
 {
     let mut list = Vec::new(alloc);
     for change in changes {

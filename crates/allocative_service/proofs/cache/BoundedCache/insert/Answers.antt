@@ -5,14 +5,20 @@ use Rattle.allocative_service.proofs.cache.BoundedCache.insert.Goals as goal
 
 -- A value that is put first, before others are evicted, is inserted.
 pub returns-in-Ok-put-clause-ok : goal.returns-in-Ok-put-clause-ok
-returns-in-Ok-put-clause-ok g c = rw (← c.self.view_is) (insertion _ _ _ refl (rw (← c.self.view_is) at c.in-Ok.ensures.bill)
-    (rw (← c.self.view_is) at c.in-Ok.ensures.within) c.in-Ok-put.ensures.first c.evict-self-inside.ensures.recent (omega arith))
+returns-in-Ok-put-clause-ok g c =
+    let bill = rw (← c.self.view_is) at c.in-Ok.ensures.bill in
+    let within = rw (← c.self.view_is) at c.in-Ok.ensures.within in
+    let recent = c.evict-self-inside.ensures.recent in
+    rw (← c.self.view_is) (insertion _ _ _ refl bill within c.in-Ok-put.ensures.first recent (omega arith))
 
 -- The cache is within its bound after an insertion.
 pub invariant_of-self : goal.invariant_of-self
 invariant_of-self g c =
-    let made = rw (← c.self.view_is) at (returns-in-Ok-put-clause-ok g c) in
-    (omega (arith, c.evict-self-inside.ensures.capacity, c.put.ensures.capacity, c.self.invariant.0), c.evict-self-inside.ensures.bytes, Inserts-bounded made c.self.invariant.2)
+    let made = rw (← c.self.view_is) at (returns-in-Ok-put-clause-ok g c) in (
+      omega (arith, c.evict-self-inside.ensures.capacity, c.put.ensures.capacity, c.self.invariant.0),
+      c.evict-self-inside.ensures.bytes,
+      Inserts-bounded made c.self.invariant.2,
+    )
 
 -- The values are within the bound after an insertion.
 pub returns-in-Ok-put-clause-bounded : goal.returns-in-Ok-put-clause-bounded

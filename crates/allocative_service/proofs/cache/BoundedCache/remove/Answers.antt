@@ -1,27 +1,19 @@
 -- The sum of the bytes is less by those of the removed entry.
-use Rattle.std.proofs.Common.{arith, rules}
-use Rattle.allocative_service.proofs.Inserting.{none_removed, without-kept}
+use Rattle.std.proofs.Common.{arith}
+use Rattle.allocative_service.proofs.Inserting.{without-kept}
 use Rattle.allocative_service.proofs.Using.{bytes_of-taken}
 use Rattle.allocative_service.proofs.cache.BoundedCache.remove.Goals as goal
-
-pub overflow_sub-self : goal.overflow_sub-self
-overflow_sub-self g c = search (rules, bytes_of-taken)
-
-pub invariant_of-self : goal.invariant_of-self
-invariant_of-self g c = search (rules, none_removed)
-
-pub returns-in_err-key-clause-others : goal.returns-in_err-key-clause-others
-returns-in_err-key-clause-others g c = search (rules, none_removed)
-
-pub returns-in_err-key-clause-unchanged : goal.returns-in_err-key-clause-unchanged
-returns-in_err-key-clause-unchanged g c = search (rules, none_removed)
 
 -- The cache is within its bound after a removal.
 pub invariant_of-self-2 : goal.invariant_of-self-2
 invariant_of-self-2 g c =
     let s = bytes_of-taken (g.K.PartialEq.eq c.args.key.now) c.self.inside.entries.entries
     (c.in_ok-key.key, c.in_ok-key.kept) c.in_ok-key.ensures.value in
-    rw c.pop_entry.ensures.entries (c.self.invariant.0, omega (arith, s, c.self.invariant.1), without-kept _ c.self.invariant.2)
+    rw c.pop_entry.ensures.entries (
+      c.self.invariant.0,
+      omega (arith, s, c.self.invariant.1),
+      without-kept _ c.self.invariant.2,
+    )
 
 -- The values are within the bound after a removal.
 pub returns-clause-bounded : goal.returns-clause-bounded

@@ -11,9 +11,13 @@ use Rattle.allocative_service.proofs.history.changes.compare.Goals as goal
 -- The walk finds the changes of all paths.
 pub returns-clause-ordered : goal.returns-clause-ordered
 returns-clause-ordered c =
+    let g = c.args.earlier.now in
+    let h = c.args.later.now in
     c.in_ok-push_changes.ensures.changes
-    ∙ (λ i. map change_data (c.new-changes.ensures.items i) ++ changes_behind (size_at c.args.earlier.now) (size_at c.args.later.now) (texts (c.new-path.ensures.items i)) (entries (sum_of c.args.earlier.now c.args.later.now)))
-    ∙ sym (flat_map-map (change_of c.args.earlier.now c.args.later.now) (λ (e : Path × ℕ). e.0) _)
+    ∙ (λ i. map change_data (c.new-changes.ensures.items i)
+    ++ changes_behind (size_at g) (size_at h) (texts (c.new-path.ensures.items i)) (entries (sum_of g h)))
+    ∙ sym (flat_map-map (change_of g h) (λ (e : Path × ℕ). e.0) _)
 
 pub returns-clause-each : goal.returns-clause-each
-returns-clause-each c = subst (HasEach _ _) (sym (returns-clause-ordered c)) (has_each c.args.earlier.now c.args.later.now)
+returns-clause-each c =
+    subst (HasEach _ _) (sym (returns-clause-ordered c)) (has_each c.args.earlier.now c.args.later.now)

@@ -10,7 +10,8 @@ returns c =
     let l = c.loop-change in
     let all : take l.change-index c.args.changes.now ≡ c.args.changes.now =
     take_all l.change-index c.args.changes.now (omega arith) in
-    let is = l.invariant.copied ∙ ap (λ cs. cond c.args.only_grown (filter is_grown (map change_data cs)) (map change_data cs)) all in
+    let is = l.invariant.copied
+    ∙ ap (λ cs. cond c.args.only_grown (filter is_grown (map change_data cs)) (map change_data cs)) all in
     let moved = c.in_ok-sort_by_key.ensures.permutation in
     record {
       same = rw (← is) (IsPermutation-map change_data _ _ moved);

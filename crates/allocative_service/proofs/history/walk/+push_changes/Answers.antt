@@ -23,7 +23,8 @@ push_changes-requires t c =
     let s = step_at c.loop-key.invariant.walk c.in-Some.ensures.next in
     let before = ap len c.children-mine.ensures.whole ∙ rows_of_node _ _ c.children-mine.ensures.children in
     let after = ap len c.children-theirs.ensures.whole ∙ rows_of_node _ _ c.children-theirs.ensures.children in
-    (omega (arith, s.1.1.fewer, s.1.2.rows, s.1.3.rows, c.loop-key.invariant.fewer, c.decreases, before, after), c.requires)
+    let fewer = c.loop-key.invariant.fewer in
+    (omega (arith, s.1.1.fewer, s.1.2.rows, s.1.3.rows, fewer, c.decreases, before, after), c.requires)
 
 pub loop-key-preserved : goal.loop-key-preserved
 loop-key-preserved t c =
@@ -57,5 +58,6 @@ returns-clause-changes t c =
     let after : node (size_at h []) c.children-theirs.result.now ≡ h = sym c.children-theirs.ensures.whole in
     c.loop-key.invariant.changes ∙ ap (λ xs. xs ++ made) c.in_ok-push_change.ensures
     ∙ (λ i. (start ++ own (c.self_size.ensures i) (c.self_size-2.ensures i)) ++ made) ∙ append_assoc start _ made
-    ∙ ap (λ xs. start ++ xs) (walk_ends c.loop-key.invariant.walk (size_at g []) (size_at h []) c.children-mine.ensures.children c.children-theirs.ensures.children c.in_default.ensures.end
+    ∙ ap (λ xs. start ++ xs) (walk_ends c.loop-key.invariant.walk (size_at g []) (size_at h [])
+    c.children-mine.ensures.children c.children-theirs.ensures.children c.in_default.ensures.end
     ∙ (λ i. changes_behind (size_at (before i)) (size_at (after i)) ks (entries (sum_of (before i) (after i)))))

@@ -16,7 +16,8 @@ invariant-loop-key l = record {
   walk : Walks (map (λ k. k.now) l.initial.path.items) l.initial.mine l.initial.theirs made l.mine l.theirs;
   changes : map change_data l.changes.items ≡ map change_data l.initial.changes.items ++ made;
   path : l.path.items ≡ l.initial.path.items;
-  fewer : length (rows_of l.mine) + length (rows_of l.theirs) ≤ length (rows_of l.initial.mine) + length (rows_of l.initial.theirs);
+  fewer : length (rows_of l.mine) + length (rows_of l.theirs)
+      ≤ length (rows_of l.initial.mine) + length (rows_of l.initial.theirs);
 }
 
 abbrev pub decreases-loop-key : goal.decreases-loop-key

@@ -11,8 +11,8 @@ use Rattle.allocative_service.proofs.ledger.Ledger.release.Goals as goal
 -- The sum of an account is less by the bytes of the entry that is gone.
 released : (test : ℕ → Bool) (o : Option (AccountData ℕ ℕ)) (bytes : ℕ) (S : AccountData ℕ ℕ → Type 0) →
     Some bytes ≡ option_and_then (λ h. lookup test h.entries) o → IsSomeAnd o (λ h. S (without_entry test h)) →
-    IsSomeAnd o (λ h. (lookup test h.entries ≡ Some bytes) × (sum_of (remove_entry test h.entries) + bytes ≡ sum_of h.entries)
-    × S (without_entry test h))
+    IsSomeAnd o (λ h. (lookup test h.entries ≡ Some bytes)
+    × (sum_of (remove_entry test h.entries) + bytes ≡ sum_of h.entries) × S (without_entry test h))
 released test None bytes S is sets = absurd cc
 released test (Some h) bytes S is sets = (sym is, removed_sum (λ n. n) test h.entries bytes is, sets)
 

@@ -52,5 +52,13 @@ loop-key-preserved g c = rw map-append (elim c.in_default.branch [
       (omega (arith, c.bytes-bytes.ensures, w.if-bytes-most.false)) l)
   | in_default-via-in_default w ↦
       let l = rw w.in_default.is at c.loop-key.invariant in
-      rw l (record { before = []; entry = c.in-Some.entry.now; after = []; is = refl; has = search rules; fewer = All-nil _; no_more = All-nil _ })
+      rw l (record {
+        before = [];
+        entry = c.in-Some.entry.now;
+        after = [];
+        is = refl;
+        has = search rules;
+        fewer = All-nil _;
+        no_more = All-nil _;
+      })
 ])

@@ -13,7 +13,8 @@ overflow_sub-self g c = omega (
 
 pub invariant_of-self-2 : goal.invariant_of-self-2
 invariant_of-self-2 g c =
-    let sum = removed_sum g.E.Billed.billed _ c.self.inside.entries.entries c.in_ok-key.entry c.in_ok-key.ensures.value in
+    let es = c.self.inside.entries.entries in
+    let sum = removed_sum g.E.Billed.billed _ es c.in_ok-key.entry c.in_ok-key.ensures.value in
     rw c.in_ok-key.ensures.entries (
       omega (arith, sum, c.bytes.ensures, c.self.invariant.0),
       omega (arith, c.self.invariant.1),

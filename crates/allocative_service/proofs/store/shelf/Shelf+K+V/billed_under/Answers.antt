@@ -4,7 +4,8 @@ use Rattle.allocative_service.proofs.store.shelf.Shelf+K+V.billed_under.Goals as
 
 pub returns-in-Some-clause-part : goal.returns-in-Some-clause-part
 returns-in-Some-clause-part g c =
-    rw (← c.self.view_is) (found_within (λ e. e.bytes) _ c.self.inside.entries.entries c.in-Some.entry.now c.in-Some.ensures.value)
+    let es = c.self.inside.entries.entries in
+    rw (← c.self.view_is) (found_within (λ e. e.bytes) _ es c.in-Some.entry.now c.in-Some.ensures.value)
 
 pub returns-in-Some-clause-key : goal.returns-in-Some-clause-key
 returns-in-Some-clause-key g c = rw (← c.self.view_is, ← c.in-Some.ensures.key)

@@ -12,13 +12,15 @@ invariant_of-self g c =
     let part = rw (← c.self.view_is) at c.in-Ok.ensures.part in
     let bill = rw (← c.self.view_is) at c.in-Ok.ensures.bill in
     let es = c.self.inside.entries.entries in
-    let entry : Kept g.row.V.Denot = record { value = c.args.value; bytes = c.in-Ok.bill.bytes; key_bytes = c.in-Ok.bill.key_bytes } in
-    let sum = sum_by-insert_entry kept_bytes g.met.K.Ord.total es c.args.key entry c.insert.ensures.was_ordered in
+    let entry : Kept g.row.V.Denot =
+    record { value = c.args.value; bytes = c.in-Ok.bill.bytes; key_bytes = c.in-Ok.bill.key_bytes } in
+    let sorted = c.insert.ensures.was_ordered in
+    let sum = sum_by-insert_entry kept_bytes g.met.K.Ord.total es c.args.key entry sorted in
     rw c.in-Ok-insert.ensures.entries (
       omega (arith, sum, had, part, c.self.invariant.0),
       search rules,
       billed-insert (IsBilled g.K.Described.layout.size g.K.Allocative.may_show g.V.Described.layout.size
-          g.V.Allocative.may_show c.self.inside.measure) g.met.K.Ord.total es c.args.key entry c.insert.ensures.was_ordered bill
+          g.V.Allocative.may_show c.self.inside.measure) g.met.K.Ord.total es c.args.key entry sorted bill
           c.self.invariant.2,
     )
 
@@ -31,6 +33,9 @@ returns-in-Ok-insert-clause-ok g c =
       value = refl;
       billed = c.in-Ok.ensures.bill;
       room = rw had at c.in-Ok.ensures.room;
-      total_is = rw (← c.self.view_is) (omega (arith, rw (← c.self.view_is) at had, rw (← c.self.view_is) at c.in-Ok.ensures.part, c.self.invariant.0));
+      total_is =
+          let was = rw (← c.self.view_is) at had in
+          let part = rw (← c.self.view_is) at c.in-Ok.ensures.part in
+          rw (← c.self.view_is) (omega (arith, was, part, c.self.invariant.0));
       is = rw (← c.self.view_is) (search rules);
     }
