@@ -30,7 +30,7 @@ ROWS = (
     Row("PUT", "/tenants/nobody/a", b"x", 404, b"there is no account\n"),
     Row("GET", "/pages/acme/greeting", b"", 200, b"<h1>acme/greeting</h1><p>5 bytes</p>\n"),
     Row("GET", "/pages/acme/other", b"", 404, b"no such page\n"),
-    Row("GET", "/metrics", b"", 200, b'tenant_bytes{tenant="acme"} 61\ntenant_limit_bytes{tenant="acme"} 16777216\n'),
+    Row("GET", "/metrics", b"", 200, b"# HELP store_bytes The bytes of all tenants.\n# TYPE store_bytes gauge\nstore_bytes 61\n"),
     Row("GET", "/memory.folded", b"", 200, b"State;pages;BoundedCache "),
     Row("GET", "/memory.svg", b"", 200, b"<svg "),
     Row("GET", "/change.svg", b"", 200, b"no profile is kept\n"),

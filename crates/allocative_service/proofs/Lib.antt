@@ -3,6 +3,7 @@ mod Billing
 mod Each
 mod Evicting
 mod Inserting
+mod Labels
 mod Most
 mod Sums
 pub mod Texts

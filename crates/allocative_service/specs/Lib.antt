@@ -1,4 +1,5 @@
 pub mod Measured
+pub mod Metrics
 pub mod Book
 pub mod Ledger
 pub mod Rejected

@@ -8,4 +8,5 @@ pub mod history;
 pub mod kept;
 pub mod ledger;
 pub mod measure;
+pub mod metrics;
 pub mod store;
