@@ -74,7 +74,7 @@ impl Service {
             Request::Clear => Ok(self.clear()),
             Request::Pages => self.list_pages(),
             Request::Bill => self.bill(),
-            Request::Metrics => self.metrics(),
+            Request::Metrics => Ok(ledger.metrics("ledger")?),
             Request::Profile => self.profile(),
             Request::Report => self.report(),
             Request::Most(count) => self.tell_most(count),
@@ -303,17 +303,6 @@ impl Service {
         Ok(text)
     }
 
-    /// The bytes of each tenant, as a gauge in the text format of Prometheus.
-    fn metrics(&self) -> Result<String, Refusal> {
-        let mut text = String::from_str(self.alloc, "# TYPE tenant_bytes gauge\n")?;
-        for (tenant, account) in self.ledger.accounts() {
-            text.push_str("tenant_bytes{tenant=\"")?;
-            push_label(tenant, &mut text)?;
-            write!(text, "\"}} {}\n", account.bytes())?;
-        }
-        Ok(text)
-    }
-
     /// Takes a profile of all that the service holds.
     fn profile(&mut self) -> Result<String, Refusal> {
         self.history.take_profile(self.alloc, &self.held)?;
@@ -432,19 +421,6 @@ fn tell_page(alloc: Global, error: CacheError) -> Result<String, Refusal> {
         CacheError::Memory | CacheError::NotMeasured(Refusal::Memory) => Err(Refusal::Memory),
         _ => Ok(format!(in alloc; "{error}\n")?),
     }
-}
-
-/// Appends the value of a label, in which a backslash, a quotation mark and the end of a line are escaped.
-fn push_label(value: &str, text: &mut String) -> Result<(), AllocError> {
-    for letter in value.chars() {
-        match letter {
-            '\\' => text.push_str("\\\\")?,
-            '"' => text.push_str("\\\"")?,
-            '\n' => text.push_str("\\n")?,
-            _ => text.push(letter)?,
-        }
-    }
-    Ok(())
 }
 
 /// Says that there are fewer than two profiles.
