@@ -125,7 +125,7 @@ class Scope:
         held = self.dynamic(kind)
         if held:
             what = "the checker states no type that holds a trait object or a function pointer"
-            yield f"`{held}`: {what}: hold an enum of what it may be, or a type parameter, as `Sinks` in docs/IMPLEMENTING.md"
+            yield f"`{held}`: {what}: hold an enum of what it may be, or a type parameter, as crates/example_types/src/sinks.rt does"
             return
         if kind.name == "SmallVec" and any(part.name in definition.names("type") for part in kind.all()):
             yield f"the checker does not bound the size of `{kind.text}` over a type parameter: write a `Vec`"
@@ -137,14 +137,17 @@ class Scope:
             yield from self.refusals(part, definition)
 
     def dynamic(self, kind: Type) -> str:
-        """A trait object or a function pointer that values of a type hold, also in types of the crate, or nothing."""
+        """A trait object or a function pointer that values of a type hold, also in types of the crate, or nothing. What one
+        of the types that are written holds is told there.
+        """
         passed, waiting = {""}, [kind]
         for each in (part for kind in waiting for part in self.real(kind).all()):
             if each.form == "other" and each.text.startswith(DYNAMIC):
                 return each.text
             is_near = self.path(each)[:1] in (("crate",), ("super",), ("self",))
             own = self.own(each) or (self.declared(each.name) if is_near else None)
-            waiting += [member.type for member in own.members] if own and own.name not in passed else []
+            is_told = self.own(each) is not None and each.name in self.wanted
+            waiting += [member.type for member in own.members] if own and not is_told and own.name not in passed else []
             passed.add(own.name if own else "")
         return ""
 

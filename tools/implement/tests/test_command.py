@@ -245,6 +245,8 @@ class CommandTest(unittest.TestCase):
         self.put("src/b.rt", "struct Held {\n    call: Option<Box<dyn Fn(u8)>>,\n}\n")
         told = self.run_it("use crate::b::Held;\n#[derive(Drop)]\nstruct A {\n    // allocative: skip\n    a: Vec<Held>,\n}\n")[2]
         self.assertIn("A.a: `dyn Fn(u8)`: the checker states no type", told[0])
+        told = self.run_it("#[derive(Drop)]\nstruct A(Vec<B>);\n#[derive(Drop)]\nstruct B(fn(u8) -> u8);\n")[2]
+        self.assertEqual([line.split(":")[1].strip() for line in told], ["B.0"])
         empty, sized = "enum A {}", "struct A<T: ?Sized>(Box<T>);"
         for text, what in ((sized, "`?Sized`"), ("struct A { deriving: u8 }", "reserves")):
             self.assertIn(what, self.run_it(f"#[derive(Drop)]\n{text}\n")[2][0])
