@@ -24,7 +24,7 @@ HEAD = re.compile(r"(?:(?://!|#!\[).*\n|\s*\n)*")
 ABOUT = """Writes the implementations of Described and Allocative for the structs and enums of a source file:
 of the types that are named, or of all that have none. They are the text of a module `shown` of the file. The
 answers that their proofs need go into the folder proofs. With --output . in the crate's folder all goes to its
-place; without it the text goes to standard output, and nothing changes but if that is the file of `shown`.
+place; without it the text goes to standard output, and nothing changes.
 
 A comment `// allocative: skip` above a field passes it over, and `// allocative: size 8` shows it as one
 entry of 8 bytes.
@@ -75,18 +75,17 @@ def run(chosen: argparse.Namespace) -> int:
         return tell(path, text, [fault])
     if source.faults:
         return tell(path, text, source.faults)
-    is_printed = not (is_inline or chosen.check or chosen.output)
     target = placed(chosen, folder, path) if is_inline else shown
-    files = answers(os.path.join(chosen.output or folder, "proofs"), source, found) | ({} if is_printed else {target: new})
+    files = answers(os.path.join(chosen.output or folder, "proofs"), source, found) | {target: new}
     if chosen.check:
         stale = [path for path, text in files.items() if not is_same(path, text)]
         for path in stale:
             say(f"{path} is {'not wanted any more' if files[path] is None else 'stale'}: run implement again")
         return STALE if stale else 0
-    if is_printed:
-        print(new, end="", flush=True)
-    if not is_printed or is_output(shown):
+    if is_inline or chosen.output:
         put(files | (added_lines(path, text, source, is_inline) if chosen.add_lines else {}))
+    else:
+        print(new, end="")
     for name, why in source.untallied.items():
         say(f"{name} has no tally, as {why}")
     for what in source.uncounted:
@@ -122,13 +121,6 @@ def answers(folder: str, source: Source, found: list[Writer]) -> dict[str, str |
     old = [path for path in found_before if read(path).startswith(MARK)]
     files: dict[str, str | None] = {path: None for path in old if path not in new}
     return files | {path: answer for path, answer in new.items() if path in old or not os.path.exists(path)}
-
-
-def is_output(path: str) -> bool:
-    """Whether standard output is a file."""
-    with contextlib.suppress(OSError):
-        return os.path.samestat(os.fstat(1), os.stat(path))
-    return False
 
 
 def shown_path(path: str, module: str) -> str:
