@@ -3,6 +3,7 @@ ghost use Rattle.std.specs.Prelude.{◌≡◌, ◌-◌, ◌<◌, ◌≤◌, [], 
 ghost use Rattle.std.specs.List.{insert};
 ghost use Rattle.allocative_collectors.specs.Nodes.{numbers, numbers_in, flat, IsOneList, IsPlace, IsPlaceIn, place_in, flat_place};
 
+use allocative_graph::key::start_of;
 use std::alloc::{AllocError, Global};
 
 /// The longest list that is not split.
@@ -224,17 +225,6 @@ pub(crate) fn last_in(chunks: &[Chunk]) -> Option<(u32, Place)>
         index: 0,
     };
     Some((number, behind))
-}
-
-/// The first eight bytes of a key as a number, with zeros after a shorter key. Keys whose starts differ have the order
-/// of their starts.
-pub(crate) fn start_of(key: &str) -> u64 {
-    let bytes = key.as_bytes();
-    let mut start: u64 = 0;
-    for index in 0..8 {
-        start = start << 8 | u64::from(bytes.get(index).copied().unwrap_or(0));
-    }
-    start
 }
 
 // Puts the start of a key at an index. If memory runs out, the later ones are forgotten.

@@ -10,10 +10,10 @@ ghost use Rattle.allocative_collectors.specs.Places.{AddedAt, TellsWhy};
 ghost use Rattle.allocative_collectors.specs.Warned.{size_at_place, is_short, MakesGraph, MakesGraphAlone, warning_of};
 ghost use Rattle.allocative_collectors.specs.Nodes.{leaf, bytes_at, keys_of, key_at, KeysRise, HasKey, IsKeyGap, numbers, flat, IsPlace, IsPlaceIn, place_in, flat_place, IsTree};
 
-use crate::children::{Children, Chunk, LONGEST_LIST, Place, last_in, number_at, start_of};
+use crate::children::{Children, Chunk, LONGEST_LIST, Place, last_in, number_at};
 use crate::output::{FlameGraphOutput, WarnedPath};
 use allocative_graph::flamegraph::{FlameGraph, push_child};
-use allocative_graph::key::Key;
+use allocative_graph::key::{Key, start_of};
 use allocative_graph::refusal::Refusal;
 use std::alloc::{AllocError, Global};
 use std::cmp::Ordering;

@@ -3,7 +3,7 @@
 use Rattle.std.proofs.Common.{◌≡◌, ℕ, ◌+◌, ◌<◌, List, [], ◌∷◌, ◌++◌, length, take, get_or, refl, ap, ◌∙◌, arith, sum_by}
 use Rattle.std.proofs.Common.{append-nil, inl, inr, true, false, Option, None, sym, subst, subst₂, ◌-◌, Result, Ok, Err}
 use Rattle.std.proofs.Common.{IfOk, IfErr, IsTrue, cond, Some, ◌≤◌, ◌&&◌, Bool, length-append, append_assoc, true≢false}
-use Rattle.std.proofs.Common.{is_ok, zero, suc, set, ⊎_elim}
+use Rattle.std.proofs.Common.{is_ok, zero, suc, set, ⊎_elim, ◌||◌}
 use Rattle.allocative_graph.proofs.Common.{entries, Child, Path, total, rows_of, rows_of_child, total_of, take_more}
 use Rattle.allocative_graph.proofs.Common.{flat_map-append, fold-map, sum_by-cons, is_some, eq_by_cmp, is_eq, get, Key}
 use Rattle.allocative_graph.proofs.Common.{key_cmp, Less, default, size_under, AddsUp, AddsUpInPart, AllAbove}
@@ -389,6 +389,46 @@ merges_all {all = all} {cs = cs} {ds = ds} {out = out} m c d =
 -- Two results one after another are Ok exactly if each of them is.
 pub is_ok-and : {E : Type 0} (r s : Result (Unit {0}) E) → is_ok (result_and r s) ≡ (is_ok r && is_ok s)
 is_ok-and r s = grind arith
+
+-- ---- one child and then others
+-- A sum with nothing keeps a size, before another sum and after it.
+add_none : (x m y z : Option ℕ) → AddsUp x None m → AddsUp m y z → AddsUp x y z
+add_none x m y z one two =
+    (omega (arith, one.0, two.0), two.1 ∙ ap (λ b. b || is_some y) (one.1 ∙ or-false (is_some x)))
+
+none_added : (x y m z : Option ℕ) → AddsUp x y m → AddsUp m None z → AddsUp x y z
+none_added x y m z one two = (omega (arith, one.0, two.0), two.1 ∙ or-false (is_some m) ∙ one.1)
+
+part_of_none_first : (x m y z : Option ℕ) → AddsUpInPart x None m → AddsUpInPart m y z → AddsUpInPart x y z
+part_of_none_first x m y z one two = grind (arith, one, two)
+
+part_of_none_last : (x y m z : Option ℕ) → AddsUpInPart x y m → AddsUpInPart m None z → AddsUpInPart x y z
+part_of_none_last x y m z one two = grind (arith, one, two)
+
+-- If c was merged into cs, and then children after c into the result, all were merged into cs.
+pub merged_more : {a b : Bool} {c : Child} {cs ms ds es : List Child} → AreChildren (c ∷ ds) → Merged a cs (c ∷ []) ms →
+    Merged b ms ds es → Merged (a && b) cs (c ∷ ds) es
+merged_more {a = a} {b = b} {c = c} {cs = cs} {ms = ms} {ds = ds} {es = es} h one rest = record {
+  children = rest.children;
+  above = λ k p q. rest.above k (one.above k p (q.0, tt)) q.1;
+  part = λ k p. in_turn AddsUpInPart part_of_none_first part_of_none_last k p (one.part k p) (rest.part k p);
+  sum = λ w k p. in_turn AddsUp add_none none_added k p (one.sum (and_parts a b w).0 k p)
+      (rest.sum (and_parts a b w).1 k p);
+  at_most = omega (arith, one.at_most, rest.at_most, total_of-cons c ds, total_of-cons c []);
+}
+  where
+    in_turn : (P : Option ℕ → Option ℕ → Option ℕ → Type 0) → ((x m y z : Option ℕ) → P x None m → P m y z → P x y z)
+        → ((x y m z : Option ℕ) → P x y m → P m None z → P x y z) → (k : Key) (p : Path)
+        → P (size_under cs k p) (size_under (c ∷ []) k p) (size_under ms k p)
+        → P (size_under ms k p) (size_under ds k p) (size_under es k p)
+        → P (size_under cs k p) (size_under (c ∷ ds) k p) (size_under es k p)
+    in_turn P first last k p = on_test (λ t. P (size_under cs k p) (cond t (get c.graph p) None) (size_under ms k p)
+        → P (size_under ms k p) (size_under ds k p) (size_under es k p)
+        → P (size_under cs k p) (cond t (get c.graph p) (size_under ds k p)) (size_under es k p))
+        (eq_by_cmp key_cmp k c.key)
+        (λ e m n. last _ _ _ _ m (subst (λ y. P (size_under ms k p) y (size_under es k p))
+        (none_above k c.key p ds e (first_below c ds h)) n))
+        (λ e m n. first _ _ _ _ m n)
 
 -- ---- what is taken off the front
 -- If what was taken off the front of a list is x, the list is x followed by the rest.

@@ -11,7 +11,7 @@ ghost use Rattle.allocative_graph.specs.Representation.Children.{line_after, fro
 ghost use Rattle.allocative_graph.specs.Rows.{AreChildren, total_of, AllSmaller, row_figures, figures, figures_behind, node, sum_of_all, ComesLast};
 ghost use Rattle.allocative_graph.specs.declared.flamegraph.Child.{Child};
 
-use crate::key::Key;
+use crate::key::{Key, start_of};
 use crate::refusal::Refusal;
 use itoa::Buffer;
 use std::alloc::{AllocError, Global};
@@ -259,6 +259,9 @@ impl FlameGraph {
                 return Ok(());
             };
             return put_child(&mut self.children, &mut self.children_size, child);
+        }
+        if are_few(self.children.as_slice(), children.as_slice()) {
+            return put_each(&mut self.children, &mut self.children_size, children);
         }
         interleave(&mut self.children, &mut self.children_size, children)
     }
@@ -529,6 +532,50 @@ fn put_child(children: &mut Vec<Child>, size: &mut usize, child: Child) -> Resul
     }
 }
 
+// Whether a search for each of some children is quicker than a walk over all that are there: they are few, and hardly any
+// is new. A new child moves those after it.
+fn are_few(children: &[Child], theirs: &[Child]) -> bool
+    requires { InOrder children.now }
+{
+    if theirs.len() > children.len() / 128 {
+        return false;
+    }
+    let mut room: usize = 2;
+    for child in theirs {
+        if place_by_halving(children, child.key.as_str()).is_err() {
+            if room == 0 {
+                return false;
+            }
+            room -= 1;
+        }
+    }
+    true
+}
+
+// Merges other children into `children`, each by a search. After a refusal on the way it continues, so that no child is
+// lost.
+#[inline(never)]
+#[cycle(merge)]
+fn put_each(
+    children: &mut Vec<Child>,
+    size: &mut usize,
+    theirs: Vec<Child>,
+) -> Result<(), AllocError>
+    requires mine { AreChildren children.old.items }
+    requires size { size.old ≡ total_of children.old.items }
+    requires theirs { AreChildren theirs.items }
+    requires fits { size.old + total_of theirs.items < 2 ^ 64 }
+    ensures merged { Merged (is_ok result) children.old.items theirs.items children.new.items }
+    ensures size { size.new ≡ total_of children.new.items }
+{
+    let mut theirs = VecDeque::from(theirs);
+    let mut result = Ok(());
+    while let Some(child) = theirs.pop_front() {
+        result = result.and(put_child(children, size, child));
+    }
+    result
+}
+
 // Inserts a child at a place. At the end no child is moved.
 #[inline(always)]
 fn put_at(children: &mut Vec<Child>, at: usize, child: Child) -> Result<(), AllocError>
@@ -624,17 +671,6 @@ fn total_size_of(children: &[Child]) -> Option<usize>
         sum = sum.checked_add(child.graph.total_size())?;
     }
     Some(sum)
-}
-
-// The first eight bytes of a key as a number, with zeros after a shorter key.
-fn start_of(key: &str) -> u64 {
-    let bytes = key.as_bytes();
-    if let Some(first) = bytes.first_chunk() {
-        return u64::from_be_bytes(*first);
-    }
-    let mut padded = [0; 8];
-    padded[..bytes.len()].copy_from_slice(bytes);
-    u64::from_be_bytes(padded)
 }
 
 // A graph that has only the children. They are added in the order of their keys, so that each is put at the end. The

@@ -178,6 +178,18 @@ impl fmt::Debug for Key {
     }
 }
 
+/// The first eight bytes of a key as a number, with zeros after a shorter key. Keys whose numbers differ have the order of
+/// their numbers, which no contract says: what is found by them is compared by the keys.
+pub fn start_of(key: &str) -> u64 {
+    let bytes = key.as_bytes();
+    if let Some(first) = bytes.first_chunk() {
+        return u64::from_be_bytes(*first);
+    }
+    let mut padded = [0; 8];
+    padded[..bytes.len()].copy_from_slice(bytes);
+    u64::from_be_bytes(padded)
+}
+
 /// The [`Key`](crate::key::Key) of an identifier's text: `ident_key!(count)` is the key of `count`.
 #[macro_export]
 macro_rules! ident_key {

@@ -1,7 +1,9 @@
--- of merge, interleave, take_next and put_child: what they merge, and that sizes fit
-use Rattle.std.proofs.Common.{◌≡◌, [], Some, refl, sym, ap, ◌∙◌, arith, is_ok}
-use Rattle.allocative_graph.proofs.Common.{Child, nil_from_length, total, total_of, sum_by_push}
-use Rattle.allocative_graph.proofs.Children.{merges_then, merges_all, is_ok-and, merged_same, next_less, next_greater}
+-- of merge, interleave, take_next, put_each and put_child: what they merge, and that sizes fit
+use Rattle.std.proofs.Common.{◌≡◌, [], Some, refl, sym, ap, ◌∙◌, arith, is_ok, subst, List, length}
+use Rattle.std.proofs.Common.{length-append, ◌&&◌, true}
+use Rattle.allocative_graph.proofs.Common.{Child, nil_from_length, total, total_of, sum_by_push, AreChildren, Merged, rows_of, rows_of_child}
+use Rattle.allocative_graph.proofs.Basics.{and_assoc, and-true}
+use Rattle.allocative_graph.proofs.Children.{merges_then, merges_all, is_ok-and, merged_same, merged_more, others, next_less, next_greater, total_of-cons}
 use Rattle.allocative_graph.proofs.Children.{next_equal, front_is, front_total, front_rows, one_of_length, put_at_found, put_at_gap}
 use Rattle.allocative_graph.proofs.Nodes.{merged_graph, child_of_one}
 use Rattle.allocative_graph.proofs.flamegraph.+merge.Goals as goal
@@ -77,3 +79,43 @@ pub put_child-returns-in_ok-put_at-in-Err-clause-merged : goal.put_child-returns
 put_child-returns-in_ok-put_at-in-Err-clause-merged t c =
     put_at_gap c.args.child c.deref.ensures.value c.in-Err.ensures.missing c.in_ok-put_at-in-Err.ensures.items
     c.requires.children c.requires.tree
+
+pub FlameGraph::merge-returns-then-are_few : goal.FlameGraph::merge-returns-then-are_few
+FlameGraph::merge-returns-then-are_few t c =
+    merged_graph c.self.view_is c.self.invariant c.other.view_is c.other.invariant refl refl c.put_each.ensures.merged
+
+pub put_each-put_child-requires : goal.put_each-put_child-requires
+put_each-put_child-requires t c =
+    let before = c.loop-child.invariant in
+    let items = c.pop_front.ensures.items in
+    let rows = front_rows _ items c.in-Some.is in
+    let fits = front_total _ items c.in-Some.is in
+    (omega (arith, c.decreases, rows, before.rows), (before.mine, (before.size, ((subst AreChildren (front_is items c.in-Some.is) before.theirs).trees.0, omega (arith, before.fits, fits)))))
+
+pub put_each-loop-child-preserved : goal.put_each-loop-child-preserved
+put_each-loop-child-preserved t c =
+    let before = c.loop-child.invariant in
+    let items = front_is c.pop_front.ensures.items c.in-Some.is in
+    let all = subst AreChildren items before.theirs in
+    let merged = c.put_child.ensures.merged in
+    record {
+      goes_on = λ b es m. subst (λ v. Merged v c.args.children.now.items c.args.theirs.items es)
+          (sym (ap (λ v. v && b) (ap (λ r. is_ok r) c.and-result.ensures ∙ is_ok-and _ _) ∙ and_assoc _ _ b))
+          (before.goes_on (is_ok c.put_child.result && b) es
+          (subst (λ (l : List Child). Merged (is_ok c.put_child.result && b) c.loop-child.children.items l es) (sym items)
+          (merged_more all merged m)));
+      mine = merged.children;
+      theirs = others _ _ all;
+      rows = omega (arith, before.rows, ap (λ (l : List Child). length (rows_of l)) items ∙ length-append (rows_of_child c.in-Some.child) (rows_of c.pop_front.new.self.items));
+      size = c.put_child.ensures.size;
+      fits = omega (arith, before.fits, before.size, c.put_child.ensures.size, merged.at_most, total_of-cons c.in-Some.child [], ap total_of items ∙ total_of-cons c.in-Some.child c.pop_front.new.self.items);
+    }
+
+pub put_each-returns-clause-merged : goal.put_each-returns-clause-merged
+put_each-returns-clause-merged t c =
+    let before = c.loop-child.invariant in
+    let none : [] ≡ c.loop-child.theirs.items = sym (nil_from_length _ (sym c.loop-child.theirs.ok.0 ∙ c.in_default.ensures.cases.0)) in
+    subst (λ v. Merged v c.args.children.now.items c.args.theirs.items c.loop-child.children.items) (and-true _)
+    (before.goes_on true c.loop-child.children.items
+    (subst (λ (l : List Child). Merged true c.loop-child.children.items l c.loop-child.children.items) none
+    (merged_same _ before.mine)))

@@ -1,6 +1,6 @@
--- of merge, interleave, take_next and put_child: how far they still have to go, and what the loop keeps
-use Rattle.std.proofs.Common.{◌≡◌, ◌+◌, ◌*◌, ◌≤◌, length, is_ok}
-use Rattle.allocative_graph.proofs.Common.{vec_capacity, len, rows_of, total_of, MergesFirst}
+-- of merge, interleave, take_next, put_each and put_child: how far they still have to go, and what the loops keep
+use Rattle.std.proofs.Common.{◌≡◌, ◌+◌, ◌*◌, ◌≤◌, ◌<◌, ◌^◌, ◌&&◌, Bool, List, length, is_ok}
+use Rattle.allocative_graph.proofs.Common.{vec_capacity, len, rows_of, total_of, MergesFirst, Merged, AreChildren, Child}
 use Rattle.allocative_graph.proofs.flamegraph.+merge.Given as goal
 
 -- A graph has more rows than its children.
@@ -26,4 +26,22 @@ invariant-interleave-loop-child l = record {
       l.theirs.items;
   size : l.size ≡ total_of l.children.items;
   capacity : length l.fn.children.items + length l.fn.theirs.items ≤ vec_capacity l.children;
+}
+
+abbrev pub decreases-put_each : goal.decreases-put_each
+decreases-put_each l = 3 * length (rows_of l.theirs.items) + 2
+
+abbrev pub decreases-put_each-loop-child : goal.decreases-put_each-loop-child
+decreases-put_each-loop-child l = length l.theirs.items
+
+-- Whatever merges the children that remain merges all.
+abbrev pub invariant-put_each-loop-child : goal.invariant-put_each-loop-child
+invariant-put_each-loop-child l = record {
+  goes_on : (b : Bool) (es : List Child) → Merged b l.children.items l.theirs.items es
+      → Merged (is_ok l.result && b) l.fn.children.items l.fn.theirs.items es;
+  mine : AreChildren l.children.items;
+  theirs : AreChildren l.theirs.items;
+  rows : length (rows_of l.theirs.items) ≤ length (rows_of l.fn.theirs.items);
+  size : l.size ≡ total_of l.children.items;
+  fits : l.size + total_of l.theirs.items < 2 ^ 64;
 }
