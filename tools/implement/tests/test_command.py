@@ -470,6 +470,13 @@ class CommandTest(unittest.TestCase):
             self.assertEqual((status, told[0]), (0, f"implement: A has no tally, as {why}"))
             self.assertNotIn("Tally", output)
 
+    def test_how_a_tally_finds_room(self) -> None:
+        """Sizes that are numbers are added; those of parameters are searched, the deeper the more fields there are."""
+        for fields, room in (("u8, u8, u8", "(holds_bytes (omega arith))"), ("T, u8", "(search (rules, holding))"), ("T, u8, u8", "(search holding_tuples depth 12)")):
+            text = f"#[derive(Drop)]\nstruct A{'<T>' * ('T' in fields)}({fields});\n"
+            self.assertEqual(self.run_it(text, "--counted", "--output", self.crate)[::2], (0, []))
+            self.assertIn(f"whole_counts _ c.in_ok-declared.ensures {room}\n", self.get("proofs/a/shown/ATallied/tally/Answers.antt"))
+
     def test_fields_in_fields(self) -> None:
         """Doubled ten times, a text is too many fields; behind a pointer it is one."""
         for held, told in (("A{0}, A{0}", "A12: it has too many fields for the checker"), ("Box<A{0}>, Vec<A{0}>", "")):
