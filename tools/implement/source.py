@@ -141,6 +141,7 @@ class Source:
         self.parts: dict[Foreign, str] = {}
         self.wanted = {each.name: self.judged(each) for each in wanted}
         self.module.types.update(self.wanted)
+        # The names of the types that have the layouts of variants, by the names of both.
         entries = [(name, variant.name) for name, each in self.wanted.items() for variant in each.variants if variant.is_entry]
         self.records = {names: self.free("".join(names), "Fields") for names in entries}
         self.scope.find_strict()

@@ -184,7 +184,7 @@ class Tally:
             return self.field(shown[0], variant.name, f"{start}value", True) if shown else None
         names = [each.name if start or each.name.isidentifier() else f"part{each.name}" for each in shown]
         inside = [self.field(each, each.name, start + name) for each, name in zip(shown, names)]
-        record = self.writer.record(variant) if start else ""
+        record = self.writer.source.records[self.writer.name, variant.name] if start else ""
         return Part(self.free(f"{start}count") if start else "", variant.name, record, inside=tuple(inside))
 
     # ---- what counts

@@ -97,19 +97,15 @@ class Writer:
         """The size of the entry of a variant. Where a type can have that layout, its size is one call for the checker."""
         if definition.parameters:
             return size_of(self.layouts.of_variant(variant, definition))
-        record = self.record(variant, definition.name)
+        record = self.source.records[definition.name, variant.name]
         return Layout(f"<{record}>::size()", size_in_clause(record))
-
-    def record(self, variant: Variant, name: str = "") -> str:
-        """The type that has the layout of a variant."""
-        return self.source.records[name or self.name, variant.name]
 
     def records(self) -> str:
         """The types that have the layouts of the variants with an entry."""
         text = ""
         for variant in self.definition.variants if self.definition.is_enum and not self.definition.parameters else ():
             if variant.is_entry:
-                name, layout = self.record(variant), self.layouts.of_variant(variant, self.definition)
+                name, layout = self.source.records[self.name, variant.name], self.layouts.of_variant(variant, self.definition)
                 about = f"/// The fields of the variant `{variant.name}` of `{self.name}`.\nstruct {name};\n\n"
                 text += f"{about}impl Described for {name} {{\n{described(layout)}}}\n\n"
         return text
