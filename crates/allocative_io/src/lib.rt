@@ -30,8 +30,8 @@ impl From<AllocError> for ReadError {
     }
 }
 
-/// Reads to the end of the input. It returns `ReadError::Failed` if a read fails, and `ReadError::Memory` if memory runs out,
-/// which an empty input never causes. An interrupted read is repeated.
+/// Reads to the end of the input. It returns `ReadError::Failed` if a read fails, and `ReadError::Memory` if memory
+/// runs out, which an empty input never causes. An interrupted read is repeated.
 pub fn read_input<R: Read>(alloc: Global, input: &mut R) -> Result<Vec<u8>, ReadError>
     ensures ok { IfOk result (λ bytes.
         IfSome (R.remaining input.old) (λ known. bytes.items ≡ known)) }
@@ -128,8 +128,8 @@ fn write_printable<W: Write>(output: &mut W, text: &str) -> io::Result<()>
     Ok(())
 }
 
-/// Writes a line: the texts one after another, with each control character of ASCII in them as `\x` and two digits, and a
-/// line feed. It takes no memory. If a write fails, a beginning of the line is written.
+/// Writes a line: the texts one after another, with each control character of ASCII in them as `\x` and two digits, and
+/// a line feed. It takes no memory. If a write fails, a beginning of the line is written.
 #[tactic(auto, using(crate::proofs::Writes::passing))]
 pub fn write_line<W: Write>(output: &mut W, texts: &[&str]) -> io::Result<()>
     ensures whole { OnOk result (Appends (W.contents output.old) (W.contents output.new)

@@ -1,6 +1,6 @@
 //! Reads a JSON document from standard input. With the first word `profile` it writes what the document declares about
-//! its memory, in the form that `flamegraph.pl` reads, and warnings to standard error; with `fields` how many bytes each
-//! of its fields declares.
+//! its memory, in the form that `flamegraph.pl` reads, and warnings to standard error; with `fields` how many bytes
+//! each of its fields declares.
 #![tactic(auto)]
 
 use allocative_json::{Fault, report_fault, run_fields, run_json};

@@ -16,7 +16,7 @@ impl Allocative for Gauge {
     ghost may_show = { λ g. Inside (codes "Gauge") 8
         (Field (codes "reading") (Some 8) (⟦<u64 as Allocative>⟧.may_show g.reading)) };
 
-    #[tactic(auto, using(allocative::proofs::Parts::parts, allocative::proofs::Meaning::visited, allocative::proofs::Meaning::entered_refused))]
+    #[tactic(auto, using(allocative::proofs::Parts::parts, allocative::proofs::Parts::refusing))]
     fn visit(&self, visitor: &mut Visitor<'_>) -> Result<(), Refusal> {
         if self.reading == 0 {
             return Err(visitor.refuse(Refusal::TooLarge));

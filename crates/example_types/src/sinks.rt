@@ -1,5 +1,5 @@
-//! What takes numbers, without trait objects and function pointers: an enum of the sinks and of the tests that there are,
-//! and a type parameter for a sink that the caller chooses.
+//! What takes numbers, without trait objects and function pointers: an enum of the sinks and of the tests that there
+//! are, and a type parameter for a sink that the caller chooses.
 
 mod shown;
 

@@ -2,8 +2,8 @@
 //!
 //! Rows: a root with bytes of its own; a child that is added twice; a child without bytes between the root and a line,
 //! and the clone; totals past the bound; a graph added to an empty one; keys against joined texts, and a key that looks
-//! like a path; a new builder, two collections and a root without entries; the macro of keys; the last number of a maker;
-//! keys that are made of numbers, and the children that have them.
+//! like a path; a new builder, two collections and a root without entries; the macro of keys; the last number of a
+//! maker; keys that are made of numbers, and the children that have them.
 use crate::texts::{is_graph, is_output, is_text};
 use allocative::{
     FlameGraph, FlameGraphBuilder, IdMaker, Identity, Key, LEVELS, Refusal, ident_key,

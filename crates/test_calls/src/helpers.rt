@@ -1,9 +1,9 @@
 //! The text of each helper of a visitor, and what the calls for sums count by them.
 //!
-//! Rows, of which those with keys of their own share a collection: entries that name a type; a field, by a value and by a
-//! closure; a boxed object; a text and the empty one; slices and iterators of pairs that need no drop and that do; an empty
-//! slice; the pairs of a map, the keys of a set, the members of a document; a buffer with no room, as a graph and as held
-//! bytes; and a shared value of which a sum shows no content.
+//! Rows, of which those with keys of their own share a collection: entries that name a type; a field, by a value and by
+//! a closure; a boxed object; a text and the empty one; slices and iterators of pairs that need no drop and that do; an
+//! empty slice; the pairs of a map, the keys of a set, the members of a document; a buffer with no room, as a graph and
+//! as held bytes; and a shared value of which a sum shows no content.
 #![tactic(auto, using(allocative::proofs::Parts::parts))]
 
 ghost use Rattle.std.specs.Prelude.{codes, Some, false, length};

@@ -1,6 +1,6 @@
 //! Tests of what no clause says, and worked rows, which show that the definitions mean what they say: the text of each
-//! type, of each helper and of each refusal, bounds, builders that fail, and that each call succeeds if memory is ample.
-//! The head of a file says which rows are in it.
+//! type, of each helper and of each refusal, bounds, builders that fail, and that each call succeeds if memory is
+//! ample. The head of a file says which rows are in it.
 #![tactic(auto)]
 
 #[cfg(test)]

@@ -1,7 +1,7 @@
 //! Types with a name and a size of their own, as rows have them, and what values hold.
 //!
-//! Rows: a struct with a boxed slice of a hundred bytes; a shared value with an alignment of 64; and the bytes that a box
-//! of a box, a box of a number and a boxed slice hold, alone and with the declared size.
+//! Rows: a struct with a boxed slice of a hundred bytes; a shared value with an alignment of 64; and the bytes that a
+//! box of a box, a box of a number and a boxed slice hold, alone and with the declared size.
 #![tactic(auto, using(allocative::proofs::Parts::parts))]
 
 ghost use Rattle.std.specs.Prelude.{codes, Some, false};

@@ -1,4 +1,5 @@
-//! Rows: the unused room of each container, by what its `capacity()` returns, and the bytes that a vector with room holds.
+//! Rows: the unused room of each container, by what its `capacity()` returns, and the bytes that a vector with room
+//! holds.
 use crate::texts::has_room;
 use allocative::size_of_unique_allocated_data;
 use indexmap::{IndexMap, IndexSet};

@@ -1,7 +1,7 @@
 //! Declared sizes that do not fit a word, and hashes.
 //!
-//! Rows: the bounds of composed types with a part of the greatest size; the bytes of hash tables, of eight-byte items and
-//! at the greatest lengths; and the hashes of two texts.
+//! Rows: the bounds of composed types with a part of the greatest size; the bytes of hash tables, of eight-byte items
+//! and at the greatest lengths; and the hashes of two texts.
 
 ghost use Rattle.std.specs.Prelude.{false, codes};
 ghost use Rattle.allocative.specs.Layouts.{declared};

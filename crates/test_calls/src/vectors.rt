@@ -1,5 +1,5 @@
-//! Rows: the text of tuples of bytes, of a boxed option, of a shared number, and of a vector, a queue, a text and a slab
-//! with a few items.
+//! Rows: the text of tuples of bytes, of a boxed option, of a shared number, and of a vector, a queue, a text and a
+//! slab with a few items.
 use crate::texts::{made, show};
 use allocative::{IdRc, Identity};
 use slab::Slab;

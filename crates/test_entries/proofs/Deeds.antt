@@ -12,14 +12,22 @@ use Rattle.allocative.specs.declared.visitor.Visitor.{Visitor}
 use Rattle.allocative.specs.Closures.{CallsInside, CalledInside, not_called, called_inside, told_ok}
 use Rattle.allocative.specs.Visited.{Entered}
 use Rattle.allocative.proofs.Strict.{not_strict}
-use Rattle.allocative.proofs.Meaning.{entered_refused}
-use Rattle.allocative.proofs.Showing.{not_entered, adds_hidden}
+use Rattle.allocative.proofs.Meaning.{entered_refused, entered_loosely}
+use Rattle.allocative.proofs.Parts.{parts}
+use Rattle.allocative.proofs.ByHand.{by_hand}
+use Rattle.allocative.proofs.Showing.{not_entered, adds_hidden, showing}
 
 -- A part that is entered, and whose error is hidden.
 pub hides : {d : Bool} {p : Showing} {a b : Visitor} {r : Result (Unit {0}) Refusal} {u : Unit {0}} →
     Entered d p a b r → Entered false p a b (Ok u)
-hides {r = Ok v} h = record { same_reference = h.same_reference; same_outer = h.same_outer; shown = h.shown; cause = tt; only_if_full = not_strict }
-hides {r = Err e} h = record { same_reference = h.same_reference; same_outer = h.same_outer; shown = adds_hidden h.shown; cause = tt; only_if_full = not_strict }
+hides {r = Ok v} h = entered_loosely h
+hides {r = Err e} h = record {
+  same_reference = h.same_reference;
+  same_outer = h.same_outer;
+  shown = adds_hidden h.shown;
+  cause = tt;
+  only_if_full = not_strict;
+}
 
 -- A shared entry that is refused leaves the cause.
 pub not_shared_cause : {k : Key} {n : ℕ} {i : Identity} {s t : State} {e : Refusal} → OpensShared k n i s (Err e) t →
@@ -40,7 +48,13 @@ module _ {F : Type 0} (g : Once F (MutBor Visitor × Unit {0}) (Result (Unit {0}
   -- A closure that never returns Ok enters nothing.
   pub answers : {p : Showing} {k : Key} {n : ℕ} {a b : Visitor} {r : Result (Unit {0}) Refusal} →
       CalledInside g f k n a b r → ((x y : Visitor) → FnOnceReturnsAtMut g f x (Ok tt) y → ⊥) → Entered false p a b r
-  answers {r = r} h never = record { same_reference = h.same_reference; same_outer = h.same_outer; shown = never_ok r h.calls never h.cause; cause = h.cause; only_if_full = not_strict }
+  answers {r = r} h never = record {
+    same_reference = h.same_reference;
+    same_outer = h.same_outer;
+    shown = never_ok r h.calls never h.cause;
+    cause = h.cause;
+    only_if_full = not_strict;
+  }
 
 -- The rules for deeds.
-pub ruleset deeds = (hides, entered_refused, not_shared_cause)
+pub ruleset deeds = (showing, by_hand, parts, hides, entered_refused, not_shared_cause)

@@ -1,5 +1,5 @@
 //! What an implementation may do beside its entries: hide an error, return one of its own, forget a visitor.
-#![tactic(auto, using(allocative::proofs::Showing::showing, allocative::proofs::ByHand::by_hand, allocative::proofs::Parts::parts, crate::proofs::Deeds::deeds))]
+#![tactic(auto, using(crate::proofs::Deeds::deeds))]
 
 ghost use Rattle.std.specs.Prelude.{IfErr};
 ghost use Rattle.allocative.specs.Shows as shows;

@@ -50,7 +50,8 @@ pub(crate) fn assert_text(rt: &impl Abort, graph: &FlameGraph, want: &str) {
     assert_same(rt, written(rt, graph).as_str(), want);
 }
 
-/// Asserts the text and the warnings of an output, none of which is outside std's maps and sets, or that it was refused.
+/// Asserts the text and the warnings of an output, none of which is outside std's maps and sets, or that it was
+/// refused.
 pub(crate) fn assert_output(
     rt: &impl Abort,
     answer: Result<FlameGraphOutput, Refusal>,

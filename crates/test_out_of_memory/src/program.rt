@@ -1,6 +1,6 @@
-//! The worked rows of `bin/allocative-json`, by `run_json` over a reader and two writers of these tests: profiles with and
-//! without `exact`, `index` and `registry`, refused words, broken input, and a read or a write that fails. A run with a
-//! refused growth ends for want of memory, and a run that is made anew is right.
+//! The worked rows of `bin/allocative-json`, by `run_json` over a reader and two writers of these tests: profiles with
+//! and without `exact`, `index` and `registry`, refused words, broken input, and a read or a write that fails. A run
+//! with a refused growth ends for want of memory, and a run that is made anew is right.
 use crate::assertions::{assert_count, assert_same, made};
 use crate::json::{FAR_NUMBERS, SHORT_DATA, THREE_NUMBERS};
 use allocative_json::{Fault, run_json};
@@ -75,7 +75,8 @@ const ROWS: [Row; 24] = [
     Row("registry index exact", b"[7,8]", 0, TWO_NUMBERS, SHORT_DATA),
 ];
 
-/// Which call of a run fails: none, the read at the end of the input, or the first write of the profile or the warnings.
+/// Which call of a run fails: none, the read at the end of the input, or the first write of the profile or the
+/// warnings.
 #[derive(Clone, Copy, PartialEq, Eq)]
 enum Failing {
     Nothing,

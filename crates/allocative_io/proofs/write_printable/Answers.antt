@@ -9,7 +9,8 @@ pub returns-in_err-write_bytes-clause-beginning : goal.returns-in_err-write_byte
 returns-in_err-write_bytes-clause-beginning g c =
     written_partly _ _ _ _ _ _ _ c.loop-byte.invariant c.write_bytes.ensures.beginning
     (control_split c.loop-byte.rest.now _ c.in-Some.byte.now _ _ c.in-Some.ensures.cases.0
-    (sym c.is_ascii_control.ensures.value ∙ c.if-is_ascii_control.true) c.last_digit-high.ensures c.last_digit-low.ensures)
+    (sym c.is_ascii_control.ensures.value ∙ c.if-is_ascii_control.true)
+    c.last_digit-high.ensures c.last_digit-low.ensures)
 
 -- The bytes before one are cut off.
 pub returns-in_err-write_bytes-2-clause-beginning : goal.returns-in_err-write_bytes-2-clause-beginning

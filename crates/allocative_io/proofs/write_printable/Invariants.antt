@@ -6,7 +6,8 @@ use Rattle.allocative_io.proofs.write_printable.Given as goal
 
 -- The rest is what is left to write.
 abbrev pub invariant-loop-byte : goal.invariant-loop-byte
-invariant-loop-byte g l = IsWrittenUpTo (g.W.Write.contents l.fn.output) (g.W.Write.contents l.output) (printable l.fn.text) (printable l.rest)
+invariant-loop-byte g l = IsWrittenUpTo (g.W.Write.contents l.fn.output)
+    (g.W.Write.contents l.output) (printable l.fn.text) (printable l.rest)
 
 abbrev pub decreases-loop-byte : goal.decreases-loop-byte
 decreases-loop-byte g l = length l.rest
