@@ -1,13 +1,13 @@
 -- What a caller of `visit_field_with` learns from the closure's outcome.
 use Rattle.std.proofs.Common.{◌≡◌, ℕ, false, Some, Result, Ok, Err, IfErr, MutBor, subst, refl, ◌∙◌}
-use Rattle.allocative.proofs.Common.{Restore, Refusal, Key, Forest, held, ShowsNoContent, State, Going, OfSum}
-use Rattle.allocative.proofs.Common.{nothing_held, close_entry, Showing, Inside, AddsForest, Settles, Visitor, IsSum}
+use Rattle.allocative.proofs.Common.{Restore, Refusal, Key, State}
+use Rattle.allocative.proofs.Common.{close_entry, Settles, Visitor, IsSum}
 use Rattle.allocative.proofs.Common.{ClosesEntry, FnOnceReturnsAtMut, HasFailed, OpensEntry, with_state}
 use Rattle.std.specs.Fn.{Once}
 use Rattle.allocative.specs.Closures.{KeepsVisitor, CalledInside, not_called, called_inside}
 use Rattle.allocative.specs.Closures.{CalledAt, told_ok, told_err, AnswersSum}
 use Rattle.allocative.specs.Visited.{Refused}
-use Rattle.allocative.proofs.Visits.{adds_entry, entry_err, not_entered, not_entered_cause, adds_refused_err}
+use Rattle.allocative.proofs.Visits.{not_entered_cause}
 use Rattle.allocative.proofs.Visits.{close_cause}
 
 -- what is answered once the visitor is left

@@ -1,17 +1,17 @@
 -- What a visit by a root visitor amounts to.
 use Rattle.std.proofs.Common.{◌≡◌, ℕ, suc, ◌+◌, ◌<◌, ◌^◌, List, length, take, get_or, Bool, IsTrue, Result, Ok}
 use Rattle.std.proofs.Common.{Err, IsErr, refl, ap, sym, subst, ◌∙◌, arith, IfOk, [], ◌∷◌, ◌++◌, drop, inl, inr}
-use Rattle.allocative.proofs.Common.{Restore, Refusal, Forest, followed_by, add_all, held, ShowsNoContent, Kind}
+use Rattle.allocative.proofs.Common.{Restore, Refusal, Forest, followed_by, add_all, held, Kind}
 use Rattle.allocative.proofs.Common.{OfGraph, OfSum, State, Failed, Going, leave, plus, Takes, visitors, is_graph}
 use Rattle.allocative.proofs.Common.{begin, outer_of, close_entry, nothing_held, Showing, Both, each_shows, AddsForest}
 use Rattle.allocative.proofs.Common.{refused, hidden, forgotten, OpensRoot, Settles, VisitsRoot, Profile, IsProfileOf}
-use Rattle.allocative.proofs.Common.{IsSum, MayRefuse, FailsOnlyIfFull, has_added, has_refused, RootFailsOnlyIfFull}
-use Rattle.allocative.proofs.Common.{ClosesEntry, all_bytes, HasRoomFor, CanTake, Memory, TooLarge}
+use Rattle.allocative.proofs.Common.{MayRefuse, FailsOnlyIfFull, has_added, has_refused, RootFailsOnlyIfFull}
+use Rattle.allocative.proofs.Common.{all_bytes, HasRoomFor, CanTake, Memory, TooLarge}
 use Rattle.allocative_graph.specs.declared.refusal.Refusal.TheVariants.{Open}
 use Rattle.allocative_graph.specs.Collector.{Summing, nothing_owned}
 use Rattle.allocative_graph.specs.Owned.{owned}
-use Rattle.allocative.specs.SizeOf.{AnswersVisitOf, FitsSum, MayRefuseHeld, MayRefuseOwned}
-use Rattle.allocative.specs.Strict.{CanBeProfiled, CanBeShown, MayRefuseProfile}
+use Rattle.allocative.specs.SizeOf.{AnswersVisitOf, MayRefuseHeld, MayRefuseOwned}
+use Rattle.allocative.specs.Strict.{CanBeProfiled, MayRefuseProfile}
 use Rattle.allocative.proofs.Visits.{err_or, same_err}
 use Rattle.allocative.specs.Visited.{Effect, WasVisited, VisitsByRoot, not_begun, by_root}
 use Rattle.allocative_graph.specs.Forest.{met_after, Fits, own, all}

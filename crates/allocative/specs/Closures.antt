@@ -5,8 +5,7 @@ use Rattle.std.specs.Fn.{Once, FnOnceReturnsAtMut}
 use Rattle.allocative_graph.specs.declared.refusal.Refusal.{Refusal}
 use Rattle.allocative_graph.specs.Path.{Key}
 use Rattle.allocative_graph.specs.Collector.{State, Going, OfSum, Restore, nothing_held, close_entry}
-use Rattle.allocative_graph.specs.Shows.{Showing}
-use Rattle.allocative_graph.specs.Visits.{AddsForest, HasFailed, OpensEntry, Settles, ClosesEntry}
+use Rattle.allocative_graph.specs.Visits.{HasFailed, OpensEntry, Settles, ClosesEntry}
 use Rattle.allocative.specs.declared.visitor.Visitor.{Visitor}
 use Rattle.allocative.specs.Kinds.{IsSum}
 use Rattle.allocative.specs.Visited.{OpensRootAt, Refused}
