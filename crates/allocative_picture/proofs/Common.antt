@@ -19,7 +19,7 @@ pub use Rattle.allocative_graph.specs.Rows.{figures}
 pub use Rattle.allocative_graph.specs.declared.flamegraph.Child.{Child}
 pub use Rattle.allocative_graph.specs.declared.flamegraph.Row.{Row}
 pub use Rattle.allocative_picture.specs.Boxes.{is_drawn, edge, element}
-pub use Rattle.allocative_picture.specs.Frames.{before_in, FrameData, frame_of, frames_from, frame_from, mark_with}
+pub use Rattle.allocative_picture.specs.Frames.{FrameData, frame_of, frame_behind, frame_from, mark_with}
 pub use Rattle.allocative_picture.specs.Frames.{mark_by, size_in, total_in, warned_mark, frame_data}
 pub use Rattle.allocative_picture.specs.Picture.{levels, warning_lines, all_of}
 pub use Rattle.std.proofs.lemmas.List.{take-map, drop-map, take_rest, get_or-map}

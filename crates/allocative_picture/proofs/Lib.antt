@@ -1,5 +1,6 @@
 pub mod Common
 pub mod Escaping
+pub mod Starting
 pub mod Placing
 pub mod Geometry
 pub mod Marking
@@ -9,3 +10,4 @@ pub mod Reversing
 pub mod Choosing
 pub mod Growing
 pub mod Guiding
+pub mod Folding

@@ -1,12 +1,13 @@
 -- What a frame shows, and the frames of a flame graph.
-use Rattle.std.specs.Prelude.{ℕ, ◌+◌, Bool, cond, length, List, [], ◌∷◌, map, sum_by, codes, ◌==◌, Option, None, Some}
-use Rattle.std.specs.Prelude.{◌-◌, unwrap_or, slice_get}
+use Rattle.std.specs.Prelude.{ℕ, ◌+◌, ◌-◌, ◌++◌, Bool, cond, length, List, map, codes, ◌==◌, Option, None, Some}
+use Rattle.std.specs.Prelude.{unwrap_or, slice_get}
 use Rattle.std.specs.List.{list_any}
-use Rattle.std.specs.Ordering.{is_lt}
 use Rattle.std.specs.FinMap.{entries}
-use Rattle.allocative_graph.specs.Path.{Key, Path, path_cmp, is_same_path}
+use Rattle.allocative_graph.specs.Path.{Key, Path, is_same_path}
 use Rattle.allocative_graph.specs.Graph.{Graph, Warned, total_at, size_at}
 use Rattle.allocative_graph.specs.Rows.{Figures}
+use Rattle.allocative_picture.specs.Places.{before_in}
+use Rattle.allocative_picture.specs.declared.options.Order.{Order}
 use Rattle.allocative_picture.specs.declared.frame.Frame.{Frame}
 use Rattle.allocative_picture.specs.declared.frame.Mark.{Mark}
 use Rattle.allocative_picture.specs.declared.frame.Mark.TheVariants.{Plain, Changed}
@@ -31,10 +32,6 @@ frame_data r = record { depth = r.depth; key = r.key.now; own = r.own; whole = r
 abbrev pub shown_key : Path → Key
 shown_key p = unwrap_or (slice_get p (length p - 1)) (codes "all")
 
--- The bytes of all entries whose path comes before p.
-abbrev pub before_in : List (Path × ℕ) → Path → ℕ
-before_in rs p = sum_by (λ e. cond (is_lt (path_cmp e.0 p)) e.1 0) rs
-
 -- The frame of a path with its figures, if M gives the mark of each path, and `before` bytes come before it.
 abbrev pub frame_from : (Path → Mark) → ℕ → Figures → FrameData
 frame_from M before f = record {
@@ -46,19 +43,22 @@ frame_from M before f = record {
   mark = M f.path;
 }
 
--- The frame of an entry of g, if M gives the mark of each path.
-abbrev pub frame_of : (Path → Mark) → Graph → Path × ℕ → FrameData
-frame_of M g e =
-    frame_from M (before_in (entries g) e.0) (record { path = e.0; self_size = e.1; total_size = total_at g e.0 })
+-- The bytes before an entry of g, if the children of each path are drawn in an order.
+abbrev pub before_at : Order → Graph → Path → ℕ
+before_at o g p = before_in o (total_at g) (entries g) p
 
--- The frames of g: one for each path, in the order of paths.
-unfoldable pub frames_of : (Path → Mark) → Graph → List FrameData
-frames_of M g = map (frame_of M g) (entries g)
+-- The frame of an entry of g, if M gives the mark of each path, and children are drawn in an order.
+abbrev pub frame_of : Order → (Path → Mark) → Graph → Path × ℕ → FrameData
+frame_of o M g e = frame_from M (before_at o g e.0) (record { path = e.0; self_size = e.1; total_size = total_at g e.0 })
 
--- The frames of some figures, if b bytes come before the first.
-abbrev pub frames_from : (Path → Mark) → ℕ → List Figures → List FrameData
-frames_from M b [] = []
-frames_from M b (f ∷ fs) = frame_from M b f ∷ frames_from M (b + f.self_size) fs
+-- The frames of g: one for each path, in the order of paths. Each begins where the order of children places it.
+unfoldable pub frames_of : Order → (Path → Mark) → Graph → List FrameData
+frames_of o M g = map (frame_of o M g) (entries g)
+
+-- The frame of an entry of g, if the keys ks are before its path, and b bytes before the first frame of g.
+abbrev pub frame_behind : Order → (Path → Mark) → ℕ → Path → Graph → Path × ℕ → FrameData
+frame_behind o M b ks g e =
+    frame_from M (b + before_at o g e.0) (record { path = ks ++ e.0; self_size = e.1; total_size = total_at g e.0 })
 
 -- Whether a path is one of those that have a warning.
 unfoldable pub is_warned : List Warned → Path → Bool

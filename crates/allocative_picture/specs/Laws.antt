@@ -1,17 +1,18 @@
 -- The laws of pictures, as statements.
 use Rattle.std.specs.Prelude.{◌≡◌, ℕ, ◌+◌, ◌*◌, ◌<◌, ◌≤◌, true, cond, List, [], ◌∷◌, ◌++◌, filter, flat_map, count_by}
-use Rattle.std.specs.declared.cmp.Ordering.TheVariants.{Less}
 use Rattle.std.specs.FinMap.{entries, contains_key}
-use Rattle.allocative_graph.specs.Path.{Key, Path, key_cmp, is_same_path}
+use Rattle.allocative_graph.specs.Path.{Key, Path, is_same_path}
 use Rattle.allocative_graph.specs.Graph.{Graph, total, total_at, sum_of, size_at}
 use Rattle.allocative_picture.specs.declared.frame.Mark.{Mark}
 use Rattle.allocative_picture.specs.Frames.{FrameData, frame_of}
+use Rattle.allocative_picture.specs.Places.{IsDrawnFirst}
 use Rattle.allocative_picture.specs.Views.{reversed}
+use Rattle.allocative_picture.specs.declared.options.Order.{Order}
 use Rattle.allocative_picture.specs.Boxes.{left_edge, right_edge, width, is_drawn, element}
 
 -- The frame of a path of a graph.
-abbrev pub frame_at : (Path → Mark) → Graph → Path → FrameData
-frame_at M g p = frame_of M g (p, size_at g p)
+abbrev pub frame_at : Order → (Path → Mark) → Graph → Path → FrameData
+frame_at o M g p = frame_of o M g (p, size_at g p)
 
 -- The second box lies within the first, from left to right.
 pub record IsInside (all : ℕ) (outer inner : FrameData) : Type 0 where
@@ -21,12 +22,15 @@ pub record IsInside (all : ℕ) (outer inner : FrameData) : Type 0 where
 -- The box of each path lies within the box of its parent, the path without its last key.
 abbrev pub InsideLaw : Type 0
 InsideLaw =
-    (M : Path → Mark) (g : Graph) (p : Path) (k : Key) → IsInside (total g) (frame_at M g p) (frame_at M g (p ++ k ∷ []))
+    (o : Order) (M : Path → Mark) (g : Graph) (p : Path) (k : Key)
+    → IsInside (total g) (frame_at o M g p) (frame_at o M g (p ++ k ∷ []))
 
--- Of two boxes with one parent, the box of the lesser key ends at or before the beginning of the other.
+-- Of two boxes with one parent, the one that is drawn first, by key or by size, ends at or before the beginning of the
+-- other.
 abbrev pub ApartLaw : Type 0
-ApartLaw = (M : Path → Mark) (g : Graph) (p : Path) (k l : Key) → key_cmp k l ≡ Less
-    → right_edge (total g) (frame_at M g (p ++ k ∷ [])) ≤ left_edge (total g) (frame_at M g (p ++ l ∷ []))
+ApartLaw = (o : Order) (M : Path → Mark) (g : Graph) (p : Path) (k l : Key)
+    → IsDrawnFirst o (total_at g (p ++ k ∷ [])) (total_at g (p ++ l ∷ [])) k l
+    → right_edge (total g) (frame_at o M g (p ++ k ∷ [])) ≤ left_edge (total g) (frame_at o M g (p ++ l ∷ []))
 
 -- The width of a box differs from the share of its bytes, in units of a millionth of all, by less than one unit.
 pub record IsShare (all : ℕ) (r : FrameData) : Type 0 where
@@ -39,7 +43,8 @@ ShareLaw = (all : ℕ) (r : FrameData) → 0 < all → IsShare all r
 
 -- No box extends past the right edge of the picture.
 abbrev pub WithinLaw : Type 0
-WithinLaw = (M : Path → Mark) (g : Graph) (p : Path) → 0 < total g → right_edge (total g) (frame_at M g p) ≤ 1000000
+WithinLaw =
+    (o : Order) (M : Path → Mark) (g : Graph) (p : Path) → 0 < total g → right_edge (total g) (frame_at o M g p) ≤ 1000000
 
 -- The boxes of some frames, one after another: the element of a frame, or no text if it has none.
 abbrev pub boxes : ℕ → List ℕ → ℕ → List FrameData → List ℕ

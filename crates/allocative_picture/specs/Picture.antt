@@ -81,8 +81,8 @@ drawing s o rs = drawing_of s o (filter (is_drawn o.narrowest (all_of s)) rs) (l
 
 -- The picture of a flame graph is drawn from its frames, and marks the paths that have a warning.
 abbrev pub profile_drawing : Options → Graph → List ℕ
-profile_drawing o g = drawing (Profile (total g)) o (frames_of (warned_mark (map warning_of o.warned.now)) g)
+profile_drawing o g = drawing (Profile (total g)) o (frames_of o.order (warned_mark (map warning_of o.warned.now)) g)
 
 -- The picture of the change from g to h is drawn from the frames of their sum, each marked with its bytes in g.
 abbrev pub change_drawing : Options → Graph → Graph → List ℕ
-change_drawing o g h = drawing (Change (total g) (total h)) o (frames_of (mark_by Earlier g) (sum_of g h))
+change_drawing o g h = drawing (Change (total g) (total h)) o (frames_of o.order (mark_by Earlier g) (sum_of g h))

@@ -1,11 +1,13 @@
 -- Views of a graph: parts of it, its bytes by last key, its reversed paths, and its outline.
 use Rattle.std.specs.Prelude.{◌≡◌, ℕ, zero, suc, ◌<◌, ◌≤◌, ◌⊎◌, ◌-◌, ◌==◌, cond, List, [], ◌∷◌, drop, fold, length, reverse, sum_by, codes}
-use Rattle.std.specs.Prelude.{Bool, not, ◌&&◌, map, nat_lt, slice_index_or, slice_set}
+use Rattle.std.specs.Prelude.{Bool, not, ◌&&◌, map, nat_eq, nat_lt, unwrap_or, slice_index_or, slice_set}
 use Rattle.std.specs.Borrow.{Bor}
 use Rattle.std.specs.List.{AllZip, list_any}
 use Rattle.std.specs.declared.alloc.Global.{Global}
 use Rattle.std.specs.declared.vec.Vec.{Vec}
+use Rattle.std.specs.Cmp.Lexicographic.{pointwise}
 use Rattle.std.specs.FinMap.{entries}
+use Rattle.std.specs.HashMap.{HashMap, get as in_table}
 use Rattle.allocative_graph.specs.Path.{Key, Path, texts}
 use Rattle.allocative_graph.specs.Graph.{Graph, default, add_self, sum_of, under, total, size_at, IsBehind, HasNothing}
 use Rattle.allocative_graph.specs.Graph.{begins, ends_in}
@@ -67,6 +69,23 @@ all_of gathered = sum_of_all gathered.view gathered.waiting.items
 -- The bytes of all paths of g that end in k.
 abbrev pub bytes_ending_in : Key → Graph → ℕ
 bytes_ending_in k g = sum_by (λ e. cond (ends_in k e.0) e.1 0) (entries g)
+
+-- ---- replaced keys
+-- The key that a table has in place of k, or k itself if it has none.
+abbrev pub new_key : {S : Type 0} → HashMap Key Key S → Key → Key
+new_key names k = unwrap_or (in_table (pointwise nat_eq) names k) k
+
+-- The graph h with the bytes of some paths at the paths whose keys f gives.
+abbrev pub folded_onto : (Key → Key) → Graph → List (Path × ℕ) → Graph
+folded_onto f h es = fold (λ h e. sum_of h (graph_of_path (map f e.0) e.1)) h es
+
+-- The bytes of each path of g at the path whose keys f gives.
+abbrev pub folded : (Key → Key) → Graph → Graph
+folded f g = folded_onto f default (entries g)
+
+-- A child with the key that f gives, and its graph with other keys too.
+abbrev pub folded_child : (Key → Key) → Child → Child
+folded_child f c = record { key = f c.key; graph = folded f c.graph }
 
 -- ---- reversed paths
 -- The graph h with the bytes of some paths at the reversed paths. Paths without bytes are left out.

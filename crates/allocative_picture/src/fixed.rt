@@ -57,6 +57,7 @@ function squeeze(t){t.style.fontSize='';var room=svg.getBoundingClientRect().wid
 if(room>0&&long>room)t.style.fontSize=parseFloat(getComputedStyle(t).fontSize)*room/long+'px'}
 function write(s){say.textContent=s;squeeze(say)}
 all.forEach(function(b){var t=b.querySelector('text').firstChild;b.t=t.nodeType===3?t:{data:''};b.k=b.t.data;b.l=units(b,'x');b.r=b.l+units(b,'width');b.d=+b.getAttribute('y')});
+all.sort(function(a,b){return a.l-b.l||a.d-b.d});
 function zoom(z){
 if(!z)return;
 all.forEach(function(b){var inside=b.l>=z.l&&b.r<=z.r&&b.d>=z.d,over=above(b,z);

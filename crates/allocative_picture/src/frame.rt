@@ -3,7 +3,7 @@
 /// A path of a profile, as a picture shows it.
 ///
 /// The frames of a profile are in the order of paths: a path comes before those below it, and paths with one parent are
-/// ordered by the bytes of their last keys.
+/// ordered by the bytes of their last keys. Each begins where the order of children places it.
 #[derive(Clone, Copy)]
 pub struct Frame<'a> {
     /// The number of keys of the path, which is 0 for the root.
@@ -14,7 +14,7 @@ pub struct Frame<'a> {
     pub own: usize,
     /// The bytes of the path and of all paths below it.
     pub whole: usize,
-    /// The own bytes of all paths before it, together.
+    /// The own bytes of all paths whose boxes begin before its box, together.
     pub before: usize,
     /// What else is known about the path.
     pub mark: Mark,

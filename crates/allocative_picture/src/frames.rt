@@ -1,15 +1,17 @@
 //! The frames of a flame graph, and what marks its paths.
+ghost use Rattle.std.specs.FinMap.{entries};
 ghost use Rattle.std.specs.Prelude.{◌≡◌, ◌+◌, ◌<◌, ◌^◌, ◌++◌, [], ◌∷◌, OnOk, map, filter, option_copied, IfOk};
 ghost use Rattle.allocative_graph.specs.Graph.{total, size_at};
-ghost use Rattle.allocative_graph.specs.Rows.{figures_behind};
 ghost use Rattle.allocative_graph.specs.Path.{Path};
-ghost use Rattle.allocative_picture.specs.Frames.{frame_data, shown_key, frames_from, frame_from, mark_by, mark_in, size_in, total_in, warned_mark};
+ghost use Rattle.allocative_picture.specs.Frames.{frame_data, shown_key, frame_behind, frame_from, mark_by, mark_in, size_in, total_in, warned_mark};
 ghost use Rattle.allocative_picture.specs.Boxes.{is_drawn};
 ghost use Rattle.allocative_collectors.specs.Warned.{warning_of};
 ghost use Rattle.allocative_graph.specs.Rows as frames;
 
 use crate::boxes::is_drawn;
 use crate::frame::{Frame, Mark};
+use crate::options::Order;
+use crate::places::starts;
 use allocative_collectors::output::WarnedPath;
 use allocative_graph::flamegraph::{FlameGraph, add_at};
 use allocative_graph::key::Key;
@@ -35,6 +37,8 @@ pub(crate) struct Shown<'a> {
     pub least: u32,
     /// The bytes that the whole width stands for.
     pub all: u128,
+    /// In which order children are drawn.
+    pub order: Order,
 }
 
 impl Marks {
@@ -109,36 +113,35 @@ pub(crate) fn push_wide<'a>(
 }
 
 /// Appends the frames of all paths of a graph that are wide enough, each after the given keys. `other` is what the other
-/// graph has at these keys and below them. `before` has the bytes of all paths before.
-#[tactic(auto, using(crate::proofs::Placing::walking))]
+/// graph has at these keys and below them. So many bytes are before the first frame.
 pub(crate) fn push_frames(
     shown: &Shown<'_>,
     graph: &FlameGraph,
     other: Option<&FlameGraph>,
     path: &mut Vec<&'static str>,
-    before: &mut usize,
+    before: usize,
     frames: &mut Vec<Frame<'static>>,
 ) -> Result<(), AllocError>
-    requires fits { before.old + total graph.now < 2 ^ 64 }
+    requires fits { before + total graph.now < 2 ^ 64 }
     requires other { (p : Path)
         → mark_by shown.now.marks shown.now.other.now (map (λ k. k.now) path.old.items ++ p)
         ≡ mark_in shown.now.marks (option_copied other) p }
     ensures path { OnOk result (path.new.items ≡ path.old.items) }
-    ensures before { OnOk result (before.new ≡ before.old + total graph.now) }
     ensures frames { OnOk result (map frame_data frames.new.items ≡ map frame_data frames.old.items
-        ++ filter (is_drawn shown.now.least shown.now.all)
-        (frames_from (mark_by shown.now.marks shown.now.other.now) before.old
-        (figures_behind (map (λ k. k.now) path.old.items) graph.now))) }
+        ++ filter (is_drawn shown.now.least shown.now.all) (map (frame_behind shown.now.order
+        (mark_by shown.now.marks shown.now.other.now) before (map (λ k. k.now) path.old.items) graph.now)
+        (entries graph.now))) }
 {
     let children = graph.children();
     let mark = shown.marks.of(other);
-    let frame = frame_from(mark, *before, path.as_slice(), graph);
+    let frame = frame_from(mark, before, path.as_slice(), graph);
     push_wide(shown.least, shown.all, frame, frames)?;
-    *before += graph.self_size();
-    for child in children {
+    let first = before + graph.self_size();
+    let starts = starts(*path.allocator(), shown.order, first, children)?;
+    for (index, child) in children.iter().enumerate() {
         let below = below(other, &child.key);
         path.push(child.key.as_str())?;
-        push_frames(shown, &child.graph, below, path, before, frames)?;
+        push_frames(shown, &child.graph, below, path, starts[index], frames)?;
         path.pop();
     }
     Ok(())

@@ -9,7 +9,7 @@ pub fn inside_law()
     ensures { InsideLaw }
 {}
 
-/// Boxes with one parent lie beside one another, in the order of their keys.
+/// Boxes with one parent lie beside one another, in the order of their keys or by size.
 pub fn apart_law()
     ensures { ApartLaw }
 {}

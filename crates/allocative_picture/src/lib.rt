@@ -14,5 +14,6 @@ pub mod laws;
 pub mod options;
 pub mod page;
 pub mod picture;
+mod places;
 pub mod table;
 pub mod views;

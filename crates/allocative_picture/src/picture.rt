@@ -69,18 +69,19 @@ fn draw_graph(
     options: &Options<'_>,
 ) -> Result<String, AllocError>
     ensures { ReturnsText result
-        (drawing subject options.now (frames_of (mark_by marks other.now) graph.now)) }
+        (drawing subject options.now (frames_of options.now.order (mark_by marks other.now) graph.now)) }
 {
     let shown = Shown {
         marks,
         other,
         least: options.narrowest,
         all: subject.all(),
+        order: options.order,
     };
     let (mut path, mut wide) = (Vec::new(alloc), Vec::new(alloc));
     // The contract of `total_size` says that all bytes fit a `usize`, so no sum below overflows.
     let _all = graph.total_size();
-    push_frames(&shown, graph, Some(other), &mut path, &mut 0, &mut wide)?;
+    push_frames(&shown, graph, Some(other), &mut path, 0, &mut wide)?;
     let paths = graph.path_count().ok_or(AllocError)?;
     draw_wide(alloc, subject, wide.as_slice(), paths, options)
 }

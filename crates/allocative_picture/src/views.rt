@@ -6,14 +6,14 @@ ghost use Rattle.allocative_graph.specs.Path.{Key, Path, key_cmp, texts};
 ghost use Rattle.allocative_graph.specs.Graph.{default, size_at, sum_of, total, under};
 ghost use Rattle.allocative_graph.specs.Rows.{under_rows};
 ghost use Rattle.allocative_graph.specs.Representation.Children.{InOrder, IsChildGap, IsFound, graph_of_path};
-ghost use Rattle.allocative_picture.specs.Views.{all_of, by_last_key, by_last_keys, bytes_alone, bytes_ending_in, bytes_within, chosen_onto, is_chosen, is_within, joined, only, paths_of, reversed, reversed_onto, without, IsOutline, IsTakenApart, TakesGuide, TakesNext};
+ghost use Rattle.allocative_picture.specs.Views.{all_of, by_last_key, by_last_keys, bytes_alone, bytes_ending_in, bytes_within, chosen_onto, folded, is_chosen, is_within, joined, new_key, only, paths_of, reversed, reversed_onto, without, IsOutline, IsTakenApart, TakesGuide, TakesNext};
 ghost use Rattle.allocative_picture.specs.Table.{behind};
 
 use allocative_graph::flamegraph::{Child, FlameGraph, add_at};
 use allocative_graph::key::Key;
 use std::alloc::{AllocError, Global};
 use std::cmp::Ordering;
-use std::collections::VecDeque;
+use std::collections::{HashMap, VecDeque};
 use std::mem;
 
 /// Adds bytes to the root of an empty view, where they fit.
@@ -382,6 +382,40 @@ pub fn reverse(alloc: Global, graph: &FlameGraph) -> Result<FlameGraph, AllocErr
     }
     gathered.add_waiting()?;
     Ok(gathered.view)
+}
+
+/// The key that a table has in place of a key, or the key itself if it has none.
+fn new_key(names: &HashMap<Key, Key>, key: &Key) -> Key
+    ensures { result ≡ new_key names.now key.now }
+{
+    match names.get(key) {
+        Some(new) => new.copy(),
+        None => key.copy(),
+    }
+}
+
+/// The graph with other keys: each path has its bytes at the path of the keys that a table has in place of its own, and
+/// equal paths add up. A key that the table does not have stays. The only error is that memory runs out.
+pub fn fold_keys(
+    alloc: Global,
+    names: &HashMap<Key, Key>,
+    graph: &FlameGraph,
+) -> Result<FlameGraph, AllocError>
+    ensures view { IfOk result (λ view. view ≡ folded (new_key names.now) graph.now) }
+    ensures total { IfOk result (λ view. total view ≡ total graph.now) }
+{
+    let children = graph.children();
+    let mut below = Vec::with_capacity(alloc, children.len())?;
+    for child in children {
+        let graph = fold_keys(alloc, names, &child.graph)?;
+        below.push(Child {
+            key: new_key(names, &child.key),
+            graph,
+        })?;
+    }
+    let mut view = bytes_alone(alloc, graph.self_size())?;
+    view.add_children(below).map_err(|_| AllocError)?;
+    Ok(view)
 }
 
 /// Whether a path is one of some paths or below one.

@@ -1,12 +1,13 @@
 -- What a run makes of its texts, and what stops it.
-use Rattle.std.specs.Prelude.{◌≡◌, ℕ, ◌+◌, ◌-◌, ◌^◌, ◌<◌, ◌≤◌, ◌==◌, ◌⊎◌, ◌||◌, ◌&&◌, Bool, true, false, not, cond, List, []}
+use Rattle.std.specs.Prelude.{◌≡◌, ℕ, ◌+◌, ◌-◌, ◌^◌, ◌<◌, ◌≤◌, ◌==◌, ◌⊎◌, ◌||◌, ◌&&◌, Bool, true, false, not, cond, is_some, List, []}
 use Rattle.std.specs.Prelude.{◌∷◌, ◌++◌, length, drop, map, nat_eq, nat_lt, IsUtf8, ⊤, IsTrue, MatchBool}
 use Rattle.std.specs.List.{starts_with}
 use Rattle.allocative_graph.specs.Graph.{Graph, default, sum_of, text, total}
+use Rattle.allocative_graph.specs.Path.{Key}
 use Rattle.allocative_graph.specs.Read.{IsRead, IsFault, Exceeds}
 use Rattle.allocative_picture.specs.Picture.{profile_drawing, change_drawing}
 use Rattle.allocative_picture.specs.Table.{IsGrowthTable, IsTable}
-use Rattle.allocative_picture.specs.Views.{IsOutline, by_last_key, only, paths_of, reversed, without}
+use Rattle.allocative_picture.specs.Views.{IsOutline, by_last_key, folded, only, paths_of, reversed, without}
 use Rattle.allocative_picture.specs.declared.options.Options.{Options}
 use Rattle.allocative_picture.specs.declared.table.Size.{Size}
 use Rattle.allocative_picture.specs.declared.table.Size.TheVariants.{Own, Total}
@@ -75,9 +76,13 @@ abbrev pub part_of : Arguments → Graph → Graph
 part_of asked g =
     cond (length asked.without.items == 0) (within asked g) (without (paths_of asked.without.items) (within asked g))
 
--- The graph g, or that with the reversed paths if it is asked for.
-abbrev pub turned : Arguments → Graph → Graph
-turned asked g = cond asked.reverse (reversed g) g
+-- The graph g, or that with the keys that `names` gives if keys are replaced.
+abbrev pub renamed : Arguments → (Key → Key) → Graph → Graph
+renamed asked names g = cond (is_some asked.fold_key) (folded names g) g
+
+-- That graph, or that with the reversed paths if it is asked for.
+abbrev pub turned : Arguments → (Key → Key) → Graph → Graph
+turned asked names g = cond asked.reverse (reversed (renamed asked names g)) (renamed asked names g)
 
 -- Whether graphs are outlined.
 abbrev pub is_outlined : Arguments → Bool
@@ -106,6 +111,7 @@ pub record IsOptions (asked : Arguments) (o : Options) : Type 0 where
   pub warned : o.warned.now ≡ []
   pub narrowest : o.narrowest ≡ asked.narrowest
   pub unit : o.unit ≡ asked.unit
+  pub order : o.order ≡ asked.order
 
 -- Which bytes a table shows: those of a path with all paths below it if they are asked for, and otherwise its own.
 abbrev pub size_of : Arguments → Size
@@ -133,15 +139,17 @@ pub record Shows (asked : Arguments) (change : Bool) (g h : Graph) (made : List 
   pub is : Writes asked change shown_earlier shown_later made
 
 -- What is written of these texts is what the arguments ask for, of the parts that they ask for of the graphs that the
--- texts add up to. That of the later graph has bytes if it is asked not to be empty.
+-- texts add up to. Both parts have the same names for keys. That of the later graph has bytes if it is asked not to be
+-- empty.
 pub record IsMade (asked : Arguments) (before : List Text) (after : List Sourced) (made : List ℕ) : Type 0 where
   pub earlier : Graph
   pub later : Graph
   pub earlier_read : AddUp (map sourced before) earlier
   pub later_read : AddUp after later
   pub some : IsTrue asked.not_empty → 0 < total (part_of asked later)
-  pub shows : Shows asked (is_change asked (length before)) (turned asked (part_of asked earlier))
-      (turned asked (part_of asked later)) made
+  pub names : Key → Key
+  pub shows : Shows asked (is_change asked (length before)) (turned asked names (part_of asked earlier))
+      (turned asked names (part_of asked later)) made
 
 -- ---- what stops a run
 -- Why no graph is read of a text: memory runs out; it is not UTF-8; it is in the differential form; or it is not, and a

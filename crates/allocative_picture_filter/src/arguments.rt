@@ -1,8 +1,10 @@
 //! The arguments of the program.
 
 use crate::fault::Fault;
+use allocative_picture::options::Order;
 use clap::error::ErrorKind;
 use clap::{Arg, ArgAction, ArgMatches, Command, Error};
+use regex::{Error as PatternError, Regex};
 use std::alloc::{AllocError, Global};
 
 /// What the arguments ask for.
@@ -18,10 +20,14 @@ pub struct Arguments<'a> {
     pub narrowest: u32,
     /// What the numbers of the lines count.
     pub unit: &'a str,
+    /// In which order the children of a path are drawn.
+    pub order: Order,
     /// The paths that are kept with what is below them. If there is none, all are.
     pub only: Vec<Vec<&'a str>>,
     /// The paths that are left out with what is below them.
     pub without: Vec<Vec<&'a str>>,
+    /// What is to match a whole key for it to be replaced, if keys are.
+    pub fold_key: Option<Regex>,
     /// Whether to reverse the keys of each path.
     pub reverse: bool,
     /// The greatest number of keys of a path that is shown, or 0 if paths are not cut.
@@ -66,8 +72,10 @@ fn command<'a>(alloc: Global) -> Result<Command<'a>, AllocError> {
         .arg(option(alloc, "title", "TEXT"))?
         .arg(option(alloc, "narrowest", "WIDTH"))?
         .arg(option(alloc, "unit", "WORD"))?
+        .arg(option(alloc, "order", "ORDER"))?
         .arg(option(alloc, "depth", "KEYS"))?
         .arg(option(alloc, "fold", "CHILDREN"))?
+        .arg(option(alloc, "fold-key", "PATTERN"))?
         .arg(option(alloc, "top", "LINES"))?
         .arg(option(alloc, "only", "PATH").action(ArgAction::Append))?
         .arg(option(alloc, "without", "PATH").action(ArgAction::Append))?
@@ -103,6 +111,41 @@ fn number_of<'a>(
     }
 }
 
+// The order in which children are drawn.
+fn order_of<'a>(alloc: Global, matches: &ArgMatches<'a>) -> Result<Order, Fault<'a>> {
+    match matches.get_str("order") {
+        None | Some("key") => Ok(Order::Key),
+        Some("size") => Ok(Order::Size),
+        Some(value) => {
+            let reason = format!(in alloc; "--order takes key or size, not {value}")?;
+            Err(Fault::Arguments(reason))
+        }
+    }
+}
+
+// What matches a text if a pattern matches the whole of it. The pattern is compiled alone first, since what follows it
+// could close a group that it leaves open.
+fn whole(alloc: Global, pattern: &str) -> Result<Regex, PatternError> {
+    let _alone = Regex::new(alloc, pattern)?;
+    let whole = format!(in alloc; "\\A(?:{pattern})\\z")?;
+    Regex::new(alloc, whole.as_str())
+}
+
+// The pattern of keys that are replaced, if there is one.
+fn pattern_of<'a>(alloc: Global, matches: &ArgMatches<'a>) -> Result<Option<Regex>, Fault<'a>> {
+    let Some(pattern) = matches.get_str("fold-key") else {
+        return Ok(None);
+    };
+    match whole(alloc, pattern) {
+        Ok(regex) => Ok(Some(regex)),
+        Err(PatternError::OutOfMemory) => Err(Fault::Memory),
+        Err(_) => {
+            let reason = format!(in alloc; "--fold-key takes a regular expression, not {pattern}")?;
+            Err(Fault::Arguments(reason))
+        }
+    }
+}
+
 // The paths that are the values of an argument, each with `;` between its keys.
 fn paths_of<'a>(
     alloc: Global,
@@ -122,6 +165,7 @@ fn discord_of(
     as_text: bool,
     top: u32,
     inclusive: bool,
+    ordered: bool,
     before: &[&str],
 ) -> Option<&'static str> {
     if inputs > 1 {
@@ -134,6 +178,10 @@ fn discord_of(
         Some("--text does not go with --top")
     } else if inclusive && top == 0 {
         Some("--inclusive goes with --top alone")
+    } else if ordered && as_text {
+        Some("--text does not go with --order")
+    } else if ordered && top > 0 {
+        Some("--top does not go with --order")
     } else {
         None
     }
@@ -160,7 +208,9 @@ fn asked_by<'a>(alloc: Global, matches: &ArgMatches<'a>) -> Result<Arguments<'a>
     let inputs = names.iter().filter(|name| **name == "-").count();
     let before = matches.get_strs("before").unwrap_or(&[]);
     let (as_text, inclusive) = (matches.get_flag("text"), matches.get_flag("inclusive"));
-    if let Some(discord) = discord_of(inputs, as_text, top, inclusive, before) {
+    let order = order_of(alloc, matches)?;
+    let ordered = matches.get_str("order").is_some();
+    if let Some(discord) = discord_of(inputs, as_text, top, inclusive, ordered, before) {
         return Err(Fault::Arguments(String::from_str(alloc, discord)?));
     }
     let unit = matches.get_str("unit").unwrap_or("bytes");
@@ -175,8 +225,10 @@ fn asked_by<'a>(alloc: Global, matches: &ArgMatches<'a>) -> Result<Arguments<'a>
         title: matches.get_str("title").unwrap_or(title),
         narrowest,
         unit,
+        order,
         only: paths_of(alloc, matches, "only")?,
         without: paths_of(alloc, matches, "without")?,
+        fold_key: pattern_of(alloc, matches)?,
         reverse: matches.get_flag("reverse"),
         depth,
         fold,
@@ -190,12 +242,13 @@ fn asked_by<'a>(alloc: Global, matches: &ArgMatches<'a>) -> Result<Arguments<'a>
 }
 
 /// Reads the arguments by `clap`: `--text`, `--not-empty`, `--by-last-key`, `--inclusive`, `--reverse`, `--title` and
-/// `--unit` with a text, `--narrowest`, `--depth`, `--fold` and `--top` with a number, `--only` and `--without` with a
-/// path, `--before` with the name of a file, names of files, and `-` for the input, which is also read if no file of
-/// the profile is named. Of several uses of one with a text or a number the last one counts. It fails with
-/// `Fault::Arguments` if `clap` refuses the words, if a number is not below 2^32 in decimal digits alone, if `-` is
-/// repeated or given to `--before`, if a text is asked for with a table or a change, or if `--inclusive` is, but no
-/// table. The only other error is `Fault::Memory`.
+/// `--unit` with a text, `--order` with `key` or `size`, `--narrowest`, `--depth`, `--fold` and `--top` with a number,
+/// `--fold-key` with a regular expression, `--only` and `--without` with a path, `--before` with the name of a file,
+/// names of files, and `-` for the input, which is also read if no file of the profile is named. Of several uses of one
+/// with a single value the last one counts. It fails with `Fault::Arguments` if `clap` refuses the words, if a number
+/// is not below 2^32 in decimal digits alone, if an order is neither, if a regular expression does not compile, if `-`
+/// is repeated or given to `--before`, if a text is asked for with a table, a change or an order, if a table is with an
+/// order, or if `--inclusive` is, but no table. The only other error is `Fault::Memory`.
 pub fn read_arguments<'a>(alloc: Global, words: &'a [String]) -> Result<Arguments<'a>, Fault<'a>> {
     match command(alloc)?.try_get_matches_from(words) {
         Ok(matches) => asked_by(alloc, &matches),

@@ -5,6 +5,7 @@
 mod arguments;
 mod differential;
 mod fault;
+mod names;
 mod run;
 
 use arguments::{Arguments, read_arguments};

@@ -4,21 +4,25 @@ ghost use Rattle.std.specs.Io.KnownBytes.{Appends};
 ghost use Rattle.allocative_graph.specs.Graph.{Graph, default, total};
 ghost use Rattle.allocative_io.specs.Streams.{AppendsBeginning};
 ghost use Rattle.allocative_picture_filter.specs.Fault.{IsReadingOf};
-ghost use Rattle.allocative_picture_filter.specs.Run.{sourced, without_mark, later_texts, Reads, Adds, AddUp, StopsReading, StopsAdding, StopsAddingUp, StopsProfile, Stops, IsMade, IsShown, IsTableOf, Shows, Writes, guide_of, is_change, is_outlined, limit_of, part_of, size_of, turned, within};
-ghost use Rattle.allocative_picture.specs.Views.{IsOutline};
+ghost use Rattle.allocative_picture_filter.specs.Run.{sourced, without_mark, later_texts, Reads, Adds, AddUp, StopsReading, StopsAdding, StopsAddingUp, StopsProfile, Stops, IsMade, IsShown, IsTableOf, Shows, Writes, guide_of, is_change, is_outlined, limit_of, part_of, renamed, size_of, turned, within};
+ghost use Rattle.allocative_graph.specs.Path.{Key};
+ghost use Rattle.allocative_picture.specs.Views.{IsOutline, new_key};
 
 use crate::arguments::Arguments;
 use crate::differential::is_differential;
 use crate::fault::{Fault, Source};
+use crate::names::names_of;
 use allocative_graph::flamegraph::FlameGraph;
+use allocative_graph::key::Key;
 use allocative_graph::read::ReadFault;
 use allocative_graph::refusal::Refusal;
 use allocative_io::{ReadError, read_input, write_text};
 use allocative_picture::options::Options;
 use allocative_picture::picture::{change_picture, picture};
 use allocative_picture::table::{Size, growth_table, table};
-use allocative_picture::views::{by_last_key, only, outline, reverse, without};
+use allocative_picture::views::{by_last_key, fold_keys, only, outline, reverse, without};
 use std::alloc::{AllocError, Global};
+use std::collections::HashMap;
 use std::io::{Read, Write};
 
 /// A text, and where it comes from. Its bytes are kept as long as the program runs, since the keys of a graph are
@@ -322,6 +326,7 @@ fn written(
         title: asked.title,
         narrowest: asked.narrowest,
         unit: asked.unit,
+        order: asked.order,
         ..Options::default()
     };
     if asked.as_text {
@@ -335,15 +340,37 @@ fn written(
     }
 }
 
-// The graph, or that with the reversed paths if it is asked for.
-fn turned(alloc: Global, asked: &Arguments<'_>, graph: FlameGraph) -> Result<FlameGraph, AllocError>
-    ensures turned { IfOk result (λ made. made ≡ turned asked.now graph) }
+// The graph, or that with the keys of a table if keys are replaced.
+fn renamed(
+    alloc: Global,
+    asked: &Arguments<'_>,
+    names: &HashMap<Key, Key>,
+    graph: FlameGraph,
+) -> Result<FlameGraph, AllocError>
+    ensures renamed { IfOk result (λ made. made ≡ renamed asked.now (new_key names.now) graph) }
     ensures total { IfOk result (λ made. total made ≡ total graph) }
 {
-    if asked.reverse {
-        return reverse(alloc, &graph);
+    match asked.fold_key {
+        None => Ok(graph),
+        Some(_) => fold_keys(alloc, names, &graph),
     }
-    Ok(graph)
+}
+
+// The graph with the keys of a table if keys are replaced, and with the reversed paths if these are asked for.
+fn turned(
+    alloc: Global,
+    asked: &Arguments<'_>,
+    names: &HashMap<Key, Key>,
+    graph: FlameGraph,
+) -> Result<FlameGraph, AllocError>
+    ensures turned { IfOk result (λ made. made ≡ turned asked.now (new_key names.now) graph) }
+    ensures total { IfOk result (λ made. total made ≡ total graph) }
+{
+    let renamed = renamed(alloc, asked, names, graph)?;
+    if asked.reverse {
+        return reverse(alloc, &renamed);
+    }
+    Ok(renamed)
 }
 
 // Makes what the arguments ask for of the graphs of the earlier texts and of the others, whose paths are turned.
@@ -372,13 +399,14 @@ fn made_of(
     earlier: FlameGraph,
     later: FlameGraph,
 ) -> Result<String, Refusal>
-    ensures ok { IfOk result
-        (λ made. Shows asked.now change (turned asked.now earlier) (turned asked.now later) (string_bytes made)) }
+    ensures ok { IfOk result (λ made. (names : Key → Key) × Shows asked.now change (turned asked.now names earlier)
+        (turned asked.now names later) (string_bytes made)) }
     ensures too_large { IsErrOf result Refusal.TooLarge
         → 2 ^ 64 ≤ cond change (total earlier + total later) 0 }
 {
-    let turned_earlier = turned(alloc, asked, earlier)?;
-    let turned_later = turned(alloc, asked, later)?;
+    let names = names_of(alloc, asked.fold_key.as_ref(), &earlier, &later)?;
+    let turned_earlier = turned(alloc, asked, &names, earlier)?;
+    let turned_later = turned(alloc, asked, &names, later)?;
     made_of_turned(alloc, asked, change, turned_earlier, turned_later)
 }
 

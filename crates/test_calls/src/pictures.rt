@@ -36,8 +36,7 @@ fn warned_and_unused_paths_are_marked(rt: HostRuntime) -> Result<(), Refusal> {
     let options = Options {
         title: "A & B",
         warned: &warned,
-        narrowest: 500,
-        unit: "bytes",
+        ..Options::default()
     };
     let text = picture(alloc, &graph, &options)?;
     assert!(rt; text.starts_with(MARKED[0]) && text.ends_with("]]></script>\n</svg>\n"));

@@ -46,7 +46,8 @@ returns-clause-ok g c =
           let some : total (part_of c.args.asked.now c.in_ok-later.later) ≡ 0 → ⊥ =
           λ none. true≢false (sym (c.is_refused.ensures.1 (asked, ap total c.in_ok-later_part.ensures ∙ none)) ∙ c.if-is_refused.false) in
           omega (arith, some);
-      shows = rw (c.is_change-change.ensures, c.in_ok-earlier_part.ensures, c.in_ok-later_part.ensures) at c.in_ok-made_of.ensures.ok;
+      names = c.in_ok-made_of.ensures.ok.0;
+      shows = rw (c.is_change-change.ensures, c.in_ok-earlier_part.ensures, c.in_ok-later_part.ensures) at c.in_ok-made_of.ensures.ok.1;
     })
 
 pub returns-then-is_refused-clause-stops : goal.returns-then-is_refused-clause-stops
