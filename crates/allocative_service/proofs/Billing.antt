@@ -13,16 +13,16 @@ use Rattle.std.proofs.lemmas.Map.{lookup-none}
 use Rattle.std.proofs.lemmas.Map.Entries.{none_below_head, sum_by-insert_entry, sum_by-remove_entry}
 use Rattle.std.proofs.lemmas.Map.Keys.{sorted_tail}
 use Rattle.std.proofs.lemmas.Option.{same_Some}
-use Rattle.allocative.specs.Forest.{Forest}
-use Rattle.allocative_service.specs.declared.measure.Measure.{Measure}
-use Rattle.allocative_service.specs.declared.kept.Kept.{Kept}
 use Rattle.allocative_service.specs.declared.book.rejection.Rejection.{Rejection}
 use Rattle.allocative_service.specs.declared.book.rejection.Rejection.TheVariants.{TooLarge}
-use Rattle.allocative_service.specs.Measured.{Declares}
 use Rattle.allocative_service.specs.Rejected.{RejectsRoom, RejectsThen}
-use Rattle.allocative_service.specs.Kept.{IsBilled}
 use Rattle.allocative_service.proofs.Accounts.{sum_by-written}
 use Rattle.allocative_service.specs.Book.{AreBilled, billed_sum, bytes_in}
+
+-- No key is found if no entry is.
+pub key_none : {K E : Type 0} (test : K → Bool) (es : List (K × E)) → lookup test es ≡ None → lookup_key test es ≡ None
+key_none test [] none = refl
+key_none test (e ∷ es) none = grind (arith, key_none test es)
 
 module _ {K E : Type 0} (P : K → E → Type 0) where
   -- What holds of a key with its entry.
@@ -38,17 +38,17 @@ module _ {K E : Type 0} (P : K → E → Type 0) where
       by true rest = All-tail Billed e es h
       by false rest = All-cons Billed e (remove_entry test es) (All-head Billed e es h) rest
 
-  -- An entry that is found is billed with the key that is found.
-  pub billed-found : (test : K → Bool) (es : List (K × E)) (k : K) (e : E) → AreBilled P es →
-      Some k ≡ lookup_key test es → Some e ≡ lookup test es → P k e
-  billed-found test [] k e h key entry = absurd cc
-  billed-found test (f ∷ es) k e h key entry =
-      by (test f.0) (billed-found test es k e (All-tail Billed f es h)) key entry
+  -- An entry that is found is billed with the key that it is stored under.
+  pub billed-found : (test : K → Bool) (es : List (K × E)) (key : K) (e : E) → AreBilled P es →
+      Some e ≡ lookup test es → P (unwrap_or (lookup_key test es) key) e
+  billed-found test [] key e h found = absurd cc
+  billed-found test (f ∷ es) key e h found =
+      by (test f.0) (billed-found test es key e (All-tail Billed f es h)) found
     where
-      by : (b : Bool) → (Some k ≡ lookup_key test es → Some e ≡ lookup test es → P k e) →
-          Some k ≡ cond b (Some f.0) (lookup_key test es) → Some e ≡ cond b (Some f.1) (lookup test es) → P k e
-      by true rest is has = rw (same_Some k f.0 is, same_Some e f.1 has) (All-head Billed f es h)
-      by false rest is has = rest is has
+      by : (b : Bool) → (Some e ≡ lookup test es → P (unwrap_or (lookup_key test es) key) e) →
+          Some e ≡ cond b (Some f.1) (lookup test es) → P (unwrap_or (cond b (Some f.0) (lookup_key test es)) key) e
+      by true rest is = rw (same_Some e f.1 is) (All-head Billed f es h)
+      by false rest is = rest is
 
   -- The entries are billed after one was written over another that has the same key, if it is billed with that.
   pub billed-set : (test : K → Bool) (es : List (K × E)) (had w : E) → lookup test es ≡ Some had →
@@ -62,11 +62,6 @@ module _ {K E : Type 0} (P : K → E → Type 0) where
       by true rest is = All-cons Billed (e.0, w) es (as_had e.0 (rw (← same_Some e.1 had is) (All-head Billed e es h)))
           (All-tail Billed e es h)
       by false rest is = All-cons Billed e (set_value test es w) (All-head Billed e es h) (rest is)
-
-  -- No key is found if no entry is.
-  key_none : (test : K → Bool) (es : List (K × E)) → lookup test es ≡ None → lookup_key test es ≡ None
-  key_none test [] none = refl
-  key_none test (e ∷ es) none = grind (arith, key_none test es)
 
   -- The entries are billed after one was put, if it is billed with the key that it is then under.
   pub billed-insert : {cmp : K → K → Ordering} → IsTotalOrder cmp → (es : List (K × E)) (key : K) (w : E) →
@@ -123,7 +118,7 @@ module _ {K E : Type 0} (billed : E → ℕ) (test : K → Bool) (es : List (K �
 pub ruleset removing = (sum_by-remove_entry, billed-remove, entry_within)
 
 -- The lemmas on an account after an entry was put.
-pub ruleset putting = (sum_by-insert_entry, billed-insert, billed-found, entry_within)
+pub ruleset putting = (sum_by-insert_entry, billed-insert, entry_within)
 
 -- The lemmas on an account after an entry was changed.
 pub ruleset changing = (
@@ -144,12 +139,3 @@ pub no_room : (P : Result ℕ Rejection → Type 0) (all sum limit had key_bytes
 no_room P all sum limit had key_bytes r part (inl refused) = inl refused
 no_room P all sum limit had key_bytes r part (inr (n, gives, (is, large))) =
     inr (n, gives, rw is (omega (arith, part, large)))
-
--- A key that is found declares the bytes that are billed for it.
-pub key_billed : {K V : Type 0} {key_size : Option ℕ} {key_shows : K → Forest → Type 0} {size : Option ℕ}
-    {may_show : V → Forest → Type 0} {m : Measure} (test : K → Bool) (es : List (K × Kept V)) (k : K) (e : Kept V) →
-    AreBilled (IsBilled key_size key_shows size may_show m) es → Some k ≡ lookup_key test es → Some e ≡ lookup test es →
-    Declares m key_size (key_shows k) e.key_bytes
-key_billed {key_size} {key_shows} {size} {may_show} {m} test es k e h key entry =
-    let bill = billed-found (IsBilled key_size key_shows size may_show m) test es k e h key entry in
-    bill.of_key

@@ -1,17 +1,14 @@
 -- The entries after an insertion.
-use Rattle.std.proofs.Common.{◌≡◌, ℕ, ◌+◌, ◌<◌, ◌≤◌, Bool, true, false, cond, Option, Some, None, [], ◌∷◌, length, refl, ap, ◌∙◌, subst, arith}
+use Rattle.std.proofs.Common.{◌≡◌, ℕ, ◌+◌, ◌<◌, ◌≤◌, Bool, None, Option, Some, [], ◌∷◌, length, refl, ap, ◌∙◌, subst, arith}
 use Rattle.std.proofs.Common.{take_all, All}
-use Rattle.std.specs.Map.{lookup, lookup_entry, remove_entry}
+use Rattle.std.specs.Map.{lookup_entry, lookup_key, remove_entry}
 use Rattle.allocative.specs.Forest.{Forest}
 use Rattle.allocative_service.specs.declared.kept.Kept.{Kept}
-use Rattle.allocative_service.specs.Book.{AreBilled}
 use Rattle.allocative_service.specs.Entries.{Entries, bytes_of, Bounded, KeepsRecent, IsBounded, AreKept}
 use Rattle.allocative_service.specs.Entries.{with_entries, stored_key, Inserts}
 use Rattle.allocative_service.specs.Kept.{IsBilled, kept_bytes}
-use Rattle.allocative_service.specs.Measured.{Declares}
-use Rattle.std.specs.Option.{option_map, option_map_or, unwrap_or}
-use Rattle.std.proofs.lemmas.List.Elements.{All-cons, All-head, All-tail, All-take}
-use Rattle.std.proofs.lemmas.Option.{same_Some}
+use Rattle.std.specs.Option.{option_map}
+use Rattle.std.proofs.lemmas.List.Elements.{All-cons, All-take}
 use Rattle.std.proofs.lemmas.Map.Entries.{sum_by-remove_entry}
 use Rattle.std.proofs.Math.Seq.{take-append_seam}
 use Rattle.lru.specs.LruCache.{LruCache, put_entries}
@@ -25,11 +22,17 @@ module _ {K V : Type 0} where
   none_removed test [] none = refl
   none_removed test (e ∷ es) none = grind (arith, none_removed test es)
 
+  -- The key of the entry that passes the test.
+  key_of_entry : (test : K → Bool) (es : Entries K V) →
+      lookup_key test es ≡ option_map (λ e. e.0) (lookup_entry test es)
+  key_of_entry test [] = refl
+  key_of_entry test (e ∷ es) = grind (arith, key_of_entry test es)
+
   -- Below the capacity, `put` places the pair first and removes only the entry of an equal key.
   pub put_entries-unbounded : (eq : K → K → Bool) (c : LruCache K (Kept V)) (key : K) (k : Kept V) →
       length c.entries < c.cap →
       put_entries eq c key k ≡ (stored_key eq key c.entries, k) ∷ remove_entry (eq key) c.entries
-  put_entries-unbounded eq c key k fewer = grind (arith, none_removed, take_all)
+  put_entries-unbounded eq c key k fewer = grind (arith, none_removed, take_all, key_of_entry)
 
 module _ {K V : Type 0} {key_size : Option ℕ} {key_shows : K → Forest → Type 0} {size : Option ℕ}
     {may_show : V → Forest → Type 0} {m : Measure} where
@@ -92,31 +95,6 @@ module _ {F K V : Type 0} {key_size : Option ℕ} {key_shows : K → Forest → 
       IsBounded key_size key_shows size may_show old → IsBounded key_size key_shows size may_show new
   Inserts-bounded i h = rw i.is (first-kept _ old.bound i.billed i.fits
       (recent-kept old.bound i.recent (omega (arith, i.fits)) (without-kept (eq key) h)))
-
--- A key that is not there is stored as it is.
-pub stored_new : {K V : Type 0} (eq : K → K → Bool) (key : K) (es : Entries K V) → lookup (eq key) es ≡ None →
-    stored_key eq key es ≡ key
-stored_new eq key [] none = refl
-stored_new eq key (e ∷ es) none = grind (arith, stored_new eq key es)
-
--- A key that is found declares the bytes that are billed for it.
-pub stored_billed : {K V : Type 0} {key_size : Option ℕ} {key_shows : K → Forest → Type 0} {size : Option ℕ}
-    {may_show : V → Forest → Type 0} {m : Measure} (eq : K → K → Bool) (key : K) (es : Entries K V) (k : Kept V) →
-    AreBilled (IsBilled key_size key_shows size may_show m) es → Some k ≡ lookup (eq key) es →
-    Declares m key_size (key_shows (stored_key eq key es)) k.key_bytes
-stored_billed eq key [] k h found = absurd cc
-stored_billed {K} {V} {key_size} {key_shows} {size} {may_show} {m} eq key (e ∷ es) k h found =
-    let P : K × Kept V → Type 0 = λ f. IsBilled key_size key_shows size may_show m f.0 f.1 in
-    let here : IsBilled key_size key_shows size may_show m e.0 e.1 = All-head P e es h in
-    by (eq key e.0) here.of_key (stored_billed eq key es k (All-tail P e es h)) found
-  where
-    by : (b : Bool) → Declares m key_size (key_shows e.0) e.1.key_bytes →
-        (Some k ≡ lookup (eq key) es → Declares m key_size (key_shows (stored_key eq key es)) k.key_bytes) →
-        Some k ≡ cond b (Some e.1) (lookup (eq key) es) →
-        Declares m key_size (key_shows (option_map_or (λ f. f.0) (cond b (Some e) (lookup_entry (eq key) es)) key))
-        k.key_bytes
-    by true here rest is = rw (same_Some k e.1 is) here
-    by false here rest is = rest is
 
 -- The lemmas on the entries that a value is put into.
 pub ruleset putting = (sum_by-remove_entry, put_entries-unbounded, entry_within)

@@ -1,6 +1,6 @@
 -- What a book of accounts holds, and how its calls change it.
 use Rattle.std.specs.Prelude.{◌≡◌, ℕ, ◌-◌, ◌^◌, ◌<◌, ◌≤◌, All, Bool, List, [], ◌∷◌, ◌++◌, Option, None, Some, String}
-use Rattle.std.specs.Prelude.{option_map, string_bytes, sum_by, unwrap_or, IsSomeAnd}
+use Rattle.std.specs.Prelude.{max, option_map, string_bytes, sum_by, unwrap_or, IsSomeAnd}
 use Rattle.std.specs.BTreeMap.{insert_entry, is_at}
 use Rattle.std.specs.Cmp.Lexicographic.{slice_cmp}
 use Rattle.std.specs.Global.{Global}
@@ -53,6 +53,10 @@ module _ {K E : Type 0} where
   -- The account without the entry of the key that passes the test.
   abbrev pub without_entry : (K → Bool) → AccountData K E → AccountData K E
   without_entry test h = record h { entries = remove_entry test h.entries }
+
+  -- The account with these entries, whose bytes are `total` together. Its peak is at least that.
+  abbrev pub with_entries : List (K × E) → ℕ → AccountData K E → AccountData K E
+  with_entries entries total h = record h { peak = max h.peak total; entries = entries }
 
   -- P holds of each key with its entry.
   abbrev pub AreBilled : (K → E → Type 0) → List (K × E) → Type 0

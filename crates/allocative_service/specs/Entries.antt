@@ -4,8 +4,8 @@ use Rattle.std.specs.Prelude.{option_map, ⊤}
 use denote.Param.Members.{Once}
 use Rattle.std.specs.Borrow.{Fml, RattleType, MutBor, follows_so}
 use Rattle.std.specs.Fn.{FnOnceReturnsAtMut}
-use Rattle.std.specs.Map.{lookup, lookup_entry, remove_entry}
-use Rattle.std.specs.Option.{option_map_or}
+use Rattle.std.specs.Map.{lookup, lookup_entry, lookup_key, remove_entry}
+use Rattle.std.specs.Option.{unwrap_or}
 use mathlib.Core.Option.{none}
 use Rattle.allocative.specs.Forest.{Forest}
 use Rattle.lru.specs.LruCache.{promoted}
@@ -38,7 +38,7 @@ entry_at test es = option_map (λ e. (e.0, e.1.value)) (lookup_entry test es)
 
 -- The key that the list stores for this one: an equal key that is there already, or the key itself.
 abbrev pub stored_key : {K V : Type 0} → (K → K → Bool) → K → Entries K V → K
-stored_key eq key es = option_map_or (λ e. e.0) (lookup_entry (eq key) es) key
+stored_key eq key es = unwrap_or (lookup_key (eq key) es) key
 
 -- The model of a cache: its entries, the bound on their bytes, and which bytes are counted.
 pub record Bounded (K V : Type 0) : Type 0 where

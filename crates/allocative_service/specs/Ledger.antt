@@ -1,10 +1,10 @@
 -- What a ledger holds, and how its calls change it: a book of bytes by number.
-use Rattle.std.specs.Prelude.{◌≡◌, ℕ, ◌+◌, ◌^◌, ◌≤◌, List, Option, Some, Result, Ok, Err, max, unwrap_or, IsSomeAnd, MatchOption}
+use Rattle.std.specs.Prelude.{◌≡◌, ℕ, ◌+◌, ◌^◌, ◌≤◌, List, Option, Some, Result, Ok, Err, unwrap_or, IsSomeAnd, MatchOption}
 use Rattle.std.specs.BTreeMap.{insert_entry, is_at}
 use Rattle.std.specs.Map.{lookup, remove_entry}
 use Rattle.std.specs.Option.{option_and_then}
 use Rattle.std.specs.Ordering.{nat_cmp}
-use Rattle.allocative_service.specs.Book.{AccountData, BookData, account_of, all_billed, billed_sum, without_entry, SetsAccount}
+use Rattle.allocative_service.specs.Book.{AccountData, BookData, account_of, all_billed, billed_sum, with_entries, without_entry, SetsAccount}
 use Rattle.allocative_service.specs.declared.book.rejection.Rejection.{Rejection}
 use Rattle.allocative_service.specs.declared.book.rejection.Rejection.TheVariants.{NotThere, Taken, TooLarge}
 use Rattle.allocative_service.specs.Rejected.{RejectsEntry, RejectsIn, RejectsThen}
@@ -18,16 +18,10 @@ sum_of entries = billed_sum (λ n. n) entries
 abbrev pub bytes_at : ℕ → AccountData ℕ ℕ → Option ℕ
 bytes_at number h = lookup (is_at (nat_cmp number)) h.entries
 
--- The account with these bytes under the number, in place of an entry that was there. Its sum is now `total`, and its
--- peak at least that.
-abbrev pub with_bytes : ℕ → ℕ → ℕ → AccountData ℕ ℕ → AccountData ℕ ℕ
-with_bytes number bytes total h =
-    record h { peak = max h.peak total; entries = insert_entry nat_cmp h.entries number bytes }
-
 -- The number now has these bytes in place of `had`. All bytes of the account together are `total`.
 pub record Puts (number bytes : ℕ) (had : Option ℕ) (old new : AccountData ℕ ℕ) (total : ℕ) : Type 0 where
   pub had_bytes : bytes_at number old ≡ had
-  pub is : new ≡ with_bytes number bytes total old
+  pub is : new ≡ with_entries (insert_entry nat_cmp old.entries number bytes) total old
   pub total_is : total + unwrap_or had 0 ≡ sum_of old.entries + bytes
 
 -- ---- all accounts
@@ -44,7 +38,7 @@ entry_of tenant number l = option_and_then (bytes_at number) (account_of tenant 
 abbrev pub Stores : List ℕ → ℕ → ℕ → Option ℕ → BookData ℕ ℕ → BookData ℕ ℕ → ℕ → Type 0
 Stores tenant number bytes had old new total = IsSomeAnd (account_of tenant old) (λ h. (bytes_at number h ≡ had)
     × (total + unwrap_or had 0 ≡ sum_of h.entries + bytes)
-    × SetsAccount tenant (with_bytes number bytes total h) old new)
+    × SetsAccount tenant (with_entries (insert_entry nat_cmp h.entries number bytes) total h) old new)
     × (total_of new + unwrap_or had 0 ≡ total_of old + bytes)
 
 -- In the tenant's account, the number now has these bytes in place of `had`, and all bytes of that account together

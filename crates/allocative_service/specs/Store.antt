@@ -1,12 +1,12 @@
 -- What a store keeps, and how its calls change it: a book of values by key.
-use Rattle.std.specs.Prelude.{◌≡◌, ◌⊎◌, ℕ, ◌+◌, Bool, List, Option, None, Some, max, option_map, unwrap_or}
+use Rattle.std.specs.Prelude.{◌≡◌, ◌⊎◌, ℕ, ◌+◌, Bool, List, Option, None, Some, option_map, unwrap_or}
 use Rattle.std.specs.Prelude.{Err, IsSomeAnd}
 use Rattle.std.specs.declared.cmp.Ordering.{Ordering}
 use Rattle.std.specs.BTreeMap.{insert_entry, is_at}
 use Rattle.std.specs.Map.{lookup, lookup_key, set_value}
 use Rattle.allocative.specs.Forest.{Forest}
 use Rattle.allocative_service.specs.Book.{AccountData, BookData, account_of, billed_sum, bytes_in}
-use Rattle.allocative_service.specs.Book.{SetsAccount}
+use Rattle.allocative_service.specs.Book.{SetsAccount, with_entries}
 use Rattle.allocative_service.specs.Measured.{Declares, Measures}
 use Rattle.allocative_service.specs.Rejected.{HasRoom, RejectsEntry, RejectsRoom, RejectsThen}
 use Rattle.allocative_service.specs.declared.book.rejection.Rejection.{Rejection}
@@ -31,10 +31,6 @@ module _ {K V : Type 0} where
   -- The key that the shelf has under this one: an equal key that is there already, or the key itself.
   abbrev pub stored_key : (K → K → Ordering) → K → Shelved K V → K
   stored_key cmp key h = unwrap_or (lookup_key (is_at (cmp key)) h.entries) key
-
-  -- The shelf with these entries, whose bytes are `total` together. Its peak is at least that.
-  abbrev pub with_entries : List (K × Kept V) → ℕ → Shelved K V → Shelved K V
-  with_entries entries total h = record h { peak = max h.peak total; entries = entries }
 
   -- The tenant's shelf is replaced by one of which P holds with the one before it. Nothing else changes.
   abbrev pub Replaces : List ℕ → (Shelved K V → Shelved K V → Type 0) → BookData K (Kept V) → BookData K (Kept V)
