@@ -12,6 +12,8 @@ mod graphs;
 #[cfg(test)]
 mod helpers;
 #[cfg(test)]
+mod metrics;
+#[cfg(test)]
 mod named_types;
 #[cfg(test)]
 mod pack_types;
