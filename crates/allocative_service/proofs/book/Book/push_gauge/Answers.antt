@@ -1,7 +1,7 @@
 -- of Book::push_gauge: the result
-use Rattle.std.proofs.Common.{◌++◌, ◌∙◌, ap, append_assoc, flat_map, rules, string_bytes}
+use Rattle.std.proofs.Common.{◌∙◌, append_assoc, rules, string_bytes}
 use Rattle.std.proofs.lemmas.Iterator.Consumers.{YieldsList-end, YieldsList-from_rest}
-use Rattle.allocative_service.specs.Metrics.{account_line, gauge_text, head, help_of, metric, word_of}
+use Rattle.allocative_service.specs.Metrics.{gauge_text, head, help_of, metric, word_of}
 use Rattle.allocative_service.proofs.book.Book.push_gauge.Goals as goal
 
 pub returns : goal.returns
@@ -9,7 +9,5 @@ unfolding gauge_text
 returns g c =
     let t = YieldsList-end (YieldsList-from_rest c.args.self.now.accounts (search rules)) c.loop-tenant.yielded _
     c.loop-tenant.yielded_by _ _ c.in-None.is c.next.ensures.steps in
-    let old = string_bytes c.args.text.now in
     let heading = head (metric c.args.prefix.now (word_of c.args.gauge)) (help_of c.args.gauge) in
-    let line = account_line g.E.Billed.billed c.args.prefix.now c.args.gauge in
-    c.loop-tenant.invariant ∙ ap (λ es. (old ++ heading) ++ flat_map line es) t.0 ∙ append_assoc old heading _
+    rw (← t.0) (c.loop-tenant.invariant ∙ append_assoc (string_bytes c.args.text.now) heading _)
