@@ -78,6 +78,10 @@ fn graphs() -> Vec<Workload> {
         let name = format!("two interleaving lists of {count}");
         all.push(workload!(name, &["add"], interleaving(count)));
     }
+    for count in [1_000, 10_000, 100_000] {
+        let name = format!("100 times 10 of {count} children");
+        all.push(workload!(name, &["add"], few(count)));
+    }
     all
 }
 

@@ -20,6 +20,7 @@ workloads! {
     wide = bench_wide(count: usize, order: u32);
     at_once = bench_at_once(count: usize, order: u32);
     interleaving = bench_interleaving(count: usize);
+    few = bench_few(count: usize);
     few_paths = bench_few_paths(rounds: usize);
     tree = bench_tree(side: usize);
     chain = bench_chain(depth: usize);

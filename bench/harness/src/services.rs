@@ -15,10 +15,12 @@ struct Service {
 const MEASURES: [&str; 3] = ["owned", "unique", "shown"];
 
 /// Each value that is measured, with its kind, its count, and how many values that makes.
-const VALUES: [(&str, u32, usize, usize); 3] = [
+const VALUES: [(&str, u32, usize, usize); 5] = [
     ("record of six fields", 0, 1_000, 1_000),
     ("hashed map of 10,000 pairs", 2, 10_000, 1),
     ("vector of 100,000 records", 1, 100_000, 1),
+    ("the same by `CountedValue`", 5, 100_000, 1),
+    ("the same in a struct, counted", 6, 100_000, 1),
 ];
 
 /// What is done with each entry of a ledger and of a store.

@@ -537,7 +537,7 @@ fn put_child(children: &mut Vec<Child>, size: &mut usize, child: Child) -> Resul
 fn are_few(children: &[Child], theirs: &[Child]) -> bool
     requires { InOrder children.now }
 {
-    if theirs.len() > children.len() / 128 {
+    if theirs.len() > children.len() / 64 {
         return false;
     }
     let mut room: usize = 2;
