@@ -1,5 +1,5 @@
 -- What is billed for a text.
-use Rattle.std.proofs.Common.{◌≡◌, ℕ, ◌+◌, ◌-◌, ◌≤◌, Global, Some, String, arith, codes, length, refl, string_bytes}
+use Rattle.std.proofs.Common.{◌≡◌, ℕ, ◌+◌, ◌-◌, Global, Some, String, arith, codes, length, refl, string_bytes}
 use Rattle.std.proofs.lemmas.Option.{same_Some}
 use Rattle.std.specs.String.{string_capacity}
 use Rattle.allocative_graph.specs.Forest.{Forest, Empty, Inline, Unique}

@@ -11,7 +11,6 @@ use Rattle.allocative_service.specs.Measured.{Declares, Measures}
 use Rattle.allocative_service.specs.Rejected.{HasRoom, RejectsEntry, RejectsRoom, RejectsThen}
 use Rattle.allocative_service.specs.declared.book.rejection.Rejection.{Rejection}
 use Rattle.allocative_service.specs.declared.cache.error.Refused.{Refused}
-use Rattle.allocative_service.specs.declared.measure.Measure.{Measure}
 use Rattle.allocative_service.specs.declared.kept.Kept.{Kept}
 use Rattle.allocative_service.specs.Kept.{IsBilled, kept_bytes}
 
