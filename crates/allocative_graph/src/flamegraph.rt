@@ -260,7 +260,7 @@ impl FlameGraph {
             };
             return put_child(&mut self.children, &mut self.children_size, child);
         }
-        if are_few(self.children.as_slice(), children.as_slice()) {
+        if children.len() <= self.children.len() / 64 {
             return put_each(&mut self.children, &mut self.children_size, children);
         }
         interleave(&mut self.children, &mut self.children_size, children)
@@ -532,28 +532,8 @@ fn put_child(children: &mut Vec<Child>, size: &mut usize, child: Child) -> Resul
     }
 }
 
-// Whether a search for each of some children is quicker than a walk over all that are there: they are few, and hardly any
-// is new. A new child moves those after it.
-fn are_few(children: &[Child], theirs: &[Child]) -> bool
-    requires { InOrder children.now }
-{
-    if theirs.len() > children.len() / 64 {
-        return false;
-    }
-    let mut room: usize = 2;
-    for child in theirs {
-        if place_by_halving(children, child.key.as_str()).is_err() {
-            if room == 0 {
-                return false;
-            }
-            room -= 1;
-        }
-    }
-    true
-}
-
-// Merges other children into `children`, each by a search. After a refusal on the way it continues, so that no child is
-// lost.
+// Merges other children into `children`, each by a search. A new child moves those after it, so that after three new ones
+// the others are merged by a walk over all. After a refusal on the way it continues, so that no child is lost.
 #[inline(never)]
 #[cycle(merge)]
 fn put_each(
@@ -568,12 +548,16 @@ fn put_each(
     ensures merged { Merged (is_ok result) children.old.items theirs.items children.new.items }
     ensures size { size.new ≡ total_of children.new.items }
 {
+    let most = children.len() + 2;
     let mut theirs = VecDeque::from(theirs);
     let mut result = Ok(());
-    while let Some(child) = theirs.pop_front() {
+    while children.len() <= most {
+        let Some(child) = theirs.pop_front() else {
+            return result;
+        };
         result = result.and(put_child(children, size, child));
     }
-    result
+    result.and(interleave(children, size, Vec::from(theirs)))
 }
 
 // Inserts a child at a place. At the end no child is moved.

@@ -80,21 +80,21 @@ put_child-returns-in_ok-put_at-in-Err-clause-merged t c =
     put_at_gap c.args.child c.deref.ensures.value c.in-Err.ensures.missing c.in_ok-put_at-in-Err.ensures.items
     c.requires.children c.requires.tree
 
-pub FlameGraph::merge-returns-then-are_few : goal.FlameGraph::merge-returns-then-are_few
-FlameGraph::merge-returns-then-are_few t c =
+pub FlameGraph::merge-returns-then-len : goal.FlameGraph::merge-returns-then-len
+FlameGraph::merge-returns-then-len t c =
     merged_graph c.self.view_is c.self.invariant c.other.view_is c.other.invariant refl refl c.put_each.ensures.merged
 
 pub put_each-put_child-requires : goal.put_each-put_child-requires
 put_each-put_child-requires t c =
-    let before = c.loop-child.invariant in
+    let before = c.loop-theirs.invariant in
     let items = c.pop_front.ensures.items in
     let rows = front_rows _ items c.in-Some.is in
     let fits = front_total _ items c.in-Some.is in
     (omega (arith, c.decreases, rows, before.rows), (before.mine, (before.size, ((subst AreChildren (front_is items c.in-Some.is) before.theirs).trees.0, omega (arith, before.fits, fits)))))
 
-pub put_each-loop-child-preserved : goal.put_each-loop-child-preserved
-put_each-loop-child-preserved t c =
-    let before = c.loop-child.invariant in
+pub put_each-loop-theirs-preserved : goal.put_each-loop-theirs-preserved
+put_each-loop-theirs-preserved t c =
+    let before = c.loop-theirs.invariant in
     let items = front_is c.pop_front.ensures.items c.in-Some.is in
     let all = subst AreChildren items before.theirs in
     let merged = c.put_child.ensures.merged in
@@ -102,7 +102,7 @@ put_each-loop-child-preserved t c =
       goes_on = λ b es m. subst (λ v. Merged v c.args.children.now.items c.args.theirs.items es)
           (sym (ap (λ v. v && b) (ap (λ r. is_ok r) c.and-result.ensures ∙ is_ok-and _ _) ∙ and_assoc _ _ b))
           (before.goes_on (is_ok c.put_child.result && b) es
-          (subst (λ (l : List Child). Merged (is_ok c.put_child.result && b) c.loop-child.children.items l es) (sym items)
+          (subst (λ (l : List Child). Merged (is_ok c.put_child.result && b) c.loop-theirs.children.items l es) (sym items)
           (merged_more all merged m)));
       mine = merged.children;
       theirs = others _ _ all;
@@ -111,11 +111,20 @@ put_each-loop-child-preserved t c =
       fits = omega (arith, before.fits, before.size, c.put_child.ensures.size, merged.at_most, total_of-cons c.in-Some.child [], ap total_of items ∙ total_of-cons c.in-Some.child c.pop_front.new.self.items);
     }
 
+pub put_each-returns-in_default-clause-merged : goal.put_each-returns-in_default-clause-merged
+put_each-returns-in_default-clause-merged t c =
+    let before = c.loop-theirs.invariant in
+    let none = sym (nil_from_length _ (sym c.loop-theirs.theirs.ok.0 ∙ c.in_default.ensures.cases.0)) in
+    subst (λ v. Merged v c.args.children.now.items c.args.theirs.items c.loop-theirs.children.items) (and-true _)
+    (before.goes_on true c.loop-theirs.children.items
+    (subst (λ (l : List Child). Merged true c.loop-theirs.children.items l c.loop-theirs.children.items) none
+    (merged_same _ before.mine)))
+
 pub put_each-returns-clause-merged : goal.put_each-returns-clause-merged
 put_each-returns-clause-merged t c =
-    let before = c.loop-child.invariant in
-    let none : [] ≡ c.loop-child.theirs.items = sym (nil_from_length _ (sym c.loop-child.theirs.ok.0 ∙ c.in_default.ensures.cases.0)) in
-    subst (λ v. Merged v c.args.children.now.items c.args.theirs.items c.loop-child.children.items) (and-true _)
-    (before.goes_on true c.loop-child.children.items
-    (subst (λ (l : List Child). Merged true c.loop-child.children.items l c.loop-child.children.items) none
-    (merged_same _ before.mine)))
+    let es = c.interleave.new.children.items in
+    subst (λ v. Merged v c.args.children.now.items c.args.theirs.items es)
+    (sym (ap (λ r. is_ok r) c.and.ensures ∙ is_ok-and _ _))
+    (c.loop-theirs.invariant.goes_on (is_ok c.interleave.result) es
+    (subst (λ (l : List Child). Merged (is_ok c.interleave.result) c.loop-theirs.children.items l es) c.from.ensures.0
+    c.interleave.ensures.merged))

@@ -5,16 +5,16 @@ use Rattle.allocative_graph.proofs.flamegraph.+merge.Given as goal
 
 -- A graph has more rows than its children.
 abbrev pub decreases-FlameGraph::merge : goal.decreases-FlameGraph::merge
-decreases-FlameGraph::merge l = 3 * len l.other
+decreases-FlameGraph::merge l = 4 * len l.other
 
 abbrev pub decreases-interleave : goal.decreases-interleave
-decreases-interleave l = 3 * length (rows_of l.theirs.items) + 2
+decreases-interleave l = 4 * length (rows_of l.theirs.items) + 2
 
 abbrev pub decreases-take_next : goal.decreases-take_next
-decreases-take_next l = 3 * length (rows_of l.theirs.now.items) + 1
+decreases-take_next l = 4 * length (rows_of l.theirs.now.items) + 1
 
 abbrev pub decreases-put_child : goal.decreases-put_child
-decreases-put_child l = 3 * len l.child.graph + 1
+decreases-put_child l = 4 * len l.child.graph + 1
 
 abbrev pub decreases-interleave-loop-child : goal.decreases-interleave-loop-child
 decreases-interleave-loop-child l = length l.mine.items + length l.theirs.items
@@ -29,14 +29,14 @@ invariant-interleave-loop-child l = record {
 }
 
 abbrev pub decreases-put_each : goal.decreases-put_each
-decreases-put_each l = 3 * length (rows_of l.theirs.items) + 2
+decreases-put_each l = 4 * length (rows_of l.theirs.items) + 3
 
-abbrev pub decreases-put_each-loop-child : goal.decreases-put_each-loop-child
-decreases-put_each-loop-child l = length l.theirs.items
+abbrev pub decreases-put_each-loop-theirs : goal.decreases-put_each-loop-theirs
+decreases-put_each-loop-theirs l = length l.theirs.items
 
 -- Whatever merges the children that remain merges all.
-abbrev pub invariant-put_each-loop-child : goal.invariant-put_each-loop-child
-invariant-put_each-loop-child l = record {
+abbrev pub invariant-put_each-loop-theirs : goal.invariant-put_each-loop-theirs
+invariant-put_each-loop-theirs l = record {
   goes_on : (b : Bool) (es : List Child) → Merged b l.children.items l.theirs.items es
       → Merged (is_ok l.result && b) l.fn.children.items l.fn.theirs.items es;
   mine : AreChildren l.children.items;
