@@ -1,12 +1,12 @@
 -- Parts of a graph: the bytes at each path, and all of them.
-use Rattle.std.proofs.Common.{◌≡◌, ℕ, ◌+◌, Bool, true, not, cond, ◌&&◌, List, [], ◌∷◌, ◌++◌, refl, sym, ap, ◌∙◌, arith, sum_by}
+use Rattle.std.proofs.Common.{◌≡◌, ℕ, ◌+◌, ◌≤◌, Bool, true, not, cond, ◌&&◌, List, [], ◌∷◌, ◌++◌, refl, sym, ap, ◌∙◌, arith, sum_by}
 use Rattle.std.proofs.Common.{unwrap_or, nat_lt, nat_eq, Bor, Vec, Global, ◌||◌}
 use Rattle.std.specs.List.{list_any, starts_with}
 use Rattle.std.specs.Cmp.Lexicographic.{pointwise, texts_ties}
 use Rattle.allocative_picture.proofs.Common.{begins, texts}
 use Rattle.std.proofs.lemmas.Bool.Decides.{nat_tests}
 use Rattle.allocative_picture.proofs.Common.{Path, Sizes, Graph, default, size_at, total, sum_of, entries, entries_sorted, get-entries}
-use Rattle.allocative_picture.proofs.Common.{graph_of_path, total-path, size_at-path, sum_by-cons, fold-append, is_same_path, same_path}
+use Rattle.allocative_picture.proofs.Common.{graph_of_path, total-path, size_at-path, sum_by-cons, sum_by-le-sum_by, fold-append, is_same_path, same_path}
 use Rattle.allocative_graph.proofs.Graphs.{total-sum_of, size_at-sum_of, size_at-default, total-default}
 use Rattle.allocative_picture.specs.Views.{chosen_onto, is_within, only, without, bytes_within, paths_of}
 use Rattle.allocative_picture.proofs.Reversing.{bytes_at-found}
@@ -50,6 +50,13 @@ total-chosen_onto : (test : Path → Bool) (h : Graph) (es : Sizes) →
 total-chosen_onto test h [] = omega arith
 total-chosen_onto test h (e ∷ es) =
     omega (arith, total-one test h e, total-chosen_onto test (one_chosen test h e) es, sum_by-cons (λ (x : Path × ℕ). cond (test x.0) x.1 0) e es)
+
+-- No more than the bytes of all paths are added.
+pub total-chosen_le : (test : Path → Bool) (h : Graph) (es : Sizes) →
+    total (chosen_onto test h es) ≤ total h + sum_by (λ e. e.1) es
+total-chosen_le test h es =
+    let part : (b : Bool) (n : ℕ) → cond b n 0 ≤ n = λ b n. grind arith in
+    omega (arith, total-chosen_onto test h es, sum_by-le-sum_by (λ e. cond (test e.0) e.1 0) (λ e. e.1) es (λ e. part (test e.0) e.1))
 
 -- A part has the bytes within the paths.
 pub total-only : (ps : List Path) (g : Graph) → total (only ps g) ≡ bytes_within ps g

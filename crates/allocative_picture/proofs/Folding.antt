@@ -1,9 +1,8 @@
 -- Graphs with other keys: that a node is folded by its children, and that the total is kept.
-use Rattle.std.proofs.Common.{◌≡◌, ℕ, ◌+◌, Bool, true, false, cond, ◌||◌, ◌&&◌, T, List, [], ◌∷◌, ◌++◌, map, sum_by, refl, sym, ap, subst, ◌∙◌, arith}
-use Rattle.std.proofs.Common.{Option, Some, None, is_some, unwrap_or}
+use Rattle.std.proofs.Common.{◌≡◌, ℕ, Bool, true, false, cond, ◌||◌, ◌&&◌, List, [], ◌∷◌, map, sum_by, refl, sym, ap, ◌∙◌, arith}
+use Rattle.std.proofs.Common.{None, is_some, unwrap_or}
 use Rattle.allocative_picture.proofs.Common.{Path, Sizes, Key, Graph, Child, default, size_at, total, sum_of, under, entries, node, AreChildren}
 use Rattle.allocative_picture.proofs.Common.{AllByRecursion, graph_of_path, sum_of_all, total-path, sum_by-cons, key_cmp, list_any, fold-map, get-entries, find, path_cmp}
-use Rattle.allocative_graph.proofs.Basics.{or-false}
 use Rattle.allocative_graph.proofs.Children.{rows-cons, get-root, get-under as get-below, node_nil, no_children}
 use Rattle.allocative_graph.proofs.Graphs.{same_graph, size_at-added_up, has-added_up, total-added_up, size_at-default, total-default}
 use Rattle.allocative_graph.proofs.Graphs.{added_up, get-under, get-under-root, sum_of-commutes, sum_of-default}

@@ -9,7 +9,9 @@ use Rattle.allocative_picture.proofs.Common.{total_of-cons, total-node, total-pa
 use Rattle.allocative_picture.proofs.Common.{size_at-path}
 use Rattle.std.specs.Cmp.{tied_then}
 use Rattle.allocative_graph.proofs.Basics.{and-true}
-use Rattle.allocative_graph.proofs.Graphs.{total-default, total-added_up, size_at-added_up, sum_of-commutes, sum_of-default}
+use Rattle.allocative_graph.proofs.Graphs.{total-default, total-added_up, size_at-added_up, size_at-sum_of, has-sum_of, sum_of-commutes, sum_of-default}
+use Rattle.allocative_graph.specs.Graph.{IsTree}
+use Rattle.std.proofs.lemmas.List.Folds.{list_any-append}
 use Rattle.allocative_graph.proofs.Graphs.{has-added_up, same_graph, get-under, get-under-root}
 use Rattle.allocative_graph.proofs.Nodes.{tree-path, node_leaf}
 use Rattle.allocative_graph.proofs.Children.{get-root, get-under as get-below, none_above, no_children}
@@ -19,7 +21,7 @@ use Rattle.std.specs.FinMap.{get, contains_key}
 use Rattle.std.specs.List.Sorted.{IsStrictlySortedBy}
 use Rattle.std.specs.Ordering.{eq_by_cmp}
 use Rattle.std.proofs.Common.{Bool, true, Option, Some, None, is_some, unwrap_or, ◌||◌}
-use Rattle.allocative_picture.proofs.Common.{list_any, sum_by-cons}
+use Rattle.allocative_picture.proofs.Common.{list_any, sum_by-append, sum_by-cons}
 use Rattle.allocative_graph.specs.Rows.{under_rows, rows_of, rows_of_child}
 use Rattle.allocative_graph.specs.Representation.NodeRows.{entries-node}
 use Rattle.allocative_picture.proofs.Common.{map-append, node, AreChildren}
@@ -34,6 +36,25 @@ total-by_last_key g =
     let each : sum_by (λ (e : Path × ℕ). total (graph_of_path (last_of e.0) e.1)) (entries g) ≡ total g =
     λ i. sum_by (λ (e : Path × ℕ). total-path (last_of e.0) e.1 i) (entries g) in
     omega (arith, total-added_up (λ (e : Path × ℕ). graph_of_path (last_of e.0) e.1) default (entries g), total-default, each)
+
+-- The graphs of some children add up in any order, and two may be added first.
+pub joined_turned : (a b c : Child) (rest : List Child) → c.graph ≡ sum_of a.graph b.graph →
+    joined (rest ++ c ∷ []) ≡ joined (a ∷ b ∷ rest)
+joined_turned a b c rest e = same_graph (joined (rest ++ c ∷ [])) (joined (a ∷ b ∷ rest)) sizes paths
+  where
+    sizes : (p : Path) → size_at (joined (rest ++ c ∷ [])) p ≡ size_at (joined (a ∷ b ∷ rest)) p
+    sizes p =
+        let f : Child → ℕ = λ x. size_at x.graph p in
+        omega (arith, size_at-added_up (λ (x : Child). x.graph) default (rest ++ c ∷ []) p, size_at-added_up (λ (x : Child). x.graph) default (a ∷ b ∷ rest) p, sum_by-append f rest (c ∷ []), sum_by-cons f c [], sum_by-cons f a (b ∷ rest), sum_by-cons f b rest, ap (λ (g : Graph). size_at g p) e, size_at-sum_of a.graph b.graph p)
+
+    paths : (p : Path) → contains_key (joined (rest ++ c ∷ [])) p ≡ contains_key (joined (a ∷ b ∷ rest)) p
+    paths p =
+        let f : Child → Bool = λ x. contains_key x.graph p in
+        grind (arith, has-added_up (λ (x : Child). x.graph) default (rest ++ c ∷ []) p, has-added_up (λ (x : Child). x.graph) default (a ∷ b ∷ rest) p, list_any-append f rest (c ∷ []), ap (λ (g : Graph). contains_key g p) e, has-sum_of a.graph b.graph p)
+
+-- One graph alone is that graph.
+pub joined_one : (c : Child) → IsTree c.graph → joined (c ∷ []) ≡ c.graph
+joined_one c t = sum_of-commutes default c.graph ∙ sum_of-default c.graph t
 
 -- The graphs of some children have the totals of the children.
 total-joined : (cs : List Child) → total (joined cs) ≡ total_of cs

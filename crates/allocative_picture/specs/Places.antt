@@ -16,7 +16,7 @@ abbrev pub place_key : Order → ℕ → Key → Key
 place_key order.Key n k = k
 place_key order.Size n k = (2 ^ 64 - n) ∷ k
 
--- The keys by which a path and those above it are placed, if f gives their bytes. Boxes are drawn in the order of these.
+-- The keys by which a path and those above it are placed, if f gives their bytes. Boxes are drawn in their order.
 abbrev pub place : Order → (Path → ℕ) → Path → Path
 place o f [] = []
 place o f (k ∷ p) = place_key o (f (k ∷ [])) k ∷ place o (λ q. f (k ∷ q)) p

@@ -33,8 +33,8 @@ pub struct Options<'a> {
 }
 
 impl Options<'_> {
-    /// The title `Declared bytes`, no warned paths, boxes of at least a two-thousandth of the width, the unit `bytes`, and
-    /// children in the order of their keys.
+    /// The title `Declared bytes`, no warned paths, boxes of at least a two-thousandth of the width, the unit `bytes`,
+    /// and children in the order of their keys.
     pub fn default() -> Options<'static>
         ensures title { result.title.now ≡ codes "Declared bytes" }
         ensures warned { result.warned.now ≡ [] }

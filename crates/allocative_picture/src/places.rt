@@ -35,8 +35,8 @@ fn in_order(alloc: Global, order: Order, children: &[Child]) -> Result<Vec<Place
     }
 }
 
-/// How many bytes come before each child, if `first` bytes come before the first that is drawn. It is a call of its own,
-/// so that a level of the walk takes less of the stack.
+/// How many bytes come before each child, if `first` bytes come before the first that is drawn. It is a call of its
+/// own, so that a level of the walk takes less of the stack.
 #[inline(never)]
 pub(crate) fn starts(
     alloc: Global,

@@ -4,7 +4,7 @@ ghost use Rattle.std.specs.Prelude.{◌≡◌, ◌<◌, ◌+◌, ◌-◌, ◌^�
 ghost use Rattle.std.specs.FinMap.{entries, len};
 ghost use Rattle.allocative_graph.specs.Path.{Key, Path, key_cmp, texts};
 ghost use Rattle.allocative_graph.specs.Graph.{default, size_at, sum_of, total, under};
-ghost use Rattle.allocative_graph.specs.Rows.{under_rows};
+ghost use Rattle.allocative_graph.specs.Rows.{sum_of_all, under_rows};
 ghost use Rattle.allocative_graph.specs.Representation.Children.{InOrder, IsChildGap, IsFound, graph_of_path};
 ghost use Rattle.allocative_picture.specs.Views.{all_of, by_last_key, by_last_keys, bytes_alone, bytes_ending_in, bytes_within, chosen_onto, folded, is_chosen, is_within, joined, new_key, only, paths_of, reversed, reversed_onto, without, IsOutline, IsTakenApart, TakesGuide, TakesNext};
 ghost use Rattle.allocative_picture.specs.Table.{behind};
@@ -50,16 +50,23 @@ fn put(
     view.add_child(key.copy(), child).map_err(|_| AllocError)
 }
 
-/// The graphs of some children, added up.
+/// The graphs of some children, added up: each time the two that wait longest, so that those that meet have about as many
+/// paths.
 fn joined(alloc: Global, children: VecDeque<Child>) -> Result<FlameGraph, AllocError>
     ensures { IfOk result (λ graph. graph ≡ joined children.items) }
 {
-    let mut graph = FlameGraph::default(alloc);
     let mut waiting = children;
     while let Some(child) = waiting.pop_front() {
-        graph.add(child.graph).map_err(|_| AllocError)?;
+        let Child { key, mut graph } = child;
+        let Some(next) = waiting.pop_front() else {
+            // The contract of `total_size` says that the graph has a root.
+            let _all = graph.total_size();
+            return Ok(graph);
+        };
+        graph.add(next.graph).map_err(|_| AllocError)?;
+        waiting.push_back(Child { key, graph })?;
     }
-    Ok(graph)
+    Ok(FlameGraph::default(alloc))
 }
 
 /// The place of a key among some children, or else the place where it belongs.
@@ -394,6 +401,34 @@ fn new_key(names: &HashMap<Key, Key>, key: &Key) -> Key
     }
 }
 
+/// Adds a graph under the key that a table has in place of its own. It is a call of its own, so that a level of the walk
+/// takes less of the stack.
+#[inline(never)]
+fn push_folded(
+    names: &HashMap<Key, Key>,
+    key: &Key,
+    graph: FlameGraph,
+    children: &mut Vec<Child>,
+) -> Result<(), AllocError>
+    ensures { OnOk result
+        (children.new.items ≡ children.old.items ++ record { key = new_key names.now key.now; graph = graph } ∷ []) }
+{
+    let key = new_key(names, key);
+    children.push(Child { key, graph })?;
+    Ok(())
+}
+
+/// The graph of a root that has bytes of its own and some children, which may have equal keys. Their bytes are those of
+/// one graph, so the only error is that memory runs out.
+#[inline(never)]
+fn put_together(alloc: Global, bytes: usize, children: Vec<Child>) -> Result<FlameGraph, AllocError>
+    ensures { IfOk result (λ graph. graph ≡ sum_of_all (bytes_alone bytes) children.items) }
+{
+    let mut graph = bytes_alone(alloc, bytes)?;
+    graph.add_children(children).map_err(|_| AllocError)?;
+    Ok(graph)
+}
+
 /// The graph with other keys: each path has its bytes at the path of the keys that a table has in place of its own, and
 /// equal paths add up. A key that the table does not have stays. The only error is that memory runs out.
 pub fn fold_keys(
@@ -405,17 +440,12 @@ pub fn fold_keys(
     ensures total { IfOk result (λ view. total view ≡ total graph.now) }
 {
     let children = graph.children();
-    let mut below = Vec::with_capacity(alloc, children.len())?;
+    let mut below = Vec::new(alloc);
     for child in children {
-        let graph = fold_keys(alloc, names, &child.graph)?;
-        below.push(Child {
-            key: new_key(names, &child.key),
-            graph,
-        })?;
+        let folded = fold_keys(alloc, names, &child.graph)?;
+        push_folded(names, &child.key, folded, &mut below)?;
     }
-    let mut view = bytes_alone(alloc, graph.self_size())?;
-    view.add_children(below).map_err(|_| AllocError)?;
-    Ok(view)
+    put_together(alloc, graph.self_size(), below)
 }
 
 /// Whether a path is one of some paths or below one.
@@ -425,9 +455,8 @@ fn is_within(paths: &[Vec<&str>], path: &[&str]) -> bool
     paths.iter().any(|start| path.starts_with(start.as_slice()))
 }
 
-/// Adds the bytes of a path to a part, if it has some and belongs there. The bytes of a part are at most those of one
-/// graph, so the only error is that memory runs out. It is a call of its own, so that a level of the walk takes less of
-/// the stack.
+/// Adds the bytes of a path to a part, if it has some and belongs there. The only error is that memory runs out. It is a
+/// call of its own, so that a level of the walk takes less of the stack.
 #[inline(never)]
 fn add_chosen(
     inside: bool,
@@ -436,6 +465,7 @@ fn add_chosen(
     bytes: usize,
     view: &mut FlameGraph,
 ) -> Result<(), AllocError>
+    requires { total view.old + bytes < 2 ^ 64 }
     ensures { OnOk result (view.new
         ≡ chosen_onto (is_chosen inside (paths_of paths.now)) view.old ((texts path.now.items, bytes) ∷ [])) }
 {
@@ -445,13 +475,11 @@ fn add_chosen(
     if is_within(paths, path.as_slice()) != inside {
         return Ok(());
     }
-    if bytes > usize::MAX - view.total_size() {
-        return Err(AllocError);
-    }
     add_at(view, path.as_slice(), bytes)
 }
 
-/// Adds the bytes of those paths of a graph that belong to a part, each after the given keys.
+/// Adds the bytes of those paths of a graph that belong to a part, each after the given keys. The bytes of a part are at
+/// most those of the graph.
 fn add_all_chosen(
     inside: bool,
     paths: &[Vec<&str>],
@@ -459,6 +487,7 @@ fn add_all_chosen(
     graph: &FlameGraph,
     view: &mut FlameGraph,
 ) -> Result<(), AllocError>
+    requires { total view.old + total graph.now < 2 ^ 64 }
     ensures path { OnOk result (path.new.items ≡ path.old.items) }
     ensures view { OnOk result (view.new ≡ chosen_onto (is_chosen inside (paths_of paths.now)) view.old
         (behind (texts path.old.items) (entries graph.now))) }
@@ -485,6 +514,8 @@ fn part(
 {
     let mut path: Vec<&'static str> = Vec::new(alloc);
     let mut view = FlameGraph::default(alloc);
+    // The contract of `total_size` says that all bytes fit a `usize`.
+    let _all = graph.total_size();
     add_all_chosen(inside, paths, &mut path, graph, &mut view)?;
     Ok(view)
 }
