@@ -109,12 +109,19 @@ module _ (cs : List Chunk) (i : ℕ) (e : Chunk) (h : i < length cs) {xs : List 
 
     -- The numbers before the next chunk are those before chunk i and its own.
     pub before_more : before cs (i + 1) ≡ before cs i + length xs
-    before_more = omega (arith, length-flat_map numbers_in (take (i + 1) cs), length-flat_map numbers_in (take i cs), sum_by_more (λ c. length (numbers_in c)) cs i e h, ap length is)
+    before_more = omega (
+      arith,
+      length-flat_map numbers_in (take (i + 1) cs),
+      length-flat_map numbers_in (take i cs),
+      sum_by_more (λ c. length (numbers_in c)) cs i e h,
+      ap length is,
+    )
 
     -- number j of the chunk is one of all
     pub number_read : (p j n : ℕ) → p ≡ before cs i + j → slice_get xs j ≡ Some n → slice_get (flat cs) p ≡ Some n
     number_read p j n place at =
-        let within : j < length (numbers_in (get_or cs i e)) = omega (arith, ap length is, slice_get_within xs j n at) in
+        let within : j < length (numbers_in (get_or cs i e)) =
+        omega (arith, ap length is, slice_get_within xs j n at) in
         let inside = length-flat_map-take numbers_in cs i e h in
         rw place (slice_get-get_or (flat cs) (before cs i + j) 0 (omega arith)
         ∙ ap Some (get_or-flat_map numbers_in cs i j e 0 h within ∙ (ap (λ (l : List ℕ). get_or l j 0) (sym is)

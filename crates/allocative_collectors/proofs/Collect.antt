@@ -57,7 +57,13 @@ module _ (t : Listed) (met : List Identity) where
   module _ (outer inner : ℕ) (before after : List ℕ) (rooted : Bool)
       (stack : back_at t inner after rooted ≡ path_at t outer ∷ back_at t outer before rooted) where
     pub went : live t met inner after rooted ≡ go (path_at t inner) (live t met outer before rooted)
-    went = λ i. record { sums = map_of t; met = from_list met; here = path_at t inner; back = stack i; open_visitors = length (stack i) }
+    went = λ i. record {
+      sums = map_of t;
+      met = from_list met;
+      here = path_at t inner;
+      back = stack i;
+      open_visitors = length (stack i);
+    }
 
     pub came_back : live t met outer before rooted ≡ leave_live (live t met inner after rooted)
     came_back = λ i. record {
@@ -87,7 +93,13 @@ module _ (t : Listed) (met : List Identity) where
   at_root current root =
       let stack : back_at t current [] true ≡ path_at t current ∷ back_at t current [] false =
       (λ i. outside (root i) ++ [] ∷ []) ∙ (λ i. sym root i ∷ outside (sym root i) ++ []) in
-      λ i. record { sums = map_of t; met = from_list met; here = root i; back = stack i; open_visitors = length (stack i) }
+      λ i. record {
+        sums = map_of t;
+        met = from_list met;
+        here = root i;
+        back = stack i;
+        open_visitors = length (stack i);
+      }
 
 -- a content that was met for the first time
 pub gone_in : (t : Listed) (met now : List Identity) (current : ℕ) (places : List ℕ) (rooted : Bool) (i : Identity) →
@@ -96,7 +108,11 @@ pub gone_in : (t : Listed) (met now : List Identity) (current : ℕ) (places : L
     live t now 0 (places ++ current ∷ []) rooted
     ≡ go [] (record (live t met current places rooted) { met = insert (from_list met) i })
 gone_in t met now current places rooted i root one_new =
-    went t now current 0 places (places ++ current ∷ []) rooted (rw (root, map-append (path_at t) places (current ∷ []), reverse-append (map (path_at t) places) (path_at t current ∷ [])) refl)
+    went t now current 0 places (places ++ current ∷ []) rooted (rw (
+      root,
+      map-append (path_at t) places (current ∷ []),
+      reverse-append (map (path_at t) places) (path_at t current ∷ []),
+    ) refl)
     ∙ (λ j. go (root j) (record (live t met current places rooted) { met = one_new j }))
 
 -- ---- no visitor is open
@@ -106,7 +122,12 @@ none_back : (p : Path) (ps : List Path) (rooted : Bool) → length (outside p ++
 none_back [] [] true e = absurd (omega arith)
 none_back [] [] false e = (refl, refl, refl)
 none_back [] (p ∷ ps) rooted e = absurd (omega arith)
-none_back (k ∷ p) ps rooted e = absurd (omega (arith, e, length-append (outside (k ∷ p)) (back_from ps (to_root rooted)), length-append (map (λ (q : Path). k ∷ q) (outside p)) ([] ∷ [])))
+none_back (k ∷ p) ps rooted e = absurd (omega (
+  arith,
+  e,
+  length-append (outside (k ∷ p)) (back_from ps (to_root rooted)),
+  length-append (map (λ (q : Path). k ∷ q) (outside p)) ([] ∷ []),
+))
 
 -- the current place is the root, and no content and no root visitor is open
 pub record IsOut (t : Listed) (current : ℕ) (places : List ℕ) (rooted : Bool) : Type 0 where
@@ -123,11 +144,13 @@ closed_is t met current places rooted view =
           let out = none_back (path_at t current) (reverse (map (path_at t) places)) rooted (visitors ∙ none) in
           record {
             root = out.0;
-            no_place = nil_from_length places (omega (arith, out.1, length-reverse (map (path_at t) places), length-map places (path_at t)));
+            no_place = nil_from_length places
+                (omega (arith, out.1, length-reverse (map (path_at t) places), length-map places (path_at t)));
             no_visitor = out.2;
           }),
       (λ o. sym visitors
-          ∙ (λ j. length (outside (o.root j) ++ back_from (reverse (map (path_at t) (o.no_place j))) (to_root (o.no_visitor j))))),
+          ∙ (λ j. length
+          (outside (o.root j) ++ back_from (reverse (map (path_at t) (o.no_place j))) (to_root (o.no_visitor j))))),
     )
 
 -- ---- a whole step

@@ -122,7 +122,8 @@ map_of-entered {old = r ∷ s} {i = zero} entered some = absurd (omega (arith, e
 map_of-entered {old = r ∷ s} {at = at} {k = k} {n = n} {u = u} {i = suc i} entered some =
     let p : Path = path_at (r ∷ s) at ++ k ∷ [] in
     let is = ap (λ (t : Listed). path_at t (suc i)) (sym entered.sums) ∙ entered.path in
-    let sole = λ (j : ℕ) (h : j < length s) (w : path_at s j ≡ p). tail_apart j i (entered.sole (suc j) (omega arith) w) in
+    let sole =
+    λ (j : ℕ) (h : j < length s) (w : path_at s j ≡ p). tail_apart j i (entered.sole (suc j) (omega arith) w) in
     ap map_of entered.sums ∙ same_sums _ _ (λ q.
     let new = get-from_entries path_total (map row (put i p n u s)) q in
     let old = get-from_entries path_total (map row s) in
@@ -168,7 +169,12 @@ find_at : (s : Listed) → Distinct s → (i : ℕ) → i < length s →
 find_at [] apart i h = absurd (omega arith)
 find_at (e ∷ s) apart zero h = cond-true (is_same_path e.path e.path) _ _ (same_path-same e.path e.path refl)
 find_at (e ∷ s) apart (suc i) h =
-    grind (arith, same_path (path_at s i) e.path, apart (suc i) 0 h (omega arith), find_at s (tail_distinct e s apart) i (omega arith))
+    grind (
+      arith,
+      same_path (path_at s i) e.path,
+      apart (suc i) 0 h (omega arith),
+      find_at s (tail_distinct e s apart) i (omega arith),
+    )
 
 -- ---- what the map has
 -- At the path of each place but the root's, the map has what was entered there.
@@ -235,4 +241,8 @@ below_listed (r ∷ s) ok p =
     let none : cond (is_one_below p r.path) r.bytes 0 ≡ 0 =
     ap (λ (q : Path). cond (is_one_below p q) r.bytes 0) ok.root_path
     ∙ ap (λ (b : Bool). cond b r.bytes 0) (not_below_root p) in
-    omega (arith, below_rows s (tail_distinct r s ok.apart) p, sum_by-cons (λ (e : Sum). cond (is_one_below p e.path) e.bytes 0) r s)
+    omega (
+      arith,
+      below_rows s (tail_distinct r s ok.apart) p,
+      sum_by-cons (λ (e : Sum). cond (is_one_below p e.path) e.bytes 0) r s,
+    )

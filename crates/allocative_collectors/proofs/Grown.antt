@@ -28,7 +28,19 @@ rise_insert ks k g gap rise i j lt h =
     let here = get_or-insert_at ks g k [] within in
     let low = λ (i : ℕ) (h : i < g). get_or-insert_below ks g k [] i h within in
     let high = insert_above ks g k [] within in
-    grind (arith, here, low i, low j, high i, high j, rise i j, rise i (j - 1), rise (i - 1) (j - 1), gap.smaller_before i, after (j - 1))
+    grind (
+      arith,
+      here,
+      low i,
+      low j,
+      high i,
+      high j,
+      rise i j,
+      rise i (j - 1),
+      rise (i - 1) (j - 1),
+      gap.smaller_before i,
+      after (j - 1),
+    )
 
 module _ (ns : List Node) {cs : List (List ℕ)} (ok : IsArena ns cs) (p : ℕ) (hp : p < length ns) (k : Key) (g : ℕ)
     (gap : IsKeyGap (keys_at ns cs p) k g) where
@@ -75,7 +87,11 @@ module _ (ns : List Node) {cs : List (List ℕ)} (ok : IsArena ns cs) (p : ℕ) 
   ]
 
   child_before : (q i : ℕ) → IsChild ns q i → IsChild new q i
-  child_before q i old = record { not_root = old.not_root; in_range = omega (arith, length_grown, old.in_range); parent = parent_before i old.in_range ∙ old.parent }
+  child_before q i old = record {
+    not_root = old.not_root;
+    in_range = omega (arith, length_grown, old.in_range);
+    parent = parent_before i old.in_range ∙ old.parent;
+  }
 
   stood : (q i : ℕ) → i ≢ length ns → IsChild new q i → Contains (children_at cs q) i
   stood q i ne c =
@@ -85,7 +101,8 @@ module _ (ns : List Node) {cs : List (List ℕ)} (ok : IsArena ns cs) (p : ℕ) 
 
   listed : (q i : ℕ) → IsChild new q i → Contains (children_at lists q) i
   listed q i = by_parent (λ x xs. IsChild new x i → Contains xs i)
-      (λ c. Contains-permutation (length ns ∷ children_at cs p) _ i (IsPermutation-insert (children_at cs p) g (length ns))
+      (λ c. Contains-permutation (length ns ∷ children_at cs p) _ i
+      (IsPermutation-insert (children_at cs p) g (length ns))
       (elim (cases_eq i (length ns)) [
         | inl e ↦ (0, omega arith, sym e)
         | inr ne ↦ Contains-append_right (length ns ∷ []) (children_at cs p) i (stood p i ne c)
@@ -98,13 +115,24 @@ module _ (ns : List Node) {cs : List (List ℕ)} (ok : IsArena ns cs) (p : ℕ) 
     rooted = omega (arith, length_grown);
     root_empty = ap (λ (n : Node). n.bytes) (before 0 ok.rooted) ∙ ok.root_empty;
     root_parent = parent_before 0 ok.rooted ∙ ok.root_parent;
-    parents = λ i pos h. grind (arith, length_grown, parent_before i, ok.parents i pos, ap (λ (n : Node). n.parent) at_leaf);
-    lists = omega (arith, length_grown, ok.lists, length-set cs p (insert (children_at cs p) g (length ns)), length_push (set cs p (insert (children_at cs p) g (length ns))) []);
+    parents =
+        λ i pos h. grind (arith, length_grown, parent_before i, ok.parents i pos, ap (λ (n : Node). n.parent) at_leaf);
+    lists = omega (
+      arith,
+      length_grown,
+      ok.lists,
+      length-set cs p (insert (children_at cs p) g (length ns)),
+      length_push (set cs p (insert (children_at cs p) g (length ns))) [],
+    );
     listed = listed;
     children = by_parent (λ q. All (IsChild new q))
         (let xs = children_at cs p in
         let old = All-weaker (IsChild ns p) (IsChild new p) (child_before p) xs (ok.children p) in
-        let one : IsChild new p (length ns) = record { not_root = ok.rooted; in_range = omega (arith, length_grown); parent = ap (λ (n : Node). n.parent) at_leaf } in
+        let one : IsChild new p (length ns) = record {
+          not_root = ok.rooted;
+          in_range = omega (arith, length_grown);
+          parent = ap (λ (n : Node). n.parent) at_leaf;
+        } in
         All-permutation (IsChild new p) (length ns ∷ xs) _ (IsPermutation-insert xs g (length ns))
         (All-cons (IsChild new p) (length ns) xs one old))
         (λ q ne. All-weaker (IsChild ns q) (IsChild new q) (child_before q) (children_at cs q) (ok.children q));
@@ -126,14 +154,29 @@ module _ (ns : List Node) {cs : List (List ℕ)} (ok : IsArena ns cs) (i : ℕ) 
   pub arena_set : IsArena (set ns i m) cs
   arena_set = record {
     rooted = omega (arith, length_set, ok.rooted);
-    root_empty = grind (arith, bytes, ok.root_empty, get_or-set_same ns i m no_node, get_or-set_other ns i 0 m no_node, set_past ns i m);
+    root_empty = grind (
+      arith,
+      bytes,
+      ok.root_empty,
+      get_or-set_same ns i m no_node,
+      get_or-set_other ns i 0 m no_node,
+      set_past ns i m,
+    );
     root_parent = parent_kept 0 ∙ ok.root_parent;
     parents = λ j pj hj. rw (parent_kept j) (ok.parents j pj (omega (arith, length_set)));
     lists = omega (arith, length_set, ok.lists);
     listed = λ p j c. ok.listed p j
-        (record { not_root = c.not_root; in_range = omega (arith, length_set, c.in_range); parent = sym (parent_kept j) ∙ c.parent });
+        (record {
+          not_root = c.not_root;
+          in_range = omega (arith, length_set, c.in_range);
+          parent = sym (parent_kept j) ∙ c.parent;
+        });
     children = λ p. All-weaker (IsChild ns p) (IsChild (set ns i m) p)
-        (λ j old. record { not_root = old.not_root; in_range = omega (arith, length_set, old.in_range); parent = parent_kept j ∙ old.parent }) (children_at cs p) (ok.children p);
+        (λ j old. record {
+          not_root = old.not_root;
+          in_range = omega (arith, length_set, old.in_range);
+          parent = parent_kept j ∙ old.parent;
+        }) (children_at cs p) (ok.children p);
     rise = λ p. subst KeysRise (sym (map_same (key_at (set ns i m)) (key_at ns) (children_at cs p)
         (λ j h. touched (λ n. n.key) ns i m key _))) (ok.rise p);
   }

@@ -44,4 +44,11 @@ touched f ns i m e j =
 -- One more list that is empty changes no list.
 pub pushed : (cs : List (List ℕ)) (j : ℕ) → children_at (cs ++ [] ∷ []) j ≡ children_at cs j
 pushed cs j =
-    grind (arith, get_or_append_left cs ([] ∷ []) [] j, get_or_past cs j [], get_or_push cs [] [] j, get_or_past (cs ++ [] ∷ []) j [], length_push cs [])
+    grind (
+      arith,
+      get_or_append_left cs ([] ∷ []) [] j,
+      get_or_past cs j [],
+      get_or_push cs [] [] j,
+      get_or_past (cs ++ [] ∷ []) j [],
+      length_push cs [],
+    )

@@ -95,8 +95,10 @@ module _ (ns : List Node) {cs : List (List ℕ)} (ok : IsArena ns cs) where
   pub key_place : (p i : ℕ) (c : IsChild ns p i) →
       (let a = ok.listed p i c in (a.0 < length (keys_at ns cs p)) × (key_in (keys_at ns cs p) a.0 ≡ key_at ns i))
   key_place p i c =
-      let a = ok.listed p i c in
-      (omega (arith, length-map (children_at cs p) (key_at ns), a.1), get_or-map (key_at ns) (children_at cs p) a.0 i [] a.1 ∙ ap (key_at ns) a.2)
+      let a = ok.listed p i c in (
+        omega (arith, length-map (children_at cs p) (key_at ns), a.1),
+        get_or-map (key_at ns) (children_at cs p) a.0 i [] a.1 ∙ ap (key_at ns) a.2,
+      )
 
   -- two children of one parent with one key are one
   one_child : (i j : ℕ) → 0 < i → i < length ns → 0 < j → j < length ns → parent_at ns i ≡ parent_at ns j →
@@ -118,7 +120,8 @@ module _ (ns : List Node) {cs : List (List ℕ)} (ok : IsArena ns cs) where
       i ≡ j
   distinct_below zero i j lt hi hj e = absurd (omega arith)
   distinct_below (suc n) i j lt hi hj e =
-      let up = λ (j : ℕ) (pos : 0 < j) (h : j < length ns). not_nil (path_at (sums ns) (parent_at ns j)) (key_at ns j) [] in
+      let up =
+      λ (j : ℕ) (pos : 0 < j) (h : j < length ns). not_nil (path_at (sums ns) (parent_at ns j)) (key_at ns j) [] in
       let last = same_from_push (path_at (sums ns) (parent_at ns i)) (path_at (sums ns) (parent_at ns j)) (key_at ns i)
       (key_at ns j) in
       let before = distinct_below n (parent_at ns i) (parent_at ns j) in

@@ -1,5 +1,5 @@
--- What the walk of `build_graph` has passed behind a node's path, child by child: the rows of the map, and the graph that it
--- has made.
+-- What the walk of `build_graph` has passed behind a node's path, child by child: the rows of the map, and the graph
+-- that it has made.
 use Rattle.std.proofs.Common.{◌≡◌, ◌≢◌, ℕ, zero, suc, ◌<◌, ◌≤◌, Bool, true, false, cond, T, ◌&&◌, ◌||◌, List, [], ◌∷◌}
 use Rattle.std.proofs.Common.{◌++◌, length, Option, Some, None, refl, sym, ap, subst, ◌∙◌, arith, true≢false}
 use Rattle.std.proofs.Common.{append_assoc, ◌+◌, map, flat_map, get_or, sum_by, append-nil, subst₂}
@@ -194,7 +194,10 @@ module _ (s : Listed) (ok : IsListing s) where
   own_row zero h ks =
       let e = sum_at s 0 in
       let none = get_none s (path_at s 0) (λ i pos hi w. (let same = ok.apart i 0 hi h w in omega arith)) in
-      rw (rows_none (map_of s) (path_at s 0) ks none) (grind (arith, nat_tests, ok.root_bytes), sym (ap (λ (p : Path). warned (map_of s) (p, (row e).1)) ok.root_path))
+      rw (rows_none (map_of s) (path_at s 0) ks none) (
+        grind (arith, nat_tests, ok.root_bytes),
+        sym (ap (λ (p : Path). warned (map_of s) (p, (row e).1)) ok.root_path),
+      )
   own_row (suc i) h ks =
       let e = row (sum_at s (suc i)) in
       rw (rows_one (map_of s) e.0 ks e.1 (get_at s ok (suc i) (omega arith) h))
@@ -251,7 +254,15 @@ module _ (s : Listed) (ok : IsListing s) where
             ∙ (append_assoc w (flat_map f before) (flat_map f next)
             ∙ ap (λ (l : List Warned). w ++ l) (sym (ap (flat_map f) more ∙ flat_map-append f before next))));
         graph_is = λ q. ap (λ (x : Graph). get x q) is ∙ (get-sum_of g (under k d) q ∙ by q);
-        total_is = ap total is ∙ omega (arith, total-sum_of g (under k d), total-under k d, part.total_is, child.total_is, ap (sum_by (size_in s)) more, sum_by-append (size_in s) before next);
+        total_is = ap total is ∙ omega (
+          arith,
+          total-sum_of g (under k d),
+          total-under k d,
+          part.total_is,
+          child.total_is,
+          ap (sum_by (size_in s)) more,
+          sum_by-append (size_in s) before next,
+        );
       }
         where
           child : MakesPart s (p ++ k ∷ []) (λ r. true) w' w'' d
@@ -261,7 +272,15 @@ module _ (s : Listed) (ok : IsListing s) where
               ≡ cond (begun ks (suc j) q) (get (graph (map_of s)) (p ++ q)) None
           by [] = grind (arith, part.graph_is [], get-under-root k d, append-nil p, graph_hit s ok i hi)
           by (l ∷ r) =
-              grind (arith, part.graph_is (l ∷ r), get-under k d l r, child.graph_is r, same_key_is l k, among_before ks rise j j l hj, append_assoc p (k ∷ []) r)
+              grind (
+                arith,
+                part.graph_is (l ∷ r),
+                get-under k d l r,
+                child.graph_is r,
+                same_key_is l k,
+                among_before ks rise j j l hj,
+                append_assoc p (k ∷ []) r,
+              )
 
 -- the next key comes after those of the graph so far
 pub comes_last : {s : Listed} {p : Path} {w w' : List Warned} {g : Graph} (ks : List Key) → KeysRise ks → (j : ℕ) →
@@ -317,8 +336,12 @@ module _ {items : List nodes.Node} {lists : List Children} (ok : IsTree items li
       ∙ (λ k. path_at (sums items) (c.parent k) ++ sym key k ∷ []) in
       subst₂ (λ (l : List ℕ) (s : Listed). let i = get_or l j 0 in (p < i) × (i < length s)
       × (path_at s i ≡ path_at s p ++ key_in keys j ∷ [])
-      × ((d : nodes.Node) → (let m = get_or items i d in m.key ≡ key_in keys j))) is view
-      (omega (arith, c.parent), omega (arith, length_sums items, c.in_range), path, λ d. ap (λ (m : nodes.Node). m.key) (get_or_default items _ d no_node c.in_range) ∙ sym key)
+      × ((d : nodes.Node) → (let m = get_or items i d in m.key ≡ key_in keys j))) is view (
+        omega (arith, c.parent),
+        omega (arith, length_sums items, c.in_range),
+        path,
+        λ d. ap (λ (m : nodes.Node). m.key) (get_or_default items _ d no_node c.in_range) ∙ sym key,
+      )
 
   pub made_all : p < length v → (w w' : List Warned) (g : Graph) (j : ℕ) → j ≡ length keys →
       MakesPart v (path_at v p) (begun keys j) w w' g → MakesGraph v p w w' g

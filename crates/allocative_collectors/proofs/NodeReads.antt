@@ -54,8 +54,14 @@ module _ (ns : List Node) {cs : List (List ℕ)} (ok : IsArena ns cs) (p : ℕ) 
   child_of zero hi path = absurd (not_nil _ _ _ (sym path ∙ root_at ns))
   child_of (suc i) hi path =
       let parts = same_from_push _ _ _ _ (sym (step ns ok (suc i) (omega arith) hi) ∙ path) in
-      let before = ok.parents (suc i) (omega arith) hi in
-      (record { not_root = omega arith; in_range = hi; parent = distinct ns ok (parent_at ns (suc i)) p (omega arith) hp parts.0 }, parts.1)
+      let before = ok.parents (suc i) (omega arith) hi in (
+        record {
+          not_root = omega arith;
+          in_range = hi;
+          parent = distinct ns ok (parent_at ns (suc i)) p (omega arith) hp parts.0;
+        },
+        parts.1,
+      )
 
   -- a child of p has the key if a path begins with p's and the key
   pub on_way : (n i : ℕ) → i < n → i < length ns → (q : Path) → path_at (sums ns) i ≡ path_at (sums ns) p ++ k ∷ q →
@@ -81,8 +87,10 @@ module _ (ns : List Node) {cs : List (List ℕ)} (ok : IsArena ns cs) (p : ℕ) 
         let Q = path_at (sums ns) p ++ k ∷ [] in
         let all : sums (grown ns p k) ≡ sums ns ++ record { path = Q; bytes = 0; is_unique = false } ∷ [] =
         grow_push [] ns (leaf p k)
-        ∙ (ap (λ (x : Path). sums ns ++ record { path = x; bytes = 0; is_unique = false } ∷ []) (path_from-some (map path_of (sums ns)) p k (omega (arith, ok.rooted, length_sums ns, length-map (sums ns) path_of))
-        ∙ ap (λ (x : Path). x ++ k ∷ []) (get_or-map path_of (sums ns) p root_sum [] (omega (arith, length_sums ns))))) in
+        ∙ (ap (λ (x : Path). sums ns ++ record { path = x; bytes = 0; is_unique = false } ∷ []) (path_from-some
+        (map path_of (sums ns)) p k (omega (arith, ok.rooted, length_sums ns, length-map (sums ns) path_of))
+        ∙ ap (λ (x : Path). x ++ k ∷ []) (get_or-map path_of
+        (sums ns) p root_sum [] (omega (arith, length_sums ns))))) in
         record {
           sums = all ∙ sym (put_push (length ns) Q 0 false (sums ns) (sym (length_sums ns)));
           not_root = ok.rooted;
@@ -118,7 +126,11 @@ sum_at_numbers : {X : Type 0} (f : X → ℕ) (d : X) → f d ≡ 0 → (ys : Li
     → ((i : ℕ) → i < length ys → ((a : ℕ) → a < length xs → get_or xs a 0 ≢ i) → f (get_or ys i d) ≡ 0) →
     sum_by (λ i. f (get_or ys i d)) xs ≡ sum_by f ys
 sum_at_numbers f d none ys [] within apart others =
-    omega (arith, sum_by-le f 0 ys (λ i e h. omega (arith, ap f (get_or_default ys i e d h), others i h (λ a lt. absurd (omega arith)))))
+    omega (
+      arith,
+      sum_by-le f 0 ys (λ i e h.
+          omega (arith, ap f (get_or_default ys i e d h), others i h (λ a lt. absurd (omega arith)))),
+    )
 sum_at_numbers f d none ys (x ∷ xs) within apart others =
     let hx : x < length ys = within 0 (omega arith) in
     let rest = set ys x d in
@@ -155,14 +167,23 @@ module _ (ns : List Node) {cs : List (List ℕ)} (ok : IsArena ns cs) (i : ℕ) 
 
   part_child : (j : ℕ) → IsChild ns i j → part (sum_at (sums ns) j) ≡ bytes_at ns j
   part_child j c =
-      grind (arith, part_is j c.not_root c.in_range, c.parent, same_path-same (path_at (sums ns) i) (path_at (sums ns) i))
+      grind (
+        arith,
+        part_is j c.not_root c.in_range,
+        c.parent,
+        same_path-same (path_at (sums ns) i) (path_at (sums ns) i),
+      )
 
   part_other : (j : ℕ) → j < length ns → (IsChild ns i j → ⊥) → part (sum_at (sums ns) j) ≡ 0
   part_other zero h not = ap (λ (b : Bool). cond b (sum_at (sums ns) 0).bytes 0)
       (ap (is_one_below (path_at (sums ns) i)) (root_at ns) ∙ not_below_root (path_at (sums ns) i))
   part_other (suc j) h not =
       part_is (suc j) (omega arith) h
-      ∙ cond-false _ _ _ (same_path-apart _ _ (λ s. not (record { not_root = omega arith; in_range = h; parent = distinct ns ok _ i (omega (arith, ok.parents (suc j) (omega arith) h)) hi (sym s) })))
+      ∙ cond-false _ _ _ (same_path-apart _ _ (λ s. not (record {
+        not_root = omega arith;
+        in_range = h;
+        parent = distinct ns ok _ i (omega (arith, ok.parents (suc j) (omega arith) h)) hi (sym s);
+      })))
 
   apart : Apart (children_at cs i)
   apart a b lt h e =
@@ -176,7 +197,8 @@ module _ (ns : List Node) {cs : List (List ℕ)} (ok : IsArena ns cs) (i : ℕ) 
       let xs = children_at cs i in
       let child : (a : ℕ) → a < length xs → IsChild ns i (get_or xs a 0) = λ a h. ok.children i a 0 h in
       same_sum (bytes_at ns) (λ j. part (sum_at (sums ns) j)) xs (λ a h. sym (part_child _ (child a h)))
-      ∙ (sum_at_numbers part root_sum (ap (λ (b : Bool). cond b 0 0) (not_below_root (path_at (sums ns) i))) (sums ns) xs (λ a h. omega (arith, length_sums ns, (child a h).in_range)) apart
+      ∙ (sum_at_numbers part root_sum (ap (λ (b : Bool). cond b 0 0) (not_below_root (path_at (sums ns) i)))
+      (sums ns) xs (λ a h. omega (arith, length_sums ns, (child a h).in_range)) apart
       (λ j h absent. part_other j (omega (arith, length_sums ns))
       (λ c. let s = ok.listed i j c in absent s.0 s.1 (get_or_default xs s.0 0 j s.1 ∙ s.2)))
       ∙ below_listed (sums ns) (listing ns ok) (path_at (sums ns) i))
@@ -238,7 +260,8 @@ written_tree {items} ok i m h read key parent bytes =
     (parent ∙ ap (λ (s : Node). s.parent) is) (λ e. bytes e ∙ ap (λ (s : Node). s.bytes) is))
 
 -- a tree whose sums are v
-module _ {items : List Node} {lists : List Children} (ok : IsTree items lists) {v : Listed} (view : sums items ≡ v) where
+module _ {items : List Node} {lists : List Children}
+    (ok : IsTree items lists) {v : Listed} (view : sums items ≡ v) where
   -- The sums of a tree are a listing.
   pub listing_of : IsListing v
   listing_of = subst IsListing view (listing items ok.arena)
@@ -332,7 +355,12 @@ module _ {items : List Node} {lists : List Children} (ok : IsTree items lists) {
 
       module _ (pos : 0 < i) where
         pub bytes_fit : n.bytes ≤ bytes_entered (map_of v)
-        bytes_fit = omega (arith, found_fits (path_at v i) (entries (map_of v)) (sym (get-entries (map_of v) (path_at v i)) ∙ get_at v listing_of i pos h), figures_read.0)
+        bytes_fit = omega (
+          arith,
+          found_fits (path_at v i) (entries (map_of v)) (sym
+              (get-entries (map_of v) (path_at v i)) ∙ get_at v listing_of i pos h),
+          figures_read.0,
+        )
 
       -- the bytes are added at the node's place
       pub raised_view : (size : ℕ) (u b : Bool) → b ≡ (n.is_unique || u) →

@@ -14,9 +14,9 @@ const LONGEST_CHUNK: usize = 256;
 
 /// Numbers in an order that the caller keeps.
 ///
-/// Most nodes have few children, and up to three numbers need no memory of their own. Up to `LONGEST_LIST` are one list.
-/// More are in chunks, so that a number that is put in the middle moves few others. If memory ran out, a longer list may
-/// have stayed one. Lists and chunks are in boxes, so that the numbers of each node take 16 bytes here.
+/// Most nodes have few children, and up to three numbers need no memory of their own. Up to `LONGEST_LIST` are one
+/// list. More are in chunks, so that a number that is put in the middle moves few others. If memory ran out, a longer
+/// list may have stayed one. Lists and chunks are in boxes, so that the numbers of each node take 16 bytes here.
 #[derive(Drop)]
 pub(crate) enum Children {
     Empty,
@@ -168,8 +168,8 @@ impl Chunk {
         Ok(())
     }
 
-    // Takes the upper half of the numbers away. The only error is that memory runs out, and then the numbers are as they
-    // were; some starts may be forgotten.
+    // Takes the upper half of the numbers away. The only error is that memory runs out, and then the numbers are as
+    // they were; some starts may be forgotten.
     fn cut(&mut self) -> Result<Chunk, AllocError>
         ensures ok { IfOk result
             (λ upper. numbers_in self.old ≡ numbers_in self.new ++ numbers_in upper) }

@@ -23,8 +23,8 @@ impl WarnedPath {
     ghost use Rattle.allocative_collectors.specs.Warned.{warning_of, is_std_data};
 
     /// Whether the path is the entry `data` of a map or a set of std. Such a path has a warning as soon as its contents
-    /// exceed 8 bytes. It ends in `BTreeMap`, `BTreeSet`, `HashMap` or `HashSet`, and then `data`. The keys alone decide,
-    /// so a type of your own with one of these names counts too.
+    /// exceed 8 bytes. It ends in `BTreeMap`, `BTreeSet`, `HashMap` or `HashSet`, and then `data`. The keys alone
+    /// decide, so a type of your own with one of these names counts too.
     pub fn is_of_std(&self) -> bool
         ensures { result ≡ is_std_data (warning_of self.now).path }
     {
@@ -140,15 +140,16 @@ impl FlameGraphOutput {
         self.warnings.as_str()
     }
 
-    /// The paths with a warning, in the order of paths. It is the order of the text's lines. The call allocates nothing.
+    /// The paths with a warning, in the order of paths. It is the order of the text's lines. The call allocates
+    /// nothing.
     pub fn warned_paths(&self) -> &[WarnedPath]
         ensures { map warning_of result.now ≡ self.now.warned }
     {
         self.warned.as_slice()
     }
 
-    /// Copies of all warned paths but those of std's maps and sets, in order. Left out are those for which `is_of_std` is
-    /// true. The only error is that memory runs out.
+    /// Copies of all warned paths but those of std's maps and sets, in order. Left out are those for which `is_of_std`
+    /// is true. The only error is that memory runs out.
     pub fn warned_paths_outside_std(&self) -> Result<Vec<WarnedPath>, AllocError>
         ensures { IfOk result
             (λ paths. map warning_of paths.items ≡ filter (λ w. not (is_std_data w.path)) self.now.warned) }

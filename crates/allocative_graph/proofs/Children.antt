@@ -166,7 +166,8 @@ at_last cs d x some e = get_or_default cs (length cs - 1) x d (omega arith) ∙ 
 
 -- ---- the sizes in the graph of a node
 -- A search in two lists of rows, one after another, goes on to the second if the first has nothing.
-find-both : (q : Path) (es fs : List (Path × ℕ)) → find path_cmp q (es ++ fs) ≡ option_or (find path_cmp q es) (find path_cmp q fs)
+find-both : (q : Path) (es fs : List (Path × ℕ)) →
+    find path_cmp q (es ++ fs) ≡ option_or (find path_cmp q es) (find path_cmp q fs)
 find-both q [] fs = refl
 find-both q (e ∷ es) fs = grind (arith, find-both q es fs)
 
@@ -183,7 +184,14 @@ unfolding IsStrictlySortedBy
 find-rows [] k p h = refl
 find-rows (c ∷ cs) k p h =
     let none = λ (e : IsTrue (eq_by_cmp key_cmp k c.key)). none_above k c.key p cs e h.0 in
-    grind (arith, none, find-both (k ∷ p) (rows_of_child c) (rows_of cs), find-under k c.key p (entries c.graph), find-rows cs k p h.1, get-entries c.graph p)
+    grind (
+      arith,
+      none,
+      find-both (k ∷ p) (rows_of_child c) (rows_of cs),
+      find-under k c.key p (entries c.graph),
+      find-rows cs k p h.1,
+      get-entries c.graph p,
+    )
 
 -- At the root, a node with children in order has its own size.
 pub get-root : (n : ℕ) (cs : List Child) → InOrder cs → get (node n cs) [] ≡ Some n
@@ -229,8 +237,14 @@ insert_root n m cs h =
     ∙ sym (entries-node m cs h))
 
 -- The total of a node is its own size and the totals of its children.
-pub total-node : (n : ℕ) (cs : List Child) → IsStrictlySortedBy key_cmp (keys_of cs) → total (node n cs) ≡ n + total_of cs
-total-node n cs h = omega (arith, ap (sum_by (λ (r : Path × ℕ). r.1)) (entries-node n cs h), sum_by-cons (λ (r : Path × ℕ). r.1) ([], n) (rows_of cs), total_of-rows cs)
+pub total-node : (n : ℕ) (cs : List Child) → IsStrictlySortedBy key_cmp (keys_of cs) →
+    total (node n cs) ≡ n + total_of cs
+total-node n cs h = omega (
+  arith,
+  ap (sum_by (λ (r : Path × ℕ). r.1)) (entries-node n cs h),
+  sum_by-cons (λ (r : Path × ℕ). r.1) ([], n) (rows_of cs),
+  total_of-rows cs,
+)
 
 -- ---- merging children
 -- A child with another graph.
@@ -298,12 +312,14 @@ pub merged_both : (a b : Bool) (c d : Child) (g : Graph) (cs ds es : List Child)
     Added a c.graph d.graph g → AreChildren (c ∷ cs) → AllAbove ds d.key →
     Merged (a && b) (c ∷ cs) (d ∷ ds) (with_graph c g ∷ es)
 merged_both a b c d g cs ds es m same sum h below = record {
-  children = with_first (with_graph c g) es (m.above c.key (first_below c cs h) (subst (AllAbove ds) same below)) sum.tree
+  children =
+      with_first (with_graph c g) es (m.above c.key (first_below c cs h) (subst (AllAbove ds) same below)) sum.tree
       m.children;
   above = λ k p q. (p.0, m.above k p.1 q.1);
   part = λ k p. at_both AddsUpInPart c cs ds es k p (m.part k p) d g same (sum.part p);
   sum = λ w k p. at_both AddsUp c cs ds es k p (m.sum (and_parts a b w).1 k p) d g same (sum.sum (and_parts a b w).0 p);
-  at_most = omega (arith, m.at_most, sum.at_most, total_of-cons c cs, total_of-cons d ds, total_of-cons (with_graph c g) es);
+  at_most =
+      omega (arith, m.at_most, sum.at_most, total_of-cons c cs, total_of-cons d ds, total_of-cons (with_graph c g) es);
 }
 
 -- ---- the next child
@@ -368,7 +384,8 @@ next_equal {cs' = cs'} {ds' = ds'} {c = c} {d = d} {a = a} {g = g} e f mine thei
 pub merges_then : {all a b : Bool} {cs ds out cs' ds' more cs'' ds'' made : List Child} →
     MergesFirst a cs ds out cs' ds' → MergesFirst b cs' ds' more cs'' ds'' → all ≡ (a && b) → made ≡ out ++ more →
     MergesFirst all cs ds made cs'' ds''
-merges_then {a = a} {b = b} {cs = cs} {ds = ds} {out = out} {more = more} {cs'' = cs''} {ds'' = ds''} m n all_is made_is =
+merges_then {a = a} {b = b} {cs = cs} {ds = ds} {out = out}
+    {more = more} {cs'' = cs''} {ds'' = ds''} m n all_is made_is =
     subst₂ (λ v r. MergesFirst v cs ds r cs'' ds'') (sym all_is) (sym made_is) (record {
       goes_on = λ c es k. subst₂ (λ v r. Merged v cs ds r) (sym (and_assoc a b c)) (sym (append_assoc out more es))
           (m.goes_on (b && c) (more ++ es) (n.goes_on c es k));
@@ -451,7 +468,11 @@ module _ {cs : List Child} {o : Option Child} {c : Child} (rest : List Child) (e
   front_total = omega (arith, ap total_of (front_is e h) ∙ total_of-cons c rest)
 
   pub front_rows : len c.graph ≤ length (rows_of cs)
-  front_rows = omega (arith, ap (λ l. length (rows_of l)) (front_is e h) ∙ length-append (rows_of_child c) (rows_of rest), len-child c)
+  front_rows = omega (
+    arith,
+    ap (λ l. length (rows_of l)) (front_is e h) ∙ length-append (rows_of_child c) (rows_of rest),
+    len-child c,
+  )
 
 -- A list of fewer than two items that ends in x has x alone.
 pub one_of_length : {X : Type 0} (xs rest : List X) (x : X) → xs ≡ rest ++ x ∷ [] → length xs < 2 → xs ≡ x ∷ []
@@ -502,8 +523,10 @@ module _ {k : Key} {x : Child} {cs ds : List Child} {i : ℕ} (same : ds ≡ cs)
   -- A child with the key k is merged by adding its graph to that of x.
   pub put_at_found : {all : Bool} (c : Child) → c.key ≡ k → AreChildren cs → Added all x.graph c.graph g →
       Merged all cs (c ∷ []) (set cs i (with_graph x g))
-  put_at_found {all = all} c is h sum = subst (λ (y : Child). Merged all cs (c ∷ []) (set cs i (with_graph y g))) (sym there)
-      (changed all cs i c x g h here.within (here.same x ∙ sym is) (subst (λ (y : Child). Added all y.graph c.graph g) there sum))
+  put_at_found {all = all} c is h sum =
+      subst (λ (y : Child). Merged all cs (c ∷ []) (set cs i (with_graph y g))) (sym there)
+      (changed all cs i c x g h here.within (here.same x ∙ sym is)
+      (subst (λ (y : Child). Added all y.graph c.graph g) there sum))
 
   -- The totals of all children change as that of x does.
   pub total_at_found : total_of (set cs i (with_graph x g)) + total x.graph ≡ total_of cs + total g

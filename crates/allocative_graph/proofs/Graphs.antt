@@ -35,7 +35,12 @@ add_list g es = fold add_at g es
 total_at-add_list : (q : Path) (g : Graph) (es : List (Path × ℕ)) →
     total_at (add_list g es) q ≡ total_at g q + sum_by (λ r. cond (begins q r.0) r.1 0) es
 total_at-add_list q g [] = omega arith
-total_at-add_list q g (e ∷ es) = omega (arith, total_at-add_list q (add_at g e) es, total_at-add_at q g e, sum_by-cons (λ r. cond (begins q r.0) r.1 0) e es)
+total_at-add_list q g (e ∷ es) = omega (
+  arith,
+  total_at-add_list q (add_at g e) es,
+  total_at-add_at q g e,
+  sum_by-cons (λ r. cond (begins q r.0) r.1 0) e es,
+)
 
 abbrev pub sizes_together : Option ℕ → Option ℕ → Option ℕ
 sizes_together x y = cond (is_some x || is_some y) (Some (unwrap_or x 0 + unwrap_or y 0)) None
@@ -94,7 +99,10 @@ sum_of-commutes g h = is_sum_of h g (sum_of g h)
 -- Three graphs have the same sum whether the first two or the last two are added first.
 pub sum_of-associates : (g h k : Graph) → sum_of (sum_of g h) k ≡ sum_of g (sum_of h k)
 sum_of-associates g h k = is_sum_of g (sum_of h k) _
-    (λ p. (omega (arith, size_at-sum_of (sum_of g h) k p, size_at-sum_of g h p, size_at-sum_of h k p), grind (arith, has-sum_of (sum_of g h) k p, has-sum_of g h p, has-sum_of h k p)))
+    (λ p. (
+      omega (arith, size_at-sum_of (sum_of g h) k p, size_at-sum_of g h p, size_at-sum_of h k p),
+      grind (arith, has-sum_of (sum_of g h) k p, has-sum_of g h p, has-sum_of h k p),
+    ))
 
 -- The default graph has 0 at the root, and no other path.
 pub get-default : (q : Path) → get default q ≡ cond (is_same_path q []) (Some 0) None
@@ -155,7 +163,12 @@ module _ {X : Type 0} (made : X → Graph) where
   pub size_at-added_up : (g : Graph) (xs : List X) (p : Path) →
       size_at (added_up g xs) p ≡ size_at g p + sum_by (λ x. size_at (made x) p) xs
   size_at-added_up g [] p = omega arith
-  size_at-added_up g (x ∷ xs) p = omega (arith, size_at-added_up (sum_of g (made x)) xs p, size_at-sum_of g (made x) p, sum_by-cons (λ x. size_at (made x) p) x xs)
+  size_at-added_up g (x ∷ xs) p = omega (
+    arith,
+    size_at-added_up (sum_of g (made x)) xs p,
+    size_at-sum_of g (made x) p,
+    sum_by-cons (λ x. size_at (made x) p) x xs,
+  )
 
   pub has-added_up : (g : Graph) (xs : List X) (p : Path) →
       contains_key (added_up g xs) p ≡ (contains_key g p || list_any (λ x. contains_key (made x) p) xs)
@@ -170,8 +183,18 @@ module _ {X : Type 0} (made : X → Graph) where
   -- The order of the items does not matter.
   pub added_up-permuted : (g : Graph) (xs ys : List X) → IsPermutation xs ys → added_up g ys ≡ added_up g xs
   added_up-permuted g xs ys h = same_graph _ _
-      (λ p. omega (arith, size_at-added_up g ys p, size_at-added_up g xs p, sum_by-IsPermutation (λ x. size_at (made x) p) xs ys h))
-      (λ p. grind (arith, has-added_up g ys p, has-added_up g xs p, list_any-IsPermutation (λ x. contains_key (made x) p) xs ys h))
+      (λ p. omega (
+        arith,
+        size_at-added_up g ys p,
+        size_at-added_up g xs p,
+        sum_by-IsPermutation (λ x. size_at (made x) p) xs ys h,
+      ))
+      (λ p. grind (
+        arith,
+        has-added_up g ys p,
+        has-added_up g xs p,
+        list_any-IsPermutation (λ x. contains_key (made x) p) xs ys h,
+      ))
 
   pub added_up-onto : (g h : Graph) (xs : List X) → sum_of g (added_up h xs) ≡ added_up (sum_of g h) xs
   added_up-onto g h [] = refl

@@ -49,7 +49,10 @@ graph_law = record { root = get-graph-root; paths = get-graph; is_tree = graph-t
 prints : (f : Forest) (lines complaints : List ℕ) → text_of_entries (sizes_list (nodes_of (all f))) ≡ lines →
     warnings_list (nodes_of (all f)) ≡ complaints → Prints f lines complaints
 prints f lines complaints p q =
-    record { text_is = ap text_of_entries (entries-graph (all f)) ∙ p; warnings_are = ap warnings_list (entries-sums_of (all f)) ∙ q }
+    record {
+      text_is = ap text_of_entries (entries-graph (all f)) ∙ p;
+      warnings_are = ap warnings_list (entries-sums_of (all f)) ∙ q;
+    }
 
 -- Each example is computed.
 pub rows_law : WorkedExamples
@@ -68,7 +71,10 @@ rows_law = record {
   map_pair_prints = prints _ _ _ refl refl;
   vec_body_prints = prints _ _ _ refl refl;
   inline_and_unique_added = text_added (all part_inline) (all part_unique);
-  shared_twice_whole = ((tt, (contains-empty identity_cmp one, (tt, tt), tt)), ((tt, (contains-insert identity_total empty one one, tt)), tt));
+  shared_twice_whole = (
+    (tt, (contains-empty identity_cmp one, (tt, tt), tt)),
+    ((tt, (contains-insert identity_total empty one one, tt)), tt),
+  );
   shared_ring_whole = (contains-empty identity_cmp one, (contains-insert identity_total empty one one, tt), tt);
   unique_in_unique_held = refl;
   vec_body_held = refl;
@@ -78,4 +84,34 @@ rows_law = record {
 }
 
 -- All laws, as the functions cite them.
-pub ruleset laws = (same_sums_of, same_reached, agree_back, reaches_exactly, all_is_meaning, whole_following, graphs_add, text_tells, exact_is, read_law, get-sums_of, below-sums_of, plus-nothing, plus-following, takes_following, inside_entry, takes_entry, inside_first, takes_shared, held_again, counted_again, path_order_law, graph_sums_law, graph_law, owned-following, owned-reordered, owned-total, direct-owned, rows_law)
+pub ruleset laws = (
+  same_sums_of,
+  same_reached,
+  agree_back,
+  reaches_exactly,
+  all_is_meaning,
+  whole_following,
+  graphs_add,
+  text_tells,
+  exact_is,
+  read_law,
+  get-sums_of,
+  below-sums_of,
+  plus-nothing,
+  plus-following,
+  takes_following,
+  inside_entry,
+  takes_entry,
+  inside_first,
+  takes_shared,
+  held_again,
+  counted_again,
+  path_order_law,
+  graph_sums_law,
+  graph_law,
+  owned-following,
+  owned-reordered,
+  owned-total,
+  direct-owned,
+  rows_law,
+)

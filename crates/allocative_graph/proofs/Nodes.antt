@@ -55,7 +55,8 @@ module _ {A : Type 0} (F : List Child → A) (one : Child → A) (k : Key)
       here c cs (subst (λ l. eq_by_cmp key_cmp k l ≡ true) (sym s) (ap is_eq (tied_itself nat_list_cmp_total k)))
       (read-lacks cs (lacks-above k cs (subst (λ l. AllAbove cs l) s o.0)))
   read-found here (c ∷ cs) (suc i) d o w s =
-      past c cs (other_than c.key k (subst (λ l. key_cmp c.key l ≡ Less) s (rises (c ∷ cs) 0 (suc i) d o (omega arith) w)))
+      past c cs
+      (other_than c.key k (subst (λ l. key_cmp c.key l ≡ Less) s (rises (c ∷ cs) 0 (suc i) d o (omega arith) w)))
       ∙ read-found here cs i d o.1 (omega arith) s
 
 -- The sum of the sizes of the rows whose paths begin with q.
@@ -73,7 +74,11 @@ module _ (k : Key) (p : Path) where
   whole-past : (c : Child) (cs : List Child) → eq_by_cmp key_cmp k c.key ≡ false →
       whole_in (rows_of (c ∷ cs)) (k ∷ p) ≡ whole_in (rows_of cs) (k ∷ p)
   whole-past c cs e =
-      rw (rows-cons (λ r. cond (begins (k ∷ p) r.0) r.1 0) c cs, e, fold_stays (λ n (r : Path × ℕ). n + 0) 0 (λ r. refl) (entries c.graph)) (zero-add _)
+      rw (
+        rows-cons (λ r. cond (begins (k ∷ p) r.0) r.1 0) c cs,
+        e,
+        fold_stays (λ n (r : Path × ℕ). n + 0) 0 (λ r. refl) (entries c.graph),
+      ) (zero-add _)
 
   -- Nothing is below a key that no child has.
   whole-lacks : (cs : List Child) → Lacks k cs → whole_in (rows_of cs) (k ∷ p) ≡ 0
@@ -83,13 +88,18 @@ module _ (k : Key) (p : Path) where
   whole-found : (cs : List Child) (i : ℕ) (d : Child) → InOrder cs → i < length cs → (get_or cs i d).key ≡ k →
       whole_in (rows_of cs) (k ∷ p) ≡ total_at (get_or cs i d).graph p
   whole-found = read-found (λ cs. whole_in (rows_of cs) (k ∷ p)) (λ c. whole_in (entries c.graph) p) k whole-past
-      (λ c cs e none. rows-cons (λ r. cond (begins (k ∷ p) r.0) r.1 0) c cs ∙ (λ i. sum_by (λ r. cond (e i && begins p r.0) r.1 0) (entries c.graph) + none i)
+      (λ c cs e none. rows-cons (λ r. cond (begins (k ∷ p) r.0) r.1 0) c cs
+      ∙ (λ i. sum_by (λ r. cond (e i && begins p r.0) r.1 0) (entries c.graph) + none i)
       ∙ add-zero _)
 
 -- The bytes of a node below a key are those of its children.
 whole-node : (n : ℕ) (cs : List Child) (k : Key) (p : Path) → InOrder cs →
     total_at (node n cs) (k ∷ p) ≡ whole_in (rows_of cs) (k ∷ p)
-whole-node n cs k p o = omega (arith, ap (λ rs. whole_in rs (k ∷ p)) (entries-node n cs o), sum_by-cons (λ (e : Path × ℕ). cond (begins (k ∷ p) e.0) e.1 0) ([], n) (rows_of cs))
+whole-node n cs k p o = omega (
+  arith,
+  ap (λ rs. whole_in rs (k ∷ p)) (entries-node n cs o),
+  sum_by-cons (λ (e : Path × ℕ). cond (begins (k ∷ p) e.0) e.1 0) ([], n) (rows_of cs),
+)
 
 -- The bytes at a path below a child's key, and below that path, are those of the child.
 pub total_at-child : (n : ℕ) (cs : List Child) (i : ℕ) (d : Child) (p : Path) → InOrder cs → i < length cs →
@@ -130,14 +140,22 @@ module _ {n s : ℕ} {cs ds : List Child} {g : Graph} {path : Path} {k : Key} {p
     -- If the child has nothing at p, the node has nothing at the path.
     pub missing_child : HasNothing (get_or ds i d).graph p → HasNothing g path
     missing_child m = subst₂ HasNothing (ap (node n) same ∙ view) (sym is)
-        (record { missing = ap is_some (at p) ∙ m.missing; below = λ q. ap is_some (at (p ++ q)) ∙ m.below q; nothing = whole p ∙ m.nothing })
+        (record {
+          missing = ap is_some (at p) ∙ m.missing;
+          below = λ q. ap is_some (at (p ++ q)) ∙ m.below q;
+          nothing = whole p ∙ m.nothing;
+        })
 
   -- If a key was not found, the node has nothing at the path and below it.
   pub missing_key : {i : ℕ} → IsChildGap ds k i → HasNothing g path
   missing_key {i = i} gap =
       let none = gap-lacks ds i k gap in
       let missing = λ (q : Path). ap is_some (get-under n ds k q in_order ∙ size_under-lacks ds k q none) in
-      subst₂ HasNothing (ap (node n) same ∙ view) (sym is) (record { missing = missing p; below = λ q. missing (p ++ q); nothing = whole-node n ds k p in_order ∙ whole-lacks k p ds none })
+      subst₂ HasNothing (ap (node n) same ∙ view) (sym is) (record {
+        missing = missing p;
+        below = λ q. missing (p ++ q);
+        nothing = whole-node n ds k p in_order ∙ whole-lacks k p ds none;
+      })
 
 -- ---- in terms of what a call returns
 -- If P implies Q, P in the absence of a value implies Q in its absence.
@@ -148,7 +166,13 @@ none_implies P Q f (Some x) h = h
 -- A child has fewer paths than its node.
 pub smaller_child : (n : ℕ) (cs : List Child) (i : ℕ) (d : Child) → InOrder cs → i < length cs →
     len (get_or cs i d).graph < len (node n cs)
-smaller_child n cs i d o h = omega (arith, ap length (entries-node n cs o), len-entries (node n cs), length-flat_map-take rows_of_child cs i d h, len-child (get_or cs i d))
+smaller_child n cs i d o h = omega (
+  arith,
+  ap length (entries-node n cs o),
+  len-entries (node n cs),
+  length-flat_map-take rows_of_child cs i d h,
+  len-child (get_or cs i d),
+)
 
 -- ---- the figures of a node: its own, and then those of its children, one child after another
 -- The figures of some paths with their sizes, with some keys before them. The bytes of each path and of all below it
@@ -172,7 +196,12 @@ figured-rows : (t : Path → ℕ) (ks : Path) (cs : List Child)
     figured t ks (rows_of cs) ≡ flat_map (child_figures ks) cs
 figured-rows t ks [] h = refl
 figured-rows t ks (c ∷ cs) h =
-    rw (map-append {B = Figures} (λ (e : Path × ℕ). record { path = ks ++ e.0; self_size = e.1; total_size = t e.0 }) (rows_of_child c) (rows_of cs), ← figured-under t (total_at c.graph) ks c.key (entries c.graph) h.0, figured-rows t ks cs h.1)
+    rw (
+      map-append {B = Figures} (λ (e : Path × ℕ).
+          record { path = ks ++ e.0; self_size = e.1; total_size = t e.0 }) (rows_of_child c) (rows_of cs),
+      ← figured-under t (total_at c.graph) ks c.key (entries c.graph) h.0,
+      figured-rows t ks cs h.1,
+    )
     refl
 
 -- What F makes of the items before a place and of the one there.
@@ -213,7 +242,8 @@ pub added_sum : {all : Bool} {g h r : Graph} → Added all g h r → all ≡ tru
 added_sum {g = g} {h = h} {r = r} added done = is_sum_of g h r (added.sum done)
 
 -- With one child merged into its children, a node is a node if the bytes fit.
-pub grown : {all : Bool} {cs es : List Child} {d : Child} {size n : ℕ} → Merged all cs (d ∷ []) es → size ≡ total_of es →
+pub grown : {all : Bool} {cs es : List Child} {d : Child} {size n : ℕ} →
+    Merged all cs (d ∷ []) es → size ≡ total_of es →
     n + total_of cs + total d.graph < 2 ^ 64 → IsNode es size n
 grown m is fits = record { children = m.children; size = is; fits = omega (arith, m.at_most, is, fits) }
 
@@ -236,8 +266,14 @@ abbrev pub paths_of : List Child → ℕ
 paths_of cs = sum_by (λ c. len c.graph) cs
 
 -- A node has the path of its root, and those of its children.
-pub paths_of_node : (n : ℕ) (cs : List Child) → IsStrictlySortedBy key_cmp (keys_of cs) → len (node n cs) ≡ 1 + paths_of cs
-paths_of_node n cs h = omega (arith, length-flat_map rows_of_child cs ∙ (λ i. sum_by (λ c. len-child c i) cs), len-entries (node n cs), ap length (entries-node n cs h))
+pub paths_of_node : (n : ℕ) (cs : List Child) → IsStrictlySortedBy key_cmp (keys_of cs) →
+    len (node n cs) ≡ 1 + paths_of cs
+paths_of_node n cs h = omega (
+  arith,
+  length-flat_map rows_of_child cs ∙ (λ i. sum_by (λ c. len-child c i) cs),
+  len-entries (node n cs),
+  ap length (entries-node n cs h),
+)
 
 -- The root, the paths of the children before one and those of that one are within the paths of the graph g.
 pub child_within : {n s : ℕ} {cs ds : List Child} {g : Graph} {i : ℕ} {d : Child} → node n cs ≡ g → IsNode cs s n →
@@ -269,7 +305,8 @@ module _ {n s : ℕ} {cs : List Child} {g : Graph} (view : node n cs ≡ g) (h :
       ≡ record { path = ks; self_size = n; total_size = total g } ∷ flat_map (child_figures ks) cs
   figures_of_node ks = ap (figured (total_at g) ks) entries_of_node
       ∙ (λ i. record { path = append-nil ks i; self_size = n; total_size = total g }
-      ∷ figured-rows (total_at g) ks cs (recursion_from_All (λ (c : Child). (q : Path) → total_at g (c.key ∷ q) ≡ total_at c.graph q) cs
+      ∷ figured-rows (total_at g) ks cs (recursion_from_All
+      (λ (c : Child). (q : Path) → total_at g (c.key ∷ q) ≡ total_at c.graph q) cs
       (λ j d w q. subst (λ (x : Graph). total_at x ((get_or cs j d).key ∷ q) ≡ total_at (get_or cs j d).graph q) view
       (total_at-child n cs j d q h.children.sorted w))) i)
 
@@ -287,7 +324,11 @@ module _ {n s : ℕ} {cs es : List Child} {g : Graph} {c : Child} (view : node n
       let all : n + total_of es ≡ total g + total c.graph =
       sym (total-node n es m.children.sorted) ∙ ap total sum_grown ∙ total-sum_of g (under c.key c.graph)
       ∙ ap (λ k. total g + k) (total-under c.key c.graph) in
-      record { children = m.children; size = omega (arith, all, own, h.size); fits = omega (arith, all, own, h.size, fits) }
+      record {
+        children = m.children;
+        size = omega (arith, all, own, h.size);
+        fits = omega (arith, all, own, h.size, fits);
+      }
 
 -- A child that comes after all others is put at the end.
 pub pushed : {n s : ℕ} {cs : List Child} {g : Graph} (view : node n cs ≡ g) → IsNode cs s n → (c : Child) →
@@ -297,13 +338,16 @@ pushed {n = n} {cs = cs} view h c t last =
     put_at_gap c refl (record {
       within = omega arith;
       between = (
-        (λ j d low w. last (get_or cs j d).key [] (subst (λ (x : Graph). contains_key x ((get_or cs j d).key ∷ []) ≡ true) view
-            (ap is_some (get-under n cs (get_or cs j d).key [] o ∙ size_under-found (get_or cs j d).key [] cs j d o w refl)
+        (λ j d low w. last (get_or cs j d).key []
+            (subst (λ (x : Graph). contains_key x ((get_or cs j d).key ∷ []) ≡ true) view
+            (ap is_some
+            (get-under n cs (get_or cs j d).key [] o ∙ size_under-found (get_or cs j d).key [] cs j d o w refl)
             ∙ (All-from_recursion (λ (x : Child). IsTree x.graph) cs h.children.trees j d w).root))),
         (λ j d high w. absurd (omega arith)),
       );
     })
-    (λ i. sym (take_all (length cs) cs (omega arith)) i ++ c ∷ sym (drop_all (length cs) cs (omega arith)) i) h.children t
+    (λ i. sym (take_all (length cs) cs (omega arith)) i ++ c ∷ sym (drop_all (length cs) cs (omega arith)) i)
+    h.children t
 
 -- ---- two nodes with the graphs g and h, whose children merge to es, also if equal lists are named
 module _ {g h : Graph} {m n s t : ℕ} {cs ds : List Child} (mine : node m cs ≡ g) (a : IsNode cs s m)
@@ -313,7 +357,11 @@ module _ {g h : Graph} {m n s t : ℕ} {cs ds : List Child} (mine : node m cs �
 
   pub merged_node : {all : Bool} {cs' ds' es : List Child} {size : ℕ} → cs' ≡ cs → ds' ≡ ds →
       total g + total h < 2 ^ 64 → Merged all cs' ds' es → size ≡ total_of es → IsNode es size (m + n)
-  merged_node e f fits k is = record { children = k.children; size = is; fits = omega (arith, total_of_both, k.at_most, ap total_of e, ap total_of f, is, fits) }
+  merged_node e f fits k is = record {
+    children = k.children;
+    size = is;
+    fits = omega (arith, total_of_both, k.at_most, ap total_of e, ap total_of f, is, fits);
+  }
 
   pub merged_graph : {all : Bool} {cs' ds' es : List Child} → cs' ≡ cs → ds' ≡ ds → Merged all cs' ds' es →
       Added all g h (node (m + n) es)
@@ -325,7 +373,13 @@ module _ {g h : Graph} {m n s t : ℕ} {cs ds : List Child} (mine : node m cs �
   pub child_of_one : {c : Child} → c ∷ [] ≡ ds → total g + total h < 2 ^ 64 →
       (len c.graph < len h) × IsTree c.graph × (s + total c.graph < 2 ^ 64)
   child_of_one {c = c} one fits = (
-    omega (arith, len_of_node theirs b, ap (λ l. length (rows_of l)) one, length-append (rows_of_child c) [], len-child c),
+    omega (
+      arith,
+      len_of_node theirs b,
+      ap (λ l. length (rows_of l)) one,
+      length-append (rows_of_child c) [],
+      len-child c,
+    ),
     (subst AreChildren (sym one) b.children).trees.0,
     omega (arith, total_of_both, ap total_of one, a.size, fits),
   )
@@ -367,7 +421,10 @@ sum_raised {n = n} {cs = cs} view h m =
 -- The sum of two trees adds up.
 pub added_trees : (g h : Graph) → IsTree g → IsTree h → Added true g h (sum_of g h)
 added_trees g h s t = record {
-  tree = record { root = grind (arith, has-sum_of g h [], s.root); closed = λ p k e. grind (arith, has-sum_of g h p, has-sum_of g h (p ++ k ∷ []), s.closed p k, t.closed p k, e) };
+  tree = record {
+    root = grind (arith, has-sum_of g h [], s.root);
+    closed = λ p k e. grind (arith, has-sum_of g h p, has-sum_of g h (p ++ k ∷ []), s.closed p k, t.closed p k, e);
+  };
   part = λ p. part_of_sum (get g p) (get h p) (get (sum_of g h) p) (size_at-sum_of g h p, has-sum_of g h p);
   sum = λ all p. (size_at-sum_of g h p, has-sum_of g h p);
   at_most = omega (arith, total-sum_of g h);

@@ -1,5 +1,5 @@
--- The graphs of stacks, which add up in any order. The lines of a text that is read, and what they say of its graph: the
--- text of a graph that is read is the graph again.
+-- The graphs of stacks, which add up in any order. The lines of a text that is read, and what they say of its graph:
+-- the text of a graph that is read is the graph again.
 use Rattle.allocative_graph.specs.declared.read.TheConstants.{LEVELS}
 use Rattle.allocative_graph.specs.declared.read.LineFault.{LineFault}
 use Rattle.std.proofs.Common.{◌≡◌, ◌≢◌, ℕ, suc, ◌+◌, ◌^◌, ◌<◌, ◌≤◌, ◌==◌, true, false, List, [], ◌∷◌, ◌++◌, length}
@@ -106,7 +106,8 @@ total-stacks ss =
 
 -- ---- lines in any order
 -- What lines add up to in another order is what their text is read as.
-pub is_read : (t : List ℕ) (ls sorted : List Line) (g : Graph) → SaysStacks t (map line_stack ls) → IsPermutation ls sorted →
+pub is_read : (t : List ℕ) (ls sorted : List Line) (g : Graph) →
+    SaysStacks t (map line_stack ls) → IsPermutation ls sorted →
     g ≡ sum_of_stacks default (map line_stack sorted) → IsRead t g
 is_read t ls sorted g means moved e =
     let ss = map line_stack ls in
@@ -144,7 +145,16 @@ line_more ls i l g h more was is =
 pub sum_exceeds : (t : List ℕ) (ls given : List Line) → SaysStacks t (map line_stack ls) → given ≡ ls →
     ¬ (sum_by (λ l. l.size) given < 2 ^ 64) → Exceeds t
 sum_exceeds t ls given means e h =
-    record { stacks = map line_stack ls; means = means; exceeds = omega (arith, h, ap (λ (xs : List Line). sum_by (λ l. l.size) xs) e, fold-map (λ n (s : Stack). n + s.size) line_stack 0 ls) }
+    record {
+      stacks = map line_stack ls;
+      means = means;
+      exceeds = omega (
+        arith,
+        h,
+        ap (λ (xs : List Line). sum_by (λ l. l.size) xs) e,
+        fold-map (λ n (s : Stack). n + s.size) line_stack 0 ls,
+      );
+    }
 
 -- The bytes of lines do not depend on their order.
 pub ruleset of_lines = (sum_by-IsPermutation)
@@ -165,7 +175,11 @@ pub cut_of : {bs : List ℕ} (x : Bor (List ℕ) × Bor (List ℕ)) →
 cut_of {bs = bs} x (i, j, finds, front, back, ordered, one, other) =
     let whole : take i bs ++ 32 ∷ drop j bs ≡ bs =
     ap (λ l. take i bs ++ l) (sym (drop_at_char 32 bs i j finds.1 (omega arith))) ∙ take-append-drop i bs in
-    record { parts = sym whole ∙ (λ k. sym front k ++ 32 ∷ sym back k); last = subst (Lacks 32) (sym back) (lacks_from 32 (drop j bs) (λ k. NoCharPasses-char 32 (drop j bs) k finds.0 (omega arith))) }
+    record {
+      parts = sym whole ∙ (λ k. sym front k ++ 32 ∷ sym back k);
+      last = subst (Lacks 32) (sym back) (lacks_from
+          32 (drop j bs) (λ k. NoCharPasses-char 32 (drop j bs) k finds.0 (omega arith)));
+    }
 
 -- No space stands in a number.
 number_lacks : (bs : List ℕ) → IsNumber bs → Lacks 32 bs
@@ -206,7 +220,10 @@ after_lacking c acc (b ∷ a) h = rw (ne_eqb b c h.0)
 
 -- The parts of a line that is cut at its last space.
 cut_at : {line a x : List ℕ} → IsCut line a x → (before_last 32 [] [] line ≡ a) × (after_last 32 [] line ≡ x)
-cut_at {a = a} {x = x} cut = (ap (before_last 32 [] []) cut.parts ∙ before_read 32 [] [] a x cut.last, ap (after_last 32 []) cut.parts ∙ after_skip 32 [] a x ∙ after_lacking 32 [] x cut.last)
+cut_at {a = a} {x = x} cut = (
+  ap (before_last 32 [] []) cut.parts ∙ before_read 32 [] [] a x cut.last,
+  ap (after_last 32 []) cut.parts ∙ after_skip 32 [] a x ∙ after_lacking 32 [] x cut.last,
+)
 
 -- A stack is cut at its last space.
 stack_cut : {line : List ℕ} {s : Stack} (is : IsStack line s) → IsCut line is.path is.number
@@ -408,7 +425,8 @@ entries_read (e ∷ es) good ss h =
 -- If the keys of a graph are plain and its total fits a word, its text has the lines of the entries shown.
 lines-text : (g : Graph) → HasPlainKeys g → HasWords g → lines (text g) ≡ map body (written_entries g)
 lines-text g plain fits = ap lines (shown_lines (entries g))
-    ∙ lines-full (written_entries g) (each-implies Good _ (λ e good. good.plain) (written_entries g) (good_entries (entries g) plain fits))
+    ∙ lines-full (written_entries g) (each-implies Good _ (λ e good. good.plain)
+    (written_entries g) (good_entries (entries g) plain fits))
 
 -- Graphs with plain keys, totals that fit a word and one text have equal sizes at each path but the root.
 pub text_tells : (g h : Graph) → HasPlainKeys g → HasPlainKeys h → HasWords g → HasWords h → text g ≡ text h →
@@ -429,7 +447,13 @@ stacks_of_text g plain fits ss h = entries_read (written_entries g) (good_entrie
 -- Stacks none of which begins with a path have no bytes there.
 bytes-absent : (ss : List Stack) (q : Path) → list_any (λ s. begins q s.path) ss ≡ false → bytes_at ss q ≡ 0
 bytes-absent [] q h = refl
-bytes-absent (s ∷ ss) q h = grind (arith, h, bytes-absent ss q, same_begins q s.path, sum_by-cons (λ (t : Stack). cond (is_same_path q t.path) t.size 0) s ss)
+bytes-absent (s ∷ ss) q h = grind (
+  arith,
+  h,
+  bytes-absent ss q,
+  same_begins q s.path,
+  sum_by-cons (λ (t : Stack). cond (is_same_path q t.path) t.size 0) s ss,
+)
 
 -- What is read of the text of a graph has its sizes, but for the root.
 pub reads_back : (g h : Graph) → HasPlainKeys g → HasWords g → IsRead (text g) h → (k : Key) (p : Path) →
@@ -471,7 +495,8 @@ pub never_refused : (g : Graph) → HasPlainKeys g → HasWords g → CanBeRead 
     IsFault (text g) n w → ⊥
 never_refused g plain fits can n w fault =
     no_fault fault.before fault.line fault.rest (map said (written_entries g))
-    (subst (λ (ls : List (List ℕ)). AreStacks ls (map said (written_entries g))) (sym (lines-text g plain fits) ∙ fault.parts)
+    (subst (λ (ls : List (List ℕ)). AreStacks ls (map said (written_entries g)))
+    (sym (lines-text g plain fits) ∙ fault.parts)
     (said_stacks (written_entries g) (good_entries (entries g) plain fits) can))
     fault.some fault.none
 
@@ -480,7 +505,14 @@ never_refused g plain fits can n w fault =
 pub never_exceeds : (g : Graph) → HasPlainKeys g → HasWords g → Exceeds (text g) → ⊥
 never_exceeds g plain fits e =
     let is = ap all_bytes (stacks_of_text g plain fits e.stacks e.means) in
-    omega (arith, is, fold-map (λ n (s : Stack). n + s.size) said 0 (written_entries g), sum_by-filter_both is_shown (λ x. not (is_shown x)) (λ x. refl) (λ x. x.1) (entries g), e.exceeds, fits)
+    omega (
+      arith,
+      is,
+      fold-map (λ n (s : Stack). n + s.size) said 0 (written_entries g),
+      sum_by-filter_both is_shown (λ x. not (is_shown x)) (λ x. refl) (λ x. x.1) (entries g),
+      e.exceeds,
+      fits,
+    )
 
 -- ---- lines dropped from a text are paths left out of it
 -- What was read and what comes before the next line feed is one line. The rest is read as further lines.

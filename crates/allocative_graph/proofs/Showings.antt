@@ -52,7 +52,10 @@ among-append i cs ds = ap (is_among i) (map-append (λ c. c.0) cs ds)
 pub shown_each : (P : Identity → Type 0) (cs : Contents) → ((i : Identity) → IsTrue (is_among i (ids cs)) → P i) →
     AllByRecursion (λ c. P c.0) cs
 shown_each P [] h = tt
-shown_each P (c ∷ cs) h = (h c.0 (or_left _ (is_among c.0 (ids cs)) (same_identity_itself c.0)), shown_each P cs (λ i w. h i (or_right (is_same_identity i c.0) _ w)))
+shown_each P (c ∷ cs) h = (
+  h c.0 (or_left _ (is_among c.0 (ids cs)) (same_identity_itself c.0)),
+  shown_each P cs (λ i w. h i (or_right (is_same_identity i c.0) _ w)),
+)
 
 abbrev marks : Identity → Entry → Bool
 marks i e = is_mark_of i e.mark
@@ -119,7 +122,19 @@ AllMet s b cs = Fresh s cs
 -- If this holds of two parts, of the second once the first was met, it holds of both in one.
 both_met : (s : Identities) (a b : Bag) (cs ds : Contents) → AllMet s a cs → AllMet (insert_all s (ids cs)) b ds →
     AllMet s (a ++ b) (cs ++ ds)
-both_met s a b cs ds x y = (fresh-append s cs ds x.0 y.0, λ i h. grind (arith, x.1 i, y.1 i, h, list_any-append (marks i) a b, list_any-append (λ c. has_mark i c.1) cs ds, among-append i cs ds, contains-insert_all s (ids cs) i))
+both_met s a b cs ds x y = (
+  fresh-append s cs ds x.0 y.0,
+  λ i h. grind (
+    arith,
+    x.1 i,
+    y.1 i,
+    h,
+    list_any-append (marks i) a b,
+    list_any-append (λ c. has_mark i c.1) cs ds,
+    among-append i cs ds,
+    contains-insert_all s (ids cs) i,
+  ),
+)
 
 -- It holds of a forest that fits the identities met.
 fits_met : (p : Path) (s : Identities) (f : Forest) → Fits s f → AllMet s (own_behind p f) (contents f)
@@ -130,8 +145,16 @@ fits_met p s (Unique k n f after) w = both_met s (own_behind (p ++ k ∷ []) f) 
     (contents after) (fits_met (p ++ k ∷ []) s f w.0) (fits_met p (met_after s f) after w.1)
 fits_met p s (First k n j f after) w =
     let rest = both_met (insert s j) (own f) (own_behind p after) (contents f) (contents after)
-    (fits_met [] (insert s j) f w.1) (fits_met p (met_after (insert s j) f) after w.2) in
-    ((w.0, rest.0), λ i h. grind (arith, rest.1 i, h, contains-insert identity_total s j i, list_any-append (marks i) (own f) (own_behind p after)))
+    (fits_met [] (insert s j) f w.1) (fits_met p (met_after (insert s j) f) after w.2) in (
+      (w.0, rest.0),
+      λ i h. grind (
+        arith,
+        rest.1 i,
+        h,
+        contains-insert identity_total s j i,
+        list_any-append (marks i) (own f) (own_behind p after),
+      ),
+    )
 fits_met p s (Again k n j after) w =
     let rest = fits_met p s after w.1 in
     let met = λ (i : Identity) (a : IsTrue (is_same_identity i j)). ap (contains s) (same_identity i j a) ∙ w.0 in
@@ -151,8 +174,10 @@ fresh_distinct s [] h = (tt, tt)
 fresh_distinct s (c ∷ cs) h =
     let rest = fresh_distinct (insert s c.0) cs h.1 in
     let apart = λ (j : Identity) (g : contains (insert s c.0) j ≡ false). or_parts (is_same_identity j c.0)
-    (contains s j) (sym (contains-insert identity_total s c.0 j) ∙ g) in
-    ((h.0, each-implies _ _ (λ j g. (apart j g).1) (ids cs) rest.0), (each-implies _ _ (λ j g. same_identity_turned c.0 j ∙ (apart j g).0) (ids cs) rest.0, rest.1))
+    (contains s j) (sym (contains-insert identity_total s c.0 j) ∙ g) in (
+      (h.0, each-implies _ _ (λ j g. (apart j g).1) (ids cs) rest.0),
+      (each-implies _ _ (λ j g. same_identity_turned c.0 j ∙ (apart j g).0) (ids cs) rest.0, rest.1),
+    )
 
 -- A whole showing shows the content of each identity at most once.
 pub shown_distinct : (f : Forest) → IsWhole f → IsDistinct is_same_identity (content_identities f)
@@ -202,7 +227,10 @@ same_reached f g v w a i (inside j r h) =
 
 -- If one showing agrees with another, the other agrees with it.
 pub agree_back : (f g : Forest) → Agree f g → Agree g f
-agree_back f g a = record { own_entries = IsPermutation-sym _ _ a.own_entries; same_content = λ i p q. IsPermutation-sym _ _ (a.same_content i q p) }
+agree_back f g a = record {
+  own_entries = IsPermutation-sym _ _ a.own_entries;
+  same_content = λ i p q. IsPermutation-sym _ _ (a.same_content i q p);
+}
 
 -- ---- two lists of the same identities, each with none twice
 module _ (v : Identity → ℕ) where
@@ -219,7 +247,12 @@ module _ (v : Identity → ℕ) where
   sum-listed (i ∷ is) d =
       let new : v i ≡ unwrap_or (option_map (λ n. n) (get (Listed is) i)) 0 + v i =
       rw (get-listed is i, list_any_none (is_same_identity i) is (All-from_recursion _ is d.0)) (omega arith) in
-      omega (arith, weights-insert identity_total identity_antisymmetric (λ i n. n) (Listed is) i (v i) (v i) new, sum-listed is d.1, sum_by-cons v i is)
+      omega (
+        arith,
+        weights-insert identity_total identity_antisymmetric (λ i n. n) (Listed is) i (v i) (v i) new,
+        sum-listed is d.1,
+        sum_by-cons v i is,
+      )
 
 -- The sum over the entries of several contents is what the sums over each content add up to.
 sum-flat : (w : Entry → ℕ) (T : Identity → Bag) (is : List Identity) →
@@ -250,7 +283,15 @@ meanings {b = b} {c = c} {m = m} {n = n} {S = S} {T = T} x y moved both each = a
     let flat = same_flat x.identities y.identities x.once y.once
     (λ k. both_ways _ _ (λ h. (y.reached k).1 ((both k).0 ((x.reached k).0 h)))
     (λ h. (x.reached k).1 ((both k).1 ((y.reached k).0 h)))) S T (λ k h. each k ((y.reached k).0 h)) w in
-    omega (arith, sum_by-IsPermutation w _ _ x.is, sum_by-IsPermutation w _ _ y.is, sum_by-IsPermutation w _ _ moved, sum_by-append w b (flat_map S x.identities), sum_by-append w c (flat_map T y.identities), flat))
+    omega (
+      arith,
+      sum_by-IsPermutation w _ _ x.is,
+      sum_by-IsPermutation w _ _ y.is,
+      sum_by-IsPermutation w _ _ moved,
+      sum_by-append w b (flat_map S x.identities),
+      sum_by-append w c (flat_map T y.identities),
+      flat,
+    ))
 
 -- The sums of all entries are equal in two whole showings that agree.
 pub same_sums_of : (f g : Forest) → IsWhole f → IsWhole g → Agree f g → sums_of (all f) ≡ sums_of (all g)
@@ -288,7 +329,11 @@ met-following s f g = rw (contents-following f g) (met-append s (contents f) (co
 pub entries_at-following : (s : Sums) (p : Path) (f g : Forest) →
     add_all s (entries_at p (followed_by f g)) ≡ add_all (add_all s (entries_at p f)) (entries_at p g)
 entries_at-following s p f g = add_all-same s (entries_at p (followed_by f g)) (entries_at p f ++ entries_at p g)
-    (λ w. rw (own-following p f g, contents-following f g, flat_map-append (λ (c : Identity × Bag). c.1) (contents f) (contents g)) (simp sum_by-append (omega arith)))
+    (λ w. rw (
+      own-following p f g,
+      contents-following f g,
+      flat_map-append (λ (c : Identity × Bag). c.1) (contents f) (contents g),
+    ) (simp sum_by-append (omega arith)))
     ∙ fold-append add s (entries_at p f) (entries_at p g)
 
 -- ---- fitting
@@ -326,11 +371,15 @@ module _ (more : Identity → Bool) where
       Fits s f → Fits t f
   fits_more s t Empty h a w = tt
   fits_more s t (Inline k n f after) h a w =
-      let xs = each-parts (λ c. more c.0 ≡ false) (contents f) (contents after) a in
-      (fits_more s t f h xs.0 w.0, fits_more (met_after s f) (met_after t f) after (more-insert_all s t (content_identities f) h) xs.1 w.1)
+      let xs = each-parts (λ c. more c.0 ≡ false) (contents f) (contents after) a in (
+        fits_more s t f h xs.0 w.0,
+        fits_more (met_after s f) (met_after t f) after (more-insert_all s t (content_identities f) h) xs.1 w.1,
+      )
   fits_more s t (Unique k n f after) h a w =
-      let xs = each-parts (λ c. more c.0 ≡ false) (contents f) (contents after) a in
-      (fits_more s t f h xs.0 w.0, fits_more (met_after s f) (met_after t f) after (more-insert_all s t (content_identities f) h) xs.1 w.1)
+      let xs = each-parts (λ c. more c.0 ≡ false) (contents f) (contents after) a in (
+        fits_more s t f h xs.0 w.0,
+        fits_more (met_after s f) (met_after t f) after (more-insert_all s t (content_identities f) h) xs.1 w.1,
+      )
   fits_more s t (First k n j f after) h a w =
       let xs = each-parts (λ c. more c.0 ≡ false) (contents f) (contents after) a.1 in
       let up = more-insert_all s t (j ∷ []) h in
@@ -373,14 +422,25 @@ graphs_add f g can = same_map path_total path_antisymmetric _ _ each
   where
     each : (q : Path) → get (sum_of (graph (sums_of (all f))) (graph (sums_of (all g)))) q
         ≡ get (graph (sums_of (all (followed_by f g)))) q
-    each [] = rw (get-sum_of (graph (sums_of (all f))) (graph (sums_of (all g))) [], get-graph-root (sums_of (all f)), get-graph-root (sums_of (all g)), get-graph-root (sums_of (all (followed_by f g))))
+    each [] = rw (
+      get-sum_of (graph (sums_of (all f))) (graph (sums_of (all g))) [],
+      get-graph-root (sums_of (all f)),
+      get-graph-root (sums_of (all g)),
+      get-graph-root (sums_of (all (followed_by f g))),
+    )
     each (k ∷ p) =
         let s = sums_of (all f) in
         let t = sums_of (all g) in
         let q = k ∷ p in
         let below_both : below s q + below t q ≡ below (add_all s (all g)) q =
         omega (arith, below-sums_of (all g) q, below-add_all s (all g) q) in
-        rw (get-sum_of (graph s) (graph t) q, get-graph s k p, get-graph t k p, ap (λ x. get (graph x) q) (entries_at-following empty [] f g), get-graph (add_all s (all g)) k p)
+        rw (
+          get-sum_of (graph s) (graph t) q,
+          get-graph s k p,
+          get-graph t k p,
+          ap (λ x. get (graph x) q) (entries_at-following empty [] f g),
+          get-graph (add_all s (all g)) k p,
+        )
         (rw (get-add_all s (all g) q, ← get-sums_of (all g) q)
         (grind (arith, below_both, absent_below f k p, absent_below g k p, can q)))
 
@@ -390,4 +450,8 @@ whole_following f g v w apart =
     let away = shown_each (λ i. is_among i (content_identities f) ≡ false) (contents g)
     (λ i h. false_from_ne_true _ (λ there. apart i ((reaches_exactly f v i).0 there)
     ((reaches_exactly g w i).0 h))) in
-    (fits-following set.empty f g).1 (v, fits_more (λ i. is_among i (content_identities f)) set.empty (met_after set.empty f) g (contains-insert_all set.empty (content_identities f)) away w)
+    (fits-following set.empty f g).1 (
+      v,
+      fits_more (λ i. is_among i (content_identities f)) set.empty (met_after
+          set.empty f) g (contains-insert_all set.empty (content_identities f)) away w,
+    )

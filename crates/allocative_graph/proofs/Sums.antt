@@ -123,7 +123,15 @@ get-add s e q = get-insert path_total s e.path _ q
 -- Sums with a bag added have at each path what they had there, together with what the bag has there.
 pub get-add_all : (s : Sums) (b : Bag) (q : Path) → get (add_all s b) q ≡ merge (get s q) (node_in b q)
 get-add_all s [] q = refl
-get-add_all s (e ∷ b) q = grind (arith, get-add_all (add s e) b q, get-add s e q, bytes-cons e b q, same_path q e.path, bytes_none b q, unique_none b q)
+get-add_all s (e ∷ b) q = grind (
+  arith,
+  get-add_all (add s e) b q,
+  get-add s e q,
+  bytes-cons e b q,
+  same_path q e.path,
+  bytes_none b q,
+  unique_none b q,
+)
 
 -- The sums of a bag have at each path what the bag has there.
 pub get-sums_of : (b : Bag) (q : Path) → get (sums_of b) q ≡ node_in b q
@@ -203,7 +211,17 @@ module _ {K X : Type 0} {R : K → K → Ordering} (total : IsTotalOrder R) (sam
         let none = λ (q : R k x.0 ≡ Less). find-below_all R k es
         (below_all-less k x.0 es q (first (below_all R x.0 es) (is_sorted R es) h)) in
         let rest = weights-put k v d es (second (below_all R x.0 es) _ h) in
-        grind (arith, none, rest, same k x.0, e, sum_by-cons weigh (k, v) (x ∷ es), sum_by-cons weigh (x.0, v) es, sum_by-cons weigh x es, sum_by-cons weigh x (put R k v es))
+        grind (
+          arith,
+          none,
+          rest,
+          same k x.0,
+          e,
+          sum_by-cons weigh (k, v) (x ∷ es),
+          sum_by-cons weigh (x.0, v) es,
+          sum_by-cons weigh x es,
+          sum_by-cons weigh x (put R k v es),
+        )
 
     pub weights-insert : (m : FinMap R X) (k : K) (v : X) (d : ℕ) → Changes k v d (get m k) →
         sum_by weigh (entries (insert m k v)) ≡ sum_by weigh (entries m) + d
@@ -294,7 +312,10 @@ closed_each (Inline k n f after) = each-append (λ c. Closed [] c.1) (contents f
     (closed_each after)
 closed_each (Unique k n f after) = each-append (λ c. Closed [] c.1) (contents f) (contents after) (closed_each f)
     (closed_each after)
-closed_each (First k n j f after) = (closed_behind [] f, each-append (λ c. Closed [] c.1) (contents f) (contents after) (closed_each f) (closed_each after))
+closed_each (First k n j f after) = (
+  closed_behind [] f,
+  each-append (λ c. Closed [] c.1) (contents f) (contents after) (closed_each f) (closed_each after),
+)
 closed_each (Again k n j after) = closed_each after
 
 -- If each of some contents is closed at the root, so are all of them one after another.
@@ -322,4 +343,11 @@ below_none (e ∷ b) p h =
 -- If a path other than the root was not entered, it has no bytes below it.
 pub absent_below : (f : Forest) (k : Key) (p : Path) → get (sums_of (all f)) (k ∷ p) ≡ None →
     below (sums_of (all f)) (k ∷ p) ≡ 0
-absent_below f k p h = grind (arith, h, get-sums_of (all f) (k ∷ p), below-sums_of (all f) (k ∷ p), below_none (all f) (k ∷ p), closed_all f (k ∷ p))
+absent_below f k p h = grind (
+  arith,
+  h,
+  get-sums_of (all f) (k ∷ p),
+  below-sums_of (all f) (k ∷ p),
+  below_none (all f) (k ∷ p),
+  closed_all f (k ∷ p),
+)

@@ -44,7 +44,8 @@ IsWhole f = Fits set.empty f
 -- Two showings agree: they have one bag of own entries, and one content for each identity that both show.
 pub record Agree (f g : Forest) : Type 0 where
   pub own_entries : IsPermutation (own f) (own g)
-  pub same_content : (i : Identity) → IsTrue (is_among i (content_identities f)) → IsTrue (is_among i (content_identities g))
+  pub same_content : (i : Identity) → IsTrue (is_among i (content_identities f)) →
+      IsTrue (is_among i (content_identities g))
       → IsPermutation (content_of f i) (content_of g i)
 
 -- The identities whose content f shows are exactly those that f reaches.

@@ -532,8 +532,8 @@ fn put_child(children: &mut Vec<Child>, size: &mut usize, child: Child) -> Resul
     }
 }
 
-// Merges other children into `children`, each by a search. A new child moves those after it, so that after three new ones
-// the others are merged by a walk over all. After a refusal on the way it continues, so that no child is lost.
+// Merges other children into `children`, each by a search. A new child moves those after it, so that after three new
+// ones the others are merged by a walk over all. After a refusal on the way it continues, so that no child is lost.
 #[inline(never)]
 #[cycle(merge)]
 fn put_each(
@@ -619,7 +619,8 @@ fn take_next(
     requires theirs { AreChildren theirs.old.items }
     requires fits { total_of mine.old.items + total_of theirs.old.items < 2 ^ 64 }
     ensures next { IfSome result
-        (λ next. MergesFirst (is_ok next.1) mine.old.items theirs.old.items (next.0 ∷ []) mine.new.items theirs.new.items) }
+        (λ next. MergesFirst (is_ok next.1) mine.old.items theirs.old.items
+        (next.0 ∷ []) mine.new.items theirs.new.items) }
     ensures end { IfNone result ((mine.old.items ≡ []) × (theirs.old.items ≡ [])) }
 {
     match fronts(mine, theirs)? {

@@ -178,8 +178,8 @@ impl fmt::Debug for Key {
     }
 }
 
-/// The first eight bytes of a key as a number, with zeros after a shorter key. Keys whose numbers differ have the order of
-/// their numbers, which no contract says: what is found by them is compared by the keys.
+/// The first eight bytes of a key as a number, with zeros after a shorter key. Keys whose numbers differ have the order
+/// of their numbers, which no contract says: what is found by them is compared by the keys.
 pub fn start_of(key: &str) -> u64 {
     let bytes = key.as_bytes();
     if let Some(first) = bytes.first_chunk() {

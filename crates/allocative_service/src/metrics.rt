@@ -58,11 +58,11 @@ impl<K: Ord + Drop, E: Billed<K>> Book<K, E> {
     /// `# TYPE`:
     /// - `PREFIX_bytes` and `PREFIX_limit_bytes`, the bytes of all accounts together and their limit,
     /// - `PREFIX_tenant_bytes`, `PREFIX_tenant_limit_bytes`, `PREFIX_tenant_excess_bytes` and
-    ///   `PREFIX_tenant_peak_bytes`, each with a line for each tenant, as `PREFIX_tenant_bytes{tenant="acme"} 40`, in the
-    ///   order of their names.
+    ///   `PREFIX_tenant_peak_bytes`, each with a line for each tenant, as `PREFIX_tenant_bytes{tenant="acme"} 40`, in
+    ///   the order of their names.
     ///
-    /// A limit of `usize::MAX`, which is none, is `+Inf`. The prefix must be a name by `is_metric_name`, and of two books
-    /// in one text each needs its own. The only error is that memory runs out.
+    /// A limit of `usize::MAX`, which is none, is `+Inf`. The prefix must be a name by `is_metric_name`, and of two
+    /// books in one text each needs its own. The only error is that memory runs out.
     pub fn metrics(&self, prefix: &str) -> Result<String, AllocError>
         requires { is_metric_name prefix.now ≡ true }
         ensures { ReturnsText result (metrics_text E.billed prefix.now self.now) }

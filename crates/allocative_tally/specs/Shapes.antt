@@ -16,8 +16,8 @@ IsPlain (unique_entry k n inside after) = IsPlain inside × IsPlain after
 IsPlain (First k n i inside after) = ⊥
 IsPlain (Again k n i after) = ⊥
 
--- Neither forest has a shared entry, and no collector tells them apart: each is the same after either, they have as many
--- bytes at the top, and if f exceeds no word, g exceeds none.
+-- Neither forest has a shared entry, and no collector tells them apart: each is the same after either, they have as
+-- many bytes at the top, and if f exceeds no word, g exceeds none.
 pub record Merged (f g : Forest) : Type 0 where
   pub plain : IsPlain f
   pub plain_merged : IsPlain g

@@ -1,4 +1,5 @@
--- What a tally's type has to show of itself: that its values are entries of their declared size, and none shows nothing.
+-- What a tally's type has to show of itself: that its values are entries of their declared size, and none shows
+-- nothing.
 use Rattle.std.proofs.Common.{◌≡◌, ℕ, Bool, true, false, Option, None, Some, refl, rules, arith}
 use Rattle.allocative_graph.specs.{Path.Key, Forest.Empty, Shows.Showing}
 use Rattle.allocative_tally.specs.Shapes.{ShownAs, Shape, NoEntry, Beside, EntryAt, entries}

@@ -1,5 +1,5 @@
-//! Maps and sets. They show a field `key` for each key, and maps a field `value` beside it, inside an inline entry `data`
-//! of 8 bytes.
+//! Maps and sets. They show a field `key` for each key, and maps a field `value` beside it, inside an inline entry
+//! `data` of 8 bytes.
 
 ghost use Rattle.std.specs.Prelude.{◌≡◌, ◌&&◌, codes, Some, length};
 ghost use Rattle.std.specs.Iterator.{IsFinite};

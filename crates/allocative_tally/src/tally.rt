@@ -26,8 +26,8 @@ pub trait Tallied: Allocative + Described {
     fn show(tally: &Self::Tally, count: usize, visitor: &mut Visitor<'_>) -> Result<(), Refusal>
         ensures { EntersShape (Self.shape tally.now count) visitor.old visitor.new result };
 
-    /// Counts what the value shows beyond its number. It returns `Err` if a declared size is missing, or a number exceeds
-    /// a word. Discard the tally then, and enter the values one by one.
+    /// Counts what the value shows beyond its number. It returns `Err` if a declared size is missing, or a number
+    /// exceeds a word. Discard the tally then, and enter the values one by one.
     fn tally(&self, tally: &mut Self::Tally) -> Result<(), CountError>
         ensures { OnOk result
             (TalliesNext Self.layout.size (Self.may_show self.now) (Self.shape tally.old) (Self.shape tally.new)) };

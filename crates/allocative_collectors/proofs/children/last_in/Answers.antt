@@ -8,7 +8,8 @@ use Rattle.allocative_collectors.proofs.children.last_in.Goals.{In_ok-number}
 -- the last number of the chunk is the last one of all
 last : (c : In_ok-number) → let xs = flat c.args.chunks.now in
     slice_get xs (length xs - 1) ≡ Some c.in_ok-number.field-0.now
-last c = last_read c.args.chunks.now c.in_ok-chunk.chunk c.index-chunks-chunk.result (omega (arith, c.in_ok-chunk.ensures))
+last c =
+    last_read c.args.chunks.now c.in_ok-chunk.chunk c.index-chunks-chunk.result (omega (arith, c.in_ok-chunk.ensures))
     c.as_slice-numbers.ensures.value (omega (arith, c.in_ok-chunk.ensures)) c.in_ok-number.field-0.now
     (sym c.in_ok-number.ensures.value)
 

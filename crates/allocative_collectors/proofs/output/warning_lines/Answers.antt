@@ -12,5 +12,15 @@ loop-one-preserved c =
     let is : string_bytes c.push_str.new.self ≡ (before ++ text) ++ newline ∷ [] =
     c.in_ok-push_str.ensures.bytes ∙ ap (λ t. t ++ newline ∷ []) c.in_ok-push_warning.ensures in
     let all = map_more warning_of ws i c.one-item.result (omega arith) in
-    let lines = flat_map-append (λ v. warning_text v ++ newline ∷ []) (map warning_of (take i ws)) (warning_of c.one-item.result ∷ []) in
-    grind (arith, is, all, lines, c.one-item.is, c.loop-one.invariant, append_assoc before text (newline ∷ []), append-nil (text ++ newline ∷ []))
+    let lines = flat_map-append (λ v. warning_text v ++ newline ∷ [])
+    (map warning_of (take i ws)) (warning_of c.one-item.result ∷ []) in
+    grind (
+      arith,
+      is,
+      all,
+      lines,
+      c.one-item.is,
+      c.loop-one.invariant,
+      append_assoc before text (newline ∷ []),
+      append-nil (text ++ newline ∷ []),
+    )

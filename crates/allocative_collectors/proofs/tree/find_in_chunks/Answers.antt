@@ -12,5 +12,6 @@ returns-clause-absent c = behind_last (key_at c.args.nodes.now) (flat c.args.chu
 pub returns-in-Greater-clause-absent : goal.returns-in-Greater-clause-absent
 returns-in-Greater-clause-absent c =
     gap_at (key_at c.args.nodes.now) (flat c.args.chunks.now) c.requires.rise c.args.key.now
-    (place_in c.args.chunks.now c.guess_place-place.result) c.in-Some-number_at.number c.in-Some-number_at.ensures.number
+    (place_in c.args.chunks.now c.guess_place-place.result)
+    c.in-Some-number_at.number c.in-Some-number_at.ensures.number
     (sym c.in-Greater.ensures) (c.if-is_behind.ensures refl)

@@ -37,8 +37,15 @@ pub interleave-loop-child-preserved : goal.interleave-loop-child-preserved
 interleave-loop-child-preserved t c =
     record {
       merged = merges_then c.loop-child.invariant.merged c.in-Some.ensures.next
-          (ap (λ r. is_ok r) c.and-result.ensures ∙ is_ok-and c.loop-child.result c.in-Some.added) c.in-Ok.ensures.items;
-      size = omega (arith, c.loop-child.invariant.size, c.total_size.ensures.total, ap total_of c.in-Ok.ensures.items, sum_by_push (λ (d : Child). total d.graph) c.loop-child.children.items c.in-Some.child);
+          (ap (λ r. is_ok r) c.and-result.ensures
+          ∙ is_ok-and c.loop-child.result c.in-Some.added) c.in-Ok.ensures.items;
+      size = omega (
+        arith,
+        c.loop-child.invariant.size,
+        c.total_size.ensures.total,
+        ap total_of c.in-Ok.ensures.items,
+        sum_by_push (λ (d : Child). total d.graph) c.loop-child.children.items c.in-Some.child,
+      );
       capacity = omega (arith, c.loop-child.invariant.capacity, c.in-Ok.ensures.capacity);
     }
 
@@ -50,8 +57,10 @@ pub take_next-merge-added-requires : goal.take_next-merge-added-requires
 take_next-merge-added-requires t c =
     let items = c.pop_front-in-Equal-2.ensures.items in
     let mine = front_total _ c.pop_front-in-Equal.ensures.items c.unwrap-child.ensures in
-    let theirs = front_total _ items c.unwrap-in-Equal.ensures in
-    (omega (arith, c.decreases, front_rows _ items c.unwrap-in-Equal.ensures), omega (arith, mine, theirs, c.requires.fits))
+    let theirs = front_total _ items c.unwrap-in-Equal.ensures in (
+      omega (arith, c.decreases, front_rows _ items c.unwrap-in-Equal.ensures),
+      omega (arith, mine, theirs, c.requires.fits),
+    )
 
 pub take_next-returns-in-Less-clause-next : goal.take_next-returns-in-Less-clause-next
 take_next-returns-in-Less-clause-next t c =
@@ -89,8 +98,16 @@ put_each-put_child-requires t c =
     let before = c.loop-theirs.invariant in
     let items = c.pop_front.ensures.items in
     let rows = front_rows _ items c.in-Some.is in
-    let fits = front_total _ items c.in-Some.is in
-    (omega (arith, c.decreases, rows, before.rows), (before.mine, (before.size, ((subst AreChildren (front_is items c.in-Some.is) before.theirs).trees.0, omega (arith, before.fits, fits)))))
+    let fits = front_total _ items c.in-Some.is in (
+      omega (arith, c.decreases, rows, before.rows),
+      (
+        before.mine,
+        (
+          before.size,
+          ((subst AreChildren (front_is items c.in-Some.is) before.theirs).trees.0, omega (arith, before.fits, fits)),
+        ),
+      ),
+    )
 
 pub put_each-loop-theirs-preserved : goal.put_each-loop-theirs-preserved
 put_each-loop-theirs-preserved t c =
@@ -102,13 +119,27 @@ put_each-loop-theirs-preserved t c =
       goes_on = λ b es m. subst (λ v. Merged v c.args.children.now.items c.args.theirs.items es)
           (sym (ap (λ v. v && b) (ap (λ r. is_ok r) c.and-result.ensures ∙ is_ok-and _ _) ∙ and_assoc _ _ b))
           (before.goes_on (is_ok c.put_child.result && b) es
-          (subst (λ (l : List Child). Merged (is_ok c.put_child.result && b) c.loop-theirs.children.items l es) (sym items)
+          (subst (λ (l : List Child). Merged (is_ok c.put_child.result && b) c.loop-theirs.children.items l es)
+          (sym items)
           (merged_more all merged m)));
       mine = merged.children;
       theirs = others _ _ all;
-      rows = omega (arith, before.rows, ap (λ (l : List Child). length (rows_of l)) items ∙ length-append (rows_of_child c.in-Some.child) (rows_of c.pop_front.new.self.items));
+      rows = omega (
+        arith,
+        before.rows,
+        ap (λ (l : List Child). length
+            (rows_of l)) items ∙ length-append (rows_of_child c.in-Some.child) (rows_of c.pop_front.new.self.items),
+      );
       size = c.put_child.ensures.size;
-      fits = omega (arith, before.fits, before.size, c.put_child.ensures.size, merged.at_most, total_of-cons c.in-Some.child [], ap total_of items ∙ total_of-cons c.in-Some.child c.pop_front.new.self.items);
+      fits = omega (
+        arith,
+        before.fits,
+        before.size,
+        c.put_child.ensures.size,
+        merged.at_most,
+        total_of-cons c.in-Some.child [],
+        ap total_of items ∙ total_of-cons c.in-Some.child c.pop_front.new.self.items,
+      );
     }
 
 pub put_each-returns-in_default-clause-merged : goal.put_each-returns-in_default-clause-merged

@@ -35,8 +35,14 @@ returns-then-count-gt-LEVELS-clause-wrong c =
     let keys : c.count.result ≡ length (keys_of c.in-Some.path.now) =
     count_from_yields_List c.split.result _ c.count.ensures.ran
     (YieldsList-from_str_split 59 c.in-Some.path.now (lit< tt) c.split.ensures.text c.split.ensures.has_more
-    c.split.ensures.pattern) in
-    (c.in-Some.path.now, c.in-Some.size.now, cut_of (c.in-Some.path, c.in-Some.size) c.in-Some.ensures.cases, (rw (unsigned c.in-Some.size.now (c.is_numeral.ensures.0 c.if-not-is_numeral.false)) at c.in-Ok.ensures.value.0).0, omega (arith, keys))
+    c.split.ensures.pattern) in (
+      c.in-Some.path.now,
+      c.in-Some.size.now,
+      cut_of (c.in-Some.path, c.in-Some.size) c.in-Some.ensures.cases,
+      (rw (unsigned c.in-Some.size.now (c.is_numeral.ensures.0 c.if-not-is_numeral.false)) at
+          c.in-Ok.ensures.value.0).0,
+      omega (arith, keys),
+    )
 
 pub returns-clause-ok : goal.returns-clause-ok
 returns-clause-ok c =

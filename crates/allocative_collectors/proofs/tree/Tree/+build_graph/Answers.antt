@@ -60,7 +60,12 @@ pub index-requires-in-loop-child : goal.index-requires-in-loop-child
 index-requires-in-loop-child t c =
     let there = child t (goal.at.index-requires-in-loop-child t c).In_ok-children c.loop-child.child-index
     c.loop-child-test.true in
-    omega (arith, c.self.inside.nodes.ok.0, in_nodes c.self.inside.nodes.items (get_or c.in_ok-children.children.now c.loop-child.child-index 0) c.self.view_is there.1)
+    omega (
+      arith,
+      c.self.inside.nodes.ok.0,
+      in_nodes c.self.inside.nodes.items (get_or
+          c.in_ok-children.children.now c.loop-child.child-index 0) c.self.view_is there.1,
+    )
 
 pub returns-in_err-add_self-clause-err : goal.returns-in_err-add_self-clause-err
 returns-in_err-add_self-clause-err t c =
@@ -85,16 +90,22 @@ loop-child-init t c =
     c.in_ok-add_self.ensures.sum ∙ (λ j. add_self (c.figures-size.ensures.size j) (c.in_ok-graph.ensures j)) in
     let found : map warning_of c.if-is_short.warned.items ≡ start ++ warned_at v i = elim c.if-is_short.branch [
       | then-is_short+in_ok-push_warned w ↦
-          (let figures = figures_read c.self.invariant c.self.view_is i c.requires.within w.index-then-is_short.ensures in
+          (let figures =
+          figures_read c.self.invariant c.self.view_is i c.requires.within w.index-then-is_short.ensures in
           let keys : texts w.as_slice.result.now ≡ path_at v i = ap texts w.as_slice.ensures.value ∙ c.requires.keys in
           ap (λ (x : Vec WarnedPath Global). map warning_of x.items) w.warned-is
           ∙ (w.in_ok-push_warned.ensures
           ∙ ((λ j. start ++ record { path = keys j; self_size = sym figures.0 j; children_size = size_below j } ∷ [])
-          ∙ ap (λ (b : Bool). start ++ cond b (own_warning v i) []) (sym w.if-is_short.true ∙ c.figures-size.ensures.short))))
+          ∙ ap (λ (b : Bool). start ++ cond b (own_warning v i) [])
+          (sym w.if-is_short.true ∙ c.figures-size.ensures.short))))
       | else-is_short w ↦ ap (λ (x : Vec WarnedPath Global). map warning_of x.items) w.warned-is
           ∙ none_warned v i start (sym w.if-is_short.false ∙ c.figures-size.ensures.short)
     ] in
-    record { keys = refl; made = part_start v (listing_of c.self.invariant c.self.view_is) i c.requires.within (keys t here.In_ok-children) _ _ _ is found }
+    record {
+      keys = refl;
+      made = part_start v (listing_of
+          c.self.invariant c.self.view_is) i c.requires.within (keys t here.In_ok-children) _ _ _ is found;
+    }
 
 pub leaf-requires : goal.leaf-requires
 leaf-requires t c =
@@ -102,7 +113,8 @@ leaf-requires t c =
 
 pub build_graph-requires : goal.build_graph-requires
 build_graph-requires t c =
-    let there = child t (goal.at.build_graph-requires t c).In_ok-children c.loop-child.child-index c.loop-child-test.true in
+    let there =
+    child t (goal.at.build_graph-requires t c).In_ok-children c.loop-child.child-index c.loop-child-test.true in
     let d : length c.args.self.now - c.args.at ≡ t = c.decreases in
     let lt : length c.args.self.now - get_or c.in_ok-children.children.now c.loop-child.child-index 0 < t =
     omega (arith, there.0, there.1) in
@@ -112,7 +124,8 @@ build_graph-requires t c =
     ap (map text) c.in_ok-push.ensures.items
     ∙ (map-append text c.loop-child.keys.items (c.as_str.result ∷ [])
     ∙ ((λ j. (ap (map text) c.loop-child.invariant.keys ∙ c.requires.keys) j
-    ++ (c.as_str.ensures ∙ ap (λ (n : Node). n.key) c.index-in-loop-child.ensures ∙ there.3 c.index-in-loop-child.result.now) j ∷ [])
+    ++ (c.as_str.ensures ∙ ap (λ (n : Node). n.key) c.index-in-loop-child.ensures
+    ∙ there.3 c.index-in-loop-child.result.now) j ∷ [])
     ∙ sym there.2)) in
     (lt, (there.1, (c.requires.fits, keys)))
 
@@ -121,7 +134,8 @@ abbrev Part : (t : ℕ) → In_ok-children t → ℕ → List Warned → List Wa
 Part t c j = MakesPart c.args.self.now (path_at c.args.self.now c.args.at) (begun (keys t c) j)
 
 module _ (t : ℕ) (c : In_ok-children t) (j : ℕ) (h : j < length c.in_ok-children.children.now) {w w' : List Warned}
-    {g : Graph} (part : Part t c j w w' g) {n : Node} (read : n ≡ get_or c.self.inside.nodes.items (get_or c.in_ok-children.children.now j 0) n)
+    {g : Graph} (part : Part t c j w w' g) {n : Node}
+    (read : n ≡ get_or c.self.inside.nodes.items (get_or c.in_ok-children.children.now j 0) n)
     {k : Key} (copied : k ≡ n.key) where
   key : k ≡ key_in (keys t c) j
   key = copied ∙ (ap (λ (m : Node). m.key) read ∙ (child t c j h).3 n)
@@ -138,7 +152,8 @@ module _ (t : ℕ) (c : In_ok-children t) (j : ℕ) (h : j < length c.in_ok-chil
   more : {w'' : List Warned} {d g' : Graph} →
       MakesGraph c.args.self.now (get_or c.in_ok-children.children.now j 0) w' w'' d → g' ≡ sum_of g (under k d) →
       Part t c (j + 1) w w'' g'
-  more {w''} {d} {g'} made is = rw (add-one j) (part_more c.args.self.now (listing_of c.self.invariant c.self.view_is) c.args.at c.requires.within (keys t c) (c.self.invariant.arena.rise c.args.at) j within _ (child t c j h).2
+  more {w''} {d} {g'} made is = rw (add-one j) (part_more c.args.self.now (listing_of c.self.invariant c.self.view_is)
+      c.args.at c.requires.within (keys t c) (c.self.invariant.arena.rise c.args.at) j within _ (child t c j h).2
       w w' w'' g g' d part made (is ∙ ap (λ (l : Key). sum_of g (under l d)) key))
 
 pub push_child-requires : goal.push_child-requires
@@ -146,7 +161,8 @@ push_child-requires t c =
     let here = (goal.at.push_child-requires t c).In_ok-children in
     let j = c.loop-child.child-index in
     record {
-      last = next t here j c.loop-child-test.true c.loop-child.invariant.made c.index-in-loop-child.ensures c.copy.ensures;
+      last =
+          next t here j c.loop-child-test.true c.loop-child.invariant.made c.index-in-loop-child.ensures c.copy.ensures;
       fits = omega (arith, part_fits c.loop-child.invariant.made, part_fits (c.in-Some.ensures []), c.requires.fits);
     }
 
@@ -156,7 +172,8 @@ loop-child-preserved-in-Some t c =
     let j = c.loop-child.child-index in
     record {
       keys = c.loop-child.invariant.keys;
-      made = more t here j c.loop-child-test.true c.loop-child.invariant.made c.index-in-loop-child.ensures c.copy.ensures (c.in-Some.ensures _) c.in_ok-push_child.ensures.sum;
+      made = more t here j c.loop-child-test.true c.loop-child.invariant.made
+          c.index-in-loop-child.ensures c.copy.ensures (c.in-Some.ensures _) c.in_ok-push_child.ensures.sum;
     }
 
 pub push_child-requires-in-loop-child : goal.push_child-requires-in-loop-child
@@ -164,8 +181,14 @@ push_child-requires-in-loop-child t c =
     let here = (goal.at.push_child-requires-in-loop-child t c).In_ok-children in
     let j = c.loop-child.child-index in
     record {
-      last = next t here j c.loop-child-test.true c.loop-child.invariant.made c.index-in-loop-child.ensures c.copy-in-loop-child.ensures;
-      fits = omega (arith, part_fits c.loop-child.invariant.made, part_fits c.in_ok-build_graph.ensures.made, c.requires.fits);
+      last = next t here j c.loop-child-test.true c.loop-child.invariant.made
+          c.index-in-loop-child.ensures c.copy-in-loop-child.ensures;
+      fits = omega (
+        arith,
+        part_fits c.loop-child.invariant.made,
+        part_fits c.in_ok-build_graph.ensures.made,
+        c.requires.fits,
+      );
     }
 
 pub loop-child-preserved : goal.loop-child-preserved
@@ -173,9 +196,12 @@ loop-child-preserved t c =
     let here = (goal.at.loop-child-preserved t c).In_ok-children in
     let j = c.loop-child.child-index in
     record {
-      keys = popped c.loop-child.keys.items c.build_graph.new.keys.items c.pop.new.self.items c.as_str.result _ c.pop.ensures.rest
-          c.build_graph.new.keys.ok.0 (c.in_ok-build_graph.ensures.keys ∙ c.in_ok-push.ensures.items) ∙ c.loop-child.invariant.keys;
-      made = more t here j c.loop-child-test.true c.loop-child.invariant.made c.index-in-loop-child.ensures c.copy-in-loop-child.ensures c.in_ok-build_graph.ensures.made c.in_ok-push_child-2.ensures.sum;
+      keys = popped c.loop-child.keys.items c.build_graph.new.keys.items
+          c.pop.new.self.items c.as_str.result _ c.pop.ensures.rest
+          c.build_graph.new.keys.ok.0 (c.in_ok-build_graph.ensures.keys ∙ c.in_ok-push.ensures.items)
+          ∙ c.loop-child.invariant.keys;
+      made = more t here j c.loop-child-test.true c.loop-child.invariant.made c.index-in-loop-child.ensures
+          c.copy-in-loop-child.ensures c.in_ok-build_graph.ensures.made c.in_ok-push_child-2.ensures.sum;
     }
 
 pub returns-clause-made : goal.returns-clause-made

@@ -12,4 +12,5 @@ invariant_of-self c =
     let read : c.index.result.now ≡ old =
     c.index.ensures ∙ (get_or_default lists c.args.at c.index.result.now old within ∙ sym c.index_mut.ensures.value) in
     same_lists c.self.invariant c.args.at old _ c.index_mut.ensures.value
-    (c.in-Ok.ensures ∙ (c.as_slice.ensures.value ∙ (ap (λ (v : Vec ℕ Global). v.items) c.deref-3.ensures ∙ (ap numbers (sym c.in-Few.is) ∙ ap numbers read))))
+    (c.in-Ok.ensures ∙ (c.as_slice.ensures.value
+    ∙ (ap (λ (v : Vec ℕ Global). v.items) c.deref-3.ensures ∙ (ap numbers (sym c.in-Few.is) ∙ ap numbers read))))

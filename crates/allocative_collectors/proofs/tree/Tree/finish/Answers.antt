@@ -36,7 +36,8 @@ returns-clause-made c =
     let made = c.in_ok-build_graph.ensures.made in
     let found : map warning_of c.build_graph.new.warned.items ≡ warned_paths (map_of v) =
     made.warned_are ∙ ((λ j. map warning_of (c.new-warned.ensures.items j)
-    ++ flat_map (warned (map_of v)) (rows_behind v (root j) (λ q. true))) ∙ ap (flat_map (warned (map_of v))) (all_kept (entries (map_of v)))) in (
+    ++ flat_map (warned (map_of v)) (rows_behind v (root j) (λ q. true)))
+    ∙ ap (flat_map (warned (map_of v))) (all_kept (entries (map_of v)))) in (
       c.in_ok-new.ensures.graph ∙ same_map path_total path_antisymmetric c.build_graph.new.graph (graph (map_of v))
           (λ q. made.graph_is q ∙ ap (λ (p : Path). get (graph (map_of v)) (p ++ q)) root),
       c.in_ok-new.ensures.warnings ∙ (ap warning_lines found ∙ lines_of (map_of v) (entries (map_of v))),
@@ -45,5 +46,6 @@ returns-clause-made c =
 
 pub returns-clause-total : goal.returns-clause-total
 returns-clause-total c =
-    let small : total c.build_graph.new.graph < 2 ^ 63 = omega (arith, part_fits c.in_ok-build_graph.ensures.made, c.requires) in
+    let small : total c.build_graph.new.graph < 2 ^ 63 =
+    omega (arith, part_fits c.in_ok-build_graph.ensures.made, c.requires) in
     subst (λ (g : Graph). total g < 2 ^ 63) (sym c.in_ok-new.ensures.graph) small

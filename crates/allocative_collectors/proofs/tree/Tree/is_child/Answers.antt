@@ -13,8 +13,10 @@ read : (c : In-Some) → let items = c.self.inside.nodes.items in
     (c.args.number < length items) × (at items c.args.number ≡ c.in-Some.node.now)
 read c =
     let node = c.in-Some.ensures.lookup.3 in
-    let is = c.deref.ensures.value in
-    (subst (λ (l : List Node). c.args.number < length l) is node.0, sym (node.1 no_node ∙ ap (λ (l : List Node). at l c.args.number) is))
+    let is = c.deref.ensures.value in (
+      subst (λ (l : List Node). c.args.number < length l) is node.0,
+      sym (node.1 no_node ∙ ap (λ (l : List Node). at l c.args.number) is),
+    )
 
 -- It is the child exactly if its parent and its key are right. The root's parent is no node.
 guess : (c : In-Some) → let n = c.in-Some.node.now in
@@ -32,7 +34,8 @@ guess c =
       (λ entered. let child = child_of items c.self.invariant.arena c.args.at here c.args.key.now i (read c).0
           entered.path in (sym parent ∙ child.0.parent, sym key ∙ child.1)),
       (λ right.
-          let some : i ≢ 0 = λ root. (let far : n.parent ≡ 2 ^ 64 - 1 = sym parent ∙ (ap (parent_at items) root ∙ c.self.invariant.arena.root_parent) in
+          let some : i ≢ 0 = λ root. (let far : n.parent ≡ 2 ^ 64 - 1 =
+          sym parent ∙ (ap (parent_at items) root ∙ c.self.invariant.arena.root_parent) in
           omega (arith, here, c.self.inside.nodes.ok.0, far, right.0)) in
           was_entered items c.self.invariant.arena c.args.at here c.args.key.now i
           (record { not_root = omega arith; in_range = (read c).0; parent = parent ∙ right.0 }) (key ∙ right.1)),

@@ -50,7 +50,8 @@ pub invariant_of-self-in-Err : goal.invariant_of-self-in-Err
 invariant_of-self-in-Err c =
     let at = goal.at.invariant_of-self-in-Err c in
     let old = c.index_mut.result.now in
-    let gap = subst (λ (l : Children). IsKeyGap (keys_of c.deref.result.now (numbers l)) c.args.key.now (flat_place l c.in-Err.place))
+    let gap = subst (λ (l : Children). IsKeyGap (keys_of c.deref.result.now (numbers l)) c.args.key.now
+    (flat_place l c.in-Err.place))
     (same at.After-index_mut) c.in-Err.ensures.absent in
     subst₂ IsTree (sym (nodes at.After-push_reserved-in-Err)) (sym (c.push_reserved.ensures.items
     ∙ (λ j. set (c.in_ok-reserve-in-Err-2.ensures.items j) c.args.at c.insert.new.self ++ Empty ∷ [])))

@@ -6,5 +6,12 @@ use Rattle.allocative_graph.proofs.flamegraph.FlameGraph.+path_count.Goals as go
 
 pub returns : goal.returns
 returns t c =
-    let counted : c.loop-child.count ≡ len c.args.self.now = omega (arith, c.loop-child.invariant.0, ap paths_of (take_all c.loop-child.child-index c.deref-child-items.result.now (omega arith) ∙ c.deref-child-items.ensures.value), paths_of_node c.self.inside.node_size c.self.inside.children.items c.self.invariant.children.sorted, ap (λ (g : Graph). len g) c.self.view_is) in
+    let counted : c.loop-child.count ≡ len c.args.self.now = omega (
+      arith,
+      c.loop-child.invariant.0,
+      ap paths_of (take_all
+          c.loop-child.child-index c.deref-child-items.result.now (omega arith) ∙ c.deref-child-items.ensures.value),
+      paths_of_node c.self.inside.node_size c.self.inside.children.items c.self.invariant.children.sorted,
+      ap (λ (g : Graph). len g) c.self.view_is,
+    ) in
     (omega (arith, counted, c.loop-child.invariant.1), counted)

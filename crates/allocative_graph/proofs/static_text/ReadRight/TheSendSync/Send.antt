@@ -7,4 +7,5 @@ use Rattle.allocative_graph.specs.contracts.static_text.ReadRight as C
 
 -- A `ReadRight` can be sent to another thread, since what it owns names no thread.
 pub send : IsSend C.the_row
-send = owning_send C.the_type tt (λ s. ((array_sync u8 0 (search sendable)).shared s.items (block_of s.ptr) (count_of s.ptr) []).1) (λ k x w. tt)
+send = owning_send C.the_type tt (λ s.
+    ((array_sync u8 0 (search sendable)).shared s.items (block_of s.ptr) (count_of s.ptr) []).1) (λ k x w. tt)

@@ -37,7 +37,13 @@ read_spec 𝓤 𝓛 𝓜 𝓡 wired =
     let 𝓣 = tables 𝓤 𝓛.H 𝓜 𝓡 𝓡.env in
     let of_right = Goes-dropped 𝓛 1 (RefOf (0 ∷ []) tt (plain (λ _. ReadRight.the_row)) (λ _. tt)) yes (λ κs x f. refl)
     in
-    proved_at 𝓛 ended stayed held 𝓜 𝓡 (of_right, (Goes-dropped 𝓛 1 (plain (λ _. RawPtr)) yes (λ κs x f. refl), (Goes-dropped 𝓛 1 (plain (λ _. usize)) yes (λ κs x f. refl), tt))) #self function
+    proved_at 𝓛 ended stayed held 𝓜 𝓡 (
+      of_right,
+      (
+        Goes-dropped 𝓛 1 (plain (λ _. RawPtr)) yes (λ κs x f. refl),
+        (Goes-dropped 𝓛 1 (plain (λ _. usize)) yes (λ κs x f. refl), tt),
+      ),
+    ) #self function
     (unfolded 𝓤 𝓛.H 𝓜 𝓡 wired) (λ z are.
     let Post = (walk_of 𝓛 ended stayed held).post z in
     let a = z.0.3 in

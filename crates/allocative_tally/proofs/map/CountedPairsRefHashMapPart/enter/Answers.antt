@@ -10,4 +10,5 @@ returns-in-Ok g c =
     let d = c.default-tally.ensures in
     let none = starts_pairs _ _ (g.met.K.Tallied.whole.none _ 0 d.0 refl) (g.met.V.Tallied.whole.none _ 0 d.1 refl) in
     let both = both_ok c.and.ensures c.in-Ok.is fits run in
-    entered_all {b = c.enter.new.visitor} (order_as _ c.args.self.0.now.entries) none both.0 (search rules) both.1 c.enter.ensures.entered
+    entered_all {b = c.enter.new.visitor} (order_as _ c.args.self.0.now.entries) none both.0
+    (search rules) both.1 c.enter.ensures.entered
