@@ -148,6 +148,7 @@ module _ (cs : List Chunk) (i : ℕ) (e : Chunk) (h : i < length cs) {xs : List 
           let there = key_read K (flat cs) _ _ (number_read _ j _ refl number) in
           (there.0, (key_read K xs j _ number).1 ∙ sym there.1)
 
+      -- The keys of a chunk rise.
       pub part_rises : KeysRise (map K xs)
       part_rises a b lt hb = subst₂ (λ x y. key_cmp x y ≡ Less) (sym (part_key a (omega arith)).1)
           (sym (part_key b hb).1) (rise _ _ (omega arith) (part_key b hb).0)

@@ -56,6 +56,7 @@ outside_push (x ∷ p) k = ap (λ (l : List Path). map (λ (q : Path). x ∷ q) 
 module _ (t : Listed) (met : List Identity) where
   module _ (outer inner : ℕ) (before after : List ℕ) (rooted : Bool)
       (stack : back_at t inner after rooted ≡ path_at t outer ∷ back_at t outer before rooted) where
+    -- A step inwards: one more visitor, at the inner node.
     pub went : live t met inner after rooted ≡ go (path_at t inner) (live t met outer before rooted)
     went = λ i. record {
       sums = map_of t;
@@ -65,6 +66,7 @@ module _ (t : Listed) (met : List Identity) where
       open_visitors = length (stack i);
     }
 
+    -- A step back: one visitor less.
     pub came_back : live t met outer before rooted ≡ leave_live (live t met inner after rooted)
     came_back = λ i. record {
       sums = map_of t;
@@ -88,6 +90,7 @@ module _ (t : Listed) (met : List Identity) where
   came_up places rooted {inner} {outer} above =
       came_back outer inner places places rooted (one_up outer inner places rooted above.key above.path)
 
+  -- A root visitor at the root is where the collector began.
   pub at_root : (current : ℕ) → path_at t current ≡ [] →
       live t met current [] true ≡ go [] (live t met current [] false)
   at_root current root =
@@ -180,6 +183,7 @@ module _ {t new : Listed} {current : ℕ} {places : List ℕ} {n : ℕ} (ok : Is
   }
 
   module _ (met : List Identity) (rooted : Bool) where
+    -- The entry is added to the sums, and nothing else changes.
     pub live_added : live new met current places rooted
         ≡ record (live t met current places rooted) { sums = bag.add (map_of t) one }
     live_added = λ i. record {
@@ -196,9 +200,11 @@ module _ {t new : Listed} {current : ℕ} {places : List ℕ} {n : ℕ} (ok : Is
             (λ j h. path_entered entered.is _ (ok.back j h)) i)) (to_root rooted)
 
     module _ {v : Live} (view : live t met current places rooted ≡ v) where
+      -- The entry fits what was entered.
       pub fits_map : bag.bytes_entered v.sums + size < 2 ^ 63
       fits_map = omega (arith, ok.entered_is, entered.fits, ap (λ (c : Live). bag.bytes_entered c.sums) view)
 
+      -- With a visitor at the entry, the collector is as after entering it.
       pub gone_down : live new met node places rooted ≡ enter_live u k size v
       gone_down =
           went new met current node places places rooted

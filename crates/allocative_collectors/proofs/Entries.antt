@@ -70,6 +70,7 @@ entered_twice old mid new at k n u i first second =
 
 -- ---- at an entry
 module _ {old new : Listed} {at : ℕ} {k : Key} {n : ℕ} {u : Bool} {i : ℕ} (entered : IsEntered old new at k n u i) where
+  -- Entering removes no path.
   pub length_entered : length old ≤ length new
   length_entered = let longer = length_put i (path_at old at ++ k ∷ []) n u old in let same = ap length entered.sums in
       omega (arith, longer.0)
@@ -151,6 +152,7 @@ Distinct s = (i j : ℕ) → i < length s → j < length s → path_at s i ≡ p
 tail_distinct : (e : Sum) (s : Listed) → Distinct (e ∷ s) → Distinct s
 tail_distinct e s apart a b ha hb w = tail_apart a b (apart (suc a) (suc b) (omega arith) (omega arith) w)
 
+-- A list of paths with their sums: the root is first, with no bytes, and no path is there twice.
 pub record IsListing (s : Listed) : Type 0 where
   pub rooted : 0 < length s
   pub root_path : path_at s 0 ≡ []

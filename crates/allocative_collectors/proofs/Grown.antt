@@ -110,6 +110,7 @@ module _ (ns : List Node) {cs : List (List ℕ)} (ok : IsArena ns cs) (p : ℕ) 
       (λ q other c. stood q i (λ e. other (sym c.parent
       ∙ (ap (parent_at new) e ∙ ap (λ (n : Node). n.parent) at_leaf))) c) q
 
+  -- An arena with one node more is an arena.
   pub arena_grown : IsArena (grown ns p k) (with_child cs p g (length ns))
   arena_grown = record {
     rooted = omega (arith, length_grown);
@@ -151,6 +152,7 @@ module _ (ns : List Node) {cs : List (List ℕ)} (ok : IsArena ns cs) (i : ℕ) 
   parent_kept : (j : ℕ) → parent_at (set ns i m) j ≡ parent_at ns j
   parent_kept = touched (λ n. n.parent) ns i m parent
 
+  -- An arena in which a node is replaced by one with the same parent is an arena.
   pub arena_set : IsArena (set ns i m) cs
   arena_set = record {
     rooted = omega (arith, length_set, ok.rooted);

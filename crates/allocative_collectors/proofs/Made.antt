@@ -204,9 +204,11 @@ module _ (s : Listed) (ok : IsListing s) where
       (omega (arith, sum_by-cons (size_in s) e []), append-nil (warned (map_of s) e))
 
   module _ (i : ℕ) (hi : i < length s) (ks : List Key) where
+    -- The size of a place is at most all bytes that were entered.
     pub own_fits : size_at_place s i ≤ bytes_entered (map_of s)
     own_fits = omega (arith, rows_fit s (path_at s i) (begun ks 0), (own_row i hi ks).0)
 
+    -- The own size of a place is the part of its graph before its first child.
     pub part_start : (w w' : List Warned) (g : Graph) → g ≡ add_self (size_at_place s i) default →
         w' ≡ w ++ warned_at s i → MakesPart s (path_at s i) (begun ks 0) w w' g
     part_start w w' g is written = record {
@@ -246,6 +248,7 @@ module _ (s : Listed) (ok : IsListing s) where
       more = kept_both _ _ _ (behind_more p ks j) (passed_before ks rise j hj p) (entries (map_of s))
           (entries_sorted (map_of s))
 
+      -- A part of a graph with the graph of the next child is the part with that child.
       pub part_more : (c : ℕ) → path_at s c ≡ p ++ k ∷ [] → (w w' w'' : List Warned) (g h d : Graph) →
           MakesPart s p (begun ks j) w w' g → MakesGraph s c w' w'' d → h ≡ sum_of g (under k d)
           → MakesPart s p (begun ks (suc j)) w w'' h
@@ -343,6 +346,7 @@ module _ {items : List nodes.Node} {lists : List Children} (ok : IsTree items li
         λ d. ap (λ (m : nodes.Node). m.key) (get_or_default items _ d no_node c.in_range) ∙ sym key,
       )
 
+  -- The part of a graph with all children is the graph.
   pub made_all : p < length v → (w w' : List Warned) (g : Graph) (j : ℕ) → j ≡ length keys →
       MakesPart v (path_at v p) (begun keys j) w w' g → MakesGraph v p w w' g
   made_all hp w w' g j whole part =

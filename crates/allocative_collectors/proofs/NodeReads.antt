@@ -192,6 +192,7 @@ module _ (ns : List Node) {cs : List (List ℕ)} (ok : IsArena ns cs) (i : ℕ) 
       let second = get_or-map (key_at ns) (children_at cs i) b 0 [] h in
       grind (arith, len, first, second, e, ok.rise i a b lt, tied_itself key_total (key_in (keys_at ns cs i) a))
 
+  -- The bytes of the children of a node are those one key below its path.
   pub below_is : sum_by (bytes_at ns) (children_at cs i) ≡ below (map_of (sums ns)) (path_at (sums ns) i)
   below_is =
       let xs = children_at cs i in
@@ -354,6 +355,7 @@ module _ {items : List Node} {lists : List Children}
           )
 
       module _ (pos : 0 < i) where
+        -- The bytes of a node are at most all bytes that were entered.
         pub bytes_fit : n.bytes ≤ bytes_entered (map_of v)
         bytes_fit = omega (
           arith,

@@ -119,6 +119,7 @@ module _ {X : Type 0} (R : X → X → Ordering) (same : IsAntisymmetric R) (its
   from_before p q (parts c k l r s d e h) =
       (λ i. slice_cmp R (d i) (e i)) ∙ after_common c (k ∷ r) (l ∷ s) ∙ ap (λ o. ordering_then o (slice_cmp R r s)) h
 
+  -- A list is below another exactly if it comes before it.
   pub order : (p q : List X) → (slice_cmp R p q ≡ Less) ↔ ComesBefore R p q
   order p q = (to_before p q, from_before p q)
 

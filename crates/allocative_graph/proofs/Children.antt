@@ -141,6 +141,7 @@ module _ (cs : List Child) (o : InOrder cs) (k : Key) where
       (λ i d low high. ap is_lt (nat_list_cmp_total.antisymm (get_or cs (i + 1) d).key (get_or cs i d).key
       ∙ ap ordering_reverse (rises cs i (i + 1) d o (omega arith) high)))
 
+  -- A binary search finds the child with the key, or the gap where it belongs.
   pub searched : (r : Result ℕ ℕ) → IsSearchInRange r (length cs) →
       IsBinarySearchResult (λ (c : Child). key_cmp c.key k) cs r →
       record { found : IfOk r (IsFound cs k); missing : IfErr r (IsChildGap cs k) }
@@ -464,9 +465,11 @@ front_there (c ∷ cs) (d ∷ ds) o e = (λ _. omega arith, λ _. omega arith)
 -- A child that was taken off the front has at most the bytes and the rows of all.
 module _ {cs : List Child} {o : Option Child} {c : Child} (rest : List Child) (e : cs ≡ option_to_list o ++ rest)
     (h : o ≡ Some c) where
+  -- The total of the first child is at most that of all.
   pub front_total : total c.graph ≤ total_of cs
   front_total = omega (arith, ap total_of (front_is e h) ∙ total_of-cons c rest)
 
+  -- The first child has at most as many paths as all children.
   pub front_rows : len c.graph ≤ length (rows_of cs)
   front_rows = omega (
     arith,
@@ -543,9 +546,11 @@ fits_at_found {x = x} {cs = cs} {i = i} same found there =
 -- ---- the key of c was not found, and belongs at i
 module _ (c : Child) {cs ds es : List Child} {i : ℕ} (same : ds ≡ cs) (missing : IsChildGap ds c.key i)
     (put : es ≡ insert_at cs i c) where
+  -- A child in its gap is merged by inserting it.
   pub put_at_gap : AreChildren cs → IsTree c.graph → Merged true cs (c ∷ []) es
   put_at_gap h t = subst (Merged true cs (c ∷ [])) (sym put)
       (inserted cs i c h t (subst (λ l. IsChildGap l c.key i) same missing))
 
+  -- The totals of all children grow by that of the child.
   pub total_at_gap : total_of es ≡ total_of cs + total c.graph
   total_at_gap = ap total_of put ∙ sum_by-insert (λ (y : Child). total y.graph) cs i c

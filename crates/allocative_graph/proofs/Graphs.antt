@@ -42,6 +42,7 @@ total_at-add_list q g (e ∷ es) = omega (
   sum_by-cons (λ r. cond (begins q r.0) r.1 0) e es,
 )
 
+-- Two sizes of a path together, if one of them is there.
 abbrev pub sizes_together : Option ℕ → Option ℕ → Option ℕ
 sizes_together x y = cond (is_some x || is_some y) (Some (unwrap_or x 0 + unwrap_or y 0)) None
 
@@ -126,12 +127,15 @@ module _ (k : Key) (g : Graph) where
   as_node : under k g ≡ node 0 (only ∷ [])
   as_node = sym (node_of_one only)
 
+  -- A graph under a key has no bytes at its root.
   pub get-under-root : get (under k g) [] ≡ Some 0
   get-under-root = ap (λ h. get h []) as_node ∙ get-root 0 (only ∷ []) (one_sorted only)
 
+  -- Below the key are the sizes of the graph, and there are no others.
   pub get-under : (l : Key) (q : Path) → get (under k g) (l ∷ q) ≡ cond (eq_by_cmp key_cmp l k) (get g q) None
   get-under l q = ap (λ h. get h (l ∷ q)) as_node ∙ get-below 0 (only ∷ []) l q (one_sorted only)
 
+  -- A graph under a key has the same total.
   pub total-under : total (under k g) ≡ total g
   total-under = omega (arith, ap total as_node, total-node 0 (only ∷ []) (one_sorted only))
 
@@ -160,6 +164,7 @@ module _ {X : Type 0} (made : X → Graph) where
   abbrev pub added_up : Graph → List X → Graph
   added_up g xs = fold (λ h x. sum_of h (made x)) g xs
 
+  -- The size of a path in graphs that are added up is the sum of its sizes.
   pub size_at-added_up : (g : Graph) (xs : List X) (p : Path) →
       size_at (added_up g xs) p ≡ size_at g p + sum_by (λ x. size_at (made x) p) xs
   size_at-added_up g [] p = omega arith
@@ -170,11 +175,13 @@ module _ {X : Type 0} (made : X → Graph) where
     sum_by-cons (λ x. size_at (made x) p) x xs,
   )
 
+  -- Graphs that are added up have the paths of each.
   pub has-added_up : (g : Graph) (xs : List X) (p : Path) →
       contains_key (added_up g xs) p ≡ (contains_key g p || list_any (λ x. contains_key (made x) p) xs)
   has-added_up g [] p = sym (or-false _)
   has-added_up g (x ∷ xs) p = grind (arith, has-added_up (sum_of g (made x)) xs p, has-sum_of g (made x) p)
 
+  -- The total of graphs that are added up is the sum of their totals.
   pub total-added_up : (g : Graph) (xs : List X) → total (added_up g xs) ≡ total g + sum_by (λ x. total (made x)) xs
   total-added_up g [] = omega arith
   total-added_up g (x ∷ xs) = omega
@@ -196,6 +203,7 @@ module _ {X : Type 0} (made : X → Graph) where
         list_any-IsPermutation (λ x. contains_key (made x) p) xs ys h,
       ))
 
+  -- A graph may be added before the others or to their sum.
   pub added_up-onto : (g h : Graph) (xs : List X) → sum_of g (added_up h xs) ≡ added_up (sum_of g h) xs
   added_up-onto g h [] = refl
   added_up-onto g h (x ∷ xs) = added_up-onto g (sum_of h (made x)) xs

@@ -285,18 +285,23 @@ child_within {n = n} {cs = cs} {ds = ds} {i = i} {d = d} view h same w at =
 
 -- ---- what is known of the graph g of a node
 module _ {n s : ℕ} {cs : List Child} {g : Graph} (view : node n cs ≡ g) (h : IsNode cs s n) where
+  -- The total of a node is its own size and those of its children.
   pub total_of_node : total g ≡ n + total_of cs
   total_of_node = ap total (sym view) ∙ total-node n cs h.children.sorted
 
+  -- The own size of a node is that of the root.
   pub own_of_node : size_at g [] ≡ n
   own_of_node = ap (λ x. size_at x []) (sym view) ∙ ap (λ o. unwrap_or o 0) (get-root n cs h.children.sorted)
 
+  -- The entries of a node are its own and the rows of its children.
   pub entries_of_node : entries g ≡ ([], n) ∷ rows_of cs
   entries_of_node = ap entries (sym view) ∙ entries-node n cs h.children.sorted
 
+  -- A node is the graph of a tree.
   pub tree_of_node : IsTree g
   tree_of_node = subst IsTree view (node_tree n cs h.children)
 
+  -- A node has one path more than its children.
   pub len_of_node : len g ≡ length (rows_of cs) + 1
   len_of_node = ap len (sym view) ∙ rows_of_node n cs h.children
 
@@ -352,9 +357,11 @@ pushed {n = n} {cs = cs} view h c t last =
 -- ---- two nodes with the graphs g and h, whose children merge to es, also if equal lists are named
 module _ {g h : Graph} {m n s t : ℕ} {cs ds : List Child} (mine : node m cs ≡ g) (a : IsNode cs s m)
     (theirs : node n ds ≡ h) (b : IsNode ds t n) where
+  -- The totals of two nodes together are their own sizes and those of all children.
   pub total_of_both : total g + total h ≡ (m + n) + (total_of cs + total_of ds)
   total_of_both = omega (arith, total_of_node mine a, total_of_node theirs b)
 
+  -- Merged children with both own sizes are a node.
   pub merged_node : {all : Bool} {cs' ds' es : List Child} {size : ℕ} → cs' ≡ cs → ds' ≡ ds →
       total g + total h < 2 ^ 64 → Merged all cs' ds' es → size ≡ total_of es → IsNode es size (m + n)
   merged_node e f fits k is = record {
@@ -363,6 +370,7 @@ module _ {g h : Graph} {m n s t : ℕ} {cs ds : List Child} (mine : node m cs �
     fits = omega (arith, total_of_both, k.at_most, ap total_of e, ap total_of f, is, fits);
   }
 
+  -- Merged children with both own sizes are the sum of the graphs.
   pub merged_graph : {all : Bool} {cs' ds' es : List Child} → cs' ≡ cs → ds' ≡ ds → Merged all cs' ds' es →
       Added all g h (node (m + n) es)
   merged_graph {all = all} {es = es} e f k =

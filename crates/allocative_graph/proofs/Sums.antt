@@ -64,6 +64,7 @@ entries-sums_of b = entries-add_all empty b ∙ ap (λ es. nodes_add_all es b) e
 abbrev pub below_list : List (Path × Node) → Path → ℕ
 below_list es p = sum_by (λ e. cond (is_one_below p e.0) e.1.bytes 0) es
 
+-- The size of each path, computed from the nodes of a bag.
 abbrev pub sizes_list : List (Path × Node) → List (Path × ℕ)
 sizes_list es = put_all (([], 0) ∷ map (λ e. (e.0, cond e.1.is_unique e.1.bytes (e.1.bytes - below_list es e.0))) es)
 
@@ -71,6 +72,7 @@ sizes_list es = put_all (([], 0) ∷ map (λ e. (e.0, cond e.1.is_unique e.1.byt
 pub entries-graph : (b : Bag) → entries (graph (sums_of b)) ≡ sizes_list (nodes_of b)
 entries-graph b = entries-from_entries (sizes (sums_of b)) ∙ ap sizes_list (entries-sums_of b)
 
+-- The warnings, computed from the nodes of a bag.
 abbrev pub warnings_list : List (Path × Node) → List ℕ
 warnings_list es = flat_map (λ e. cond (not (is_root e.0) && not e.1.is_unique && nat_lt e.1.bytes (below_list es e.0))
     (warning_line e.0 e.1.bytes (below_list es e.0)) []) es
@@ -223,6 +225,7 @@ module _ {K X : Type 0} {R : K → K → Ordering} (total : IsTotalOrder R) (sam
           sum_by-cons weigh x (put R k v es),
         )
 
+    -- If a key gets d more of what is weighed, so does the sum.
     pub weights-insert : (m : FinMap R X) (k : K) (v : X) (d : ℕ) → Changes k v d (get m k) →
         sum_by weigh (entries (insert m k v)) ≡ sum_by weigh (entries m) + d
     weights-insert m k v d e = ap (sum_by weigh) (entries-insert total m k v)

@@ -61,12 +61,15 @@ joined_lacks (k ∷ l ∷ p) h = each-append (λ b. b ≢ 10) k _ h.0.1 ((λ e. 
 abbrev pub Sized : Type 0
 Sized = Path × ℕ
 
+-- Whether an entry has a line: it is not the root, and has bytes.
 abbrev pub is_shown : Sized → Bool
 is_shown e = not (is_root e.0 || (e.1 == 0))
 
+-- The line of an entry, with its end.
 abbrev pub full : Sized → List ℕ
 full e = joined e.0 ++ 32 ∷ decimal e.1 ++ 10 ∷ []
 
+-- The line of an entry, without its end.
 abbrev pub body : Sized → List ℕ
 body e = joined e.0 ++ 32 ∷ decimal e.1
 
@@ -75,6 +78,7 @@ pub shown_lines : (es : List Sized) → text_of_entries es ≡ flat_map full (fi
 shown_lines [] = refl
 shown_lines (e ∷ es) = grind (arith, shown_lines es)
 
+-- An entry that has a line, keys without separators, and a size that fits a word.
 pub record Good (e : Sized) : Type 0 where
   pub shows : IsTrue (is_shown e)
   pub plain : AllByRecursion Plain e.0
