@@ -49,14 +49,23 @@ total-chosen_onto : (test : Path → Bool) (h : Graph) (es : Sizes) →
     total (chosen_onto test h es) ≡ total h + sum_by (λ e. cond (test e.0) e.1 0) es
 total-chosen_onto test h [] = omega arith
 total-chosen_onto test h (e ∷ es) =
-    omega (arith, total-one test h e, total-chosen_onto test (one_chosen test h e) es, sum_by-cons (λ (x : Path × ℕ). cond (test x.0) x.1 0) e es)
+    omega (
+      arith,
+      total-one test h e,
+      total-chosen_onto test (one_chosen test h e) es,
+      sum_by-cons (λ (x : Path × ℕ). cond (test x.0) x.1 0) e es,
+    )
 
 -- No more than the bytes of all paths are added.
 pub total-chosen_le : (test : Path → Bool) (h : Graph) (es : Sizes) →
     total (chosen_onto test h es) ≤ total h + sum_by (λ e. e.1) es
 total-chosen_le test h es =
     let part : (b : Bool) (n : ℕ) → cond b n 0 ≤ n = λ b n. grind arith in
-    omega (arith, total-chosen_onto test h es, sum_by-le-sum_by (λ e. cond (test e.0) e.1 0) (λ e. e.1) es (λ e. part (test e.0) e.1))
+    omega (
+      arith,
+      total-chosen_onto test h es,
+      sum_by-le-sum_by (λ e. cond (test e.0) e.1 0) (λ e. e.1) es (λ e. part (test e.0) e.1),
+    )
 
 -- A part has the bytes within the paths.
 pub total-only : (ps : List Path) (g : Graph) → total (only ps g) ≡ bytes_within ps g
@@ -67,12 +76,22 @@ halves : (test : Path → Bool) (es : Sizes) →
     sum_by (λ e. cond (not (test e.0)) e.1 0) es + sum_by (λ e. cond (test e.0) e.1 0) es ≡ sum_by (λ e. e.1) es
 halves test [] = refl
 halves test (e ∷ es) =
-    grind (arith, halves test es, sum_by-cons (λ (x : Path × ℕ). cond (not (test x.0)) x.1 0) e es, sum_by-cons (λ (x : Path × ℕ). cond (test x.0) x.1 0) e es, sum_by-cons (λ (x : Path × ℕ). x.1) e es)
+    grind (
+      arith,
+      halves test es,
+      sum_by-cons (λ (x : Path × ℕ). cond (not (test x.0)) x.1 0) e es,
+      sum_by-cons (λ (x : Path × ℕ). cond (test x.0) x.1 0) e es,
+      sum_by-cons (λ (x : Path × ℕ). x.1) e es,
+    )
 
 -- The part without some paths has all other bytes.
 pub total-without : (ps : List Path) (g : Graph) → total (without ps g) + bytes_within ps g ≡ total g
-total-without ps g = omega
-    (arith, total-chosen_onto (λ (p : Path). not (is_within ps p)) default (entries g), total-default, halves (is_within ps) (entries g))
+total-without ps g = omega (
+  arith,
+  total-chosen_onto (λ (p : Path). not (is_within ps p)) default (entries g),
+  total-default,
+  halves (is_within ps) (entries g),
+)
 
 -- ---- sizes
 -- The bytes that e adds at the path p, if it passes the test.
@@ -88,7 +107,12 @@ size_at-chosen_onto : (test : Path → Bool) (h : Graph) (es : Sizes) (p : Path)
     size_at (chosen_onto test h es) p ≡ size_at h p + sum_by (added_at test p) es
 size_at-chosen_onto test h [] p = omega arith
 size_at-chosen_onto test h (e ∷ es) p =
-    omega (arith, size_at-one test h e p, size_at-chosen_onto test (one_chosen test h e) es p, sum_by-cons (added_at test p) e es)
+    omega (
+      arith,
+      size_at-one test h e p,
+      size_at-chosen_onto test (one_chosen test h e) es p,
+      sum_by-cons (added_at test p) e es,
+    )
 
 -- At one path the bytes are added if it passes the test.
 at_path : (test : Path → Bool) (p : Path) (es : Sizes) →
@@ -96,7 +120,13 @@ at_path : (test : Path → Bool) (p : Path) (es : Sizes) →
 at_path test p [] = grind arith
 at_path test p (e ∷ es) =
     let same : is_same_path p e.0 ≡ true → test e.0 ≡ test p = λ h. ap test (sym (same_path p e.0 h)) in
-    grind (arith, at_path test p es, same, sum_by-cons (added_at test p) e es, sum_by-cons (λ (x : Path × ℕ). cond (is_same_path p x.0) x.1 0) e es)
+    grind (
+      arith,
+      at_path test p es,
+      same,
+      sum_by-cons (added_at test p) e es,
+      sum_by-cons (λ (x : Path × ℕ). cond (is_same_path p x.0) x.1 0) e es,
+    )
 
 -- The paths that pass the test keep their bytes, and others have none.
 size_at-chosen : (test : Path → Bool) (g : Graph) (p : Path) →

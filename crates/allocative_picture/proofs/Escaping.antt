@@ -51,14 +51,17 @@ High bs = AllByRecursion (λ b. 128 ≤ b) bs
 high : (bs : List ℕ) → High bs → IsMarkup bs bs
 high [] h = (tt, λ m t r. r)
 high (b ∷ bs) h =
-    let low : 128 ≤ b = h.0 in
-    ((plain_by b (grind (arith, nat_tests)), (high bs h.1).0), λ m t r. itself b (bs ++ m) (bs ++ t) (λ e. omega arith) (λ e. omega arith) ((high bs h.1).1 m t r))
+    let low : 128 ≤ b = h.0 in (
+      (plain_by b (grind (arith, nat_tests)), (high bs h.1).0),
+      λ m t r. itself b (bs ++ m) (bs ++ t) (λ e. omega arith) (λ e. omega arith) ((high bs h.1).1 m t r),
+    )
 
 -- The bytes that a reader finds for a character.
 abbrev legible_char : ℕ → List ℕ
 legible_char c = cond (is_unfit c) (encode_utf8 65533) (encode_utf8 c)
 
--- Each of the five references unescapes to its character. Other characters are one byte below 128, or bytes from 128 on.
+-- Each of the five references unescapes to its character. Other characters are one byte below 128, or bytes from 128
+-- on.
 char : (c : ℕ) → IsMarkup (escaped_char c) (legible_char c)
 unfolding lib.Utf8.encode
 char c =
@@ -75,7 +78,10 @@ char c =
     by_cond (λ x. IsMarkup x x) (is_unfit c) _ _ (λ _. high (encode_utf8 65533)
     (omega arith, (omega arith, (omega arith, tt)))) (λ e.
     by_cond (λ x. IsMarkup x x) (nat_lt c 128) _ _
-    (λ _. ((plain_by c (rw (e2, e3, e4, e5, fit c e) refl), tt), λ m t r. itself c m t (eqb-false c 38 e1) (eqb-false c 60 e2) r))
+    (λ _. (
+      (plain_by c (rw (e2, e3, e4, e5, fit c e) refl), tt),
+      λ m t r. itself c m t (eqb-false c 38 e1) (eqb-false c 60 e2) r,
+    ))
     (λ _. high _ (by_cond High (nat_lt c 2048) _ _ (λ _. (omega arith, (omega arith, tt))) (λ _.
     by_cond High (nat_lt c 65536) _ _ (λ _. (omega arith, (omega arith, (omega arith, tt))))
     (λ _. (omega arith, (omega arith, (omega arith, (omega arith, tt))))))))))))))
@@ -84,7 +90,10 @@ char c =
 markup : (cs : List ℕ) → AllByRecursion IsPlain (flat_map escaped_char cs)
     × Unescapes (flat_map escaped_char cs) (flat_map legible_char cs)
 markup [] = (tt, end)
-markup (c ∷ cs) = (each-append IsPlain (escaped_char c) (flat_map escaped_char cs) (char c).0 (markup cs).0, (char c).1 _ _ (markup cs).1)
+markup (c ∷ cs) = (
+  each-append IsPlain (escaped_char c) (flat_map escaped_char cs) (char c).0 (markup cs).0,
+  (char c).1 _ _ (markup cs).1,
+)
 
 -- Markup of a text has plain bytes only, and unescapes to that text.
 pub escapes : (t : List ℕ) → EscapeLaws t

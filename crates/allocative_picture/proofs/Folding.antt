@@ -30,7 +30,8 @@ module _ (f : Key → Key) where
   -- The total stays.
   pub total_folded : (g : Graph) → total (folded f g) ≡ total g
   total_folded g =
-      let each : sum_by (λ e. total (made e)) (entries g) ≡ total g = λ i. sum_by (λ (e : Path × ℕ). total-path (map f e.0) e.1 i) (entries g) in
+      let each : sum_by (λ e. total (made e)) (entries g) ≡ total g =
+      λ i. sum_by (λ (e : Path × ℕ). total-path (map f e.0) e.1 i) (entries g) in
       omega (arith, total-added_up made default (entries g), total-default, each)
 
   -- The bytes that a child's entry has under the new key.
@@ -42,7 +43,8 @@ module _ (f : Key → Key) where
   put c = under (f c.key) (folded f c.graph)
 
   -- ---- the bytes at a path
-  size-under : (k l : Key) (g : Graph) (p : Path) → size_at (under k g) (l ∷ p) ≡ cond (eq_by_cmp key_cmp l k) (size_at g p) 0
+  size-under : (k l : Key) (g : Graph) (p : Path) →
+      size_at (under k g) (l ∷ p) ≡ cond (eq_by_cmp key_cmp l k) (size_at g p) 0
   size-under k l g p = ap (λ o. unwrap_or o 0) (get-under k g l p) ∙ of (eq_by_cmp key_cmp l k)
     where
       of : (t : Bool) → unwrap_or (cond t (get g p) None) 0 ≡ cond t (size_at g p) 0
@@ -56,21 +58,32 @@ module _ (f : Key → Key) where
 
   child-sizes : (c : Child) (p : Path) → sum_by (λ e. size_at (below c e) p) (entries c.graph) ≡ size_at (put c) p
   child-sizes c [] =
-      let none : (g : Graph) → size_at (under (f c.key) g) [] ≡ 0 = λ g. ap (λ o. unwrap_or o 0) (get-under-root (f c.key) g) in
-      (λ i. sum_by (λ e. none (made e) i) (entries c.graph)) ∙ sum_if false (λ e. 0) (entries c.graph) ∙ sym (none (folded f c.graph))
+      let none : (g : Graph) → size_at (under (f c.key) g) [] ≡ 0 =
+      λ g. ap (λ o. unwrap_or o 0) (get-under-root (f c.key) g) in
+      (λ i. sum_by (λ e. none (made e) i) (entries c.graph))
+      ∙ sum_if false (λ e. 0) (entries c.graph) ∙ sym (none (folded f c.graph))
   child-sizes c (l ∷ p) =
       let t = eq_by_cmp key_cmp l (f c.key) in
       (λ i. sum_by (λ e. size-under (f c.key) l (made e) p i) (entries c.graph))
       ∙ sum_if t (λ e. size_at (made e) p) (entries c.graph)
-      ∙ ap (λ n. cond t n 0) (let e = size_at-added_up made default (entries c.graph) p in omega (arith, e, size_at-default p))
+      ∙ ap (λ n. cond t n 0) (let e = size_at-added_up made default (entries c.graph) p in
+      omega (arith, e, size_at-default p))
       ∙ sym (size-under (f c.key) l (folded f c.graph) p)
 
-  rows-sizes : (cs : List Child) (p : Path) → sum_by (λ e. size_at (made e) p) (rows_of cs) ≡ sum_by (λ c. size_at (put c) p) cs
+  rows-sizes : (cs : List Child) (p : Path) →
+      sum_by (λ e. size_at (made e) p) (rows_of cs) ≡ sum_by (λ c. size_at (put c) p) cs
   rows-sizes [] p = refl
-  rows-sizes (c ∷ cs) p = omega (arith, rows-cons (λ e. size_at (made e) p) c cs, child-sizes c p, rows-sizes cs p, sum_by-cons (λ x. size_at (put x) p) c cs)
+  rows-sizes (c ∷ cs) p = omega (
+    arith,
+    rows-cons (λ e. size_at (made e) p) c cs,
+    child-sizes c p,
+    rows-sizes cs p,
+    sum_by-cons (λ x. size_at (put x) p) c cs,
+  )
 
   -- ---- which paths there are
-  has-under : (k l : Key) (g : Graph) (p : Path) → contains_key (under k g) (l ∷ p) ≡ (eq_by_cmp key_cmp l k && contains_key g p)
+  has-under : (k l : Key) (g : Graph) (p : Path) →
+      contains_key (under k g) (l ∷ p) ≡ (eq_by_cmp key_cmp l k && contains_key g p)
   has-under k l g p = ap is_some (get-under k g l p) ∙ of (eq_by_cmp key_cmp l k)
     where
       of : (t : Bool) → is_some (cond t (get g p) None) ≡ (t && contains_key g p)
@@ -82,7 +95,8 @@ module _ (f : Key → Key) where
   any_if false w [] = refl
   any_if false w (e ∷ es) = any_if false w es
 
-  any_map : (w : Path × ℕ → Bool) (k : Key) (es : Sizes) → list_any w (map (λ e. (k ∷ e.0, e.1)) es) ≡ list_any (λ e. w (k ∷ e.0, e.1)) es
+  any_map : (w : Path × ℕ → Bool) (k : Key) (es : Sizes) →
+      list_any w (map (λ e. (k ∷ e.0, e.1)) es) ≡ list_any (λ e. w (k ∷ e.0, e.1)) es
   any_map w k [] = refl
   any_map w k (e ∷ es) = ap (λ b. w (k ∷ e.0, e.1) || b) (any_map w k es)
 
@@ -95,9 +109,11 @@ module _ (f : Key → Key) where
   some_root (e ∷ es) h = ap (λ b. b || list_any (λ x. contains_key (made x) []) es) (has_root e)
 
   -- A folded tree has the paths of its entries.
-  inside : (g : Graph) → IsTree g → (p : Path) → list_any (λ e. contains_key (made e) p) (entries g) ≡ contains_key (folded f g) p
+  inside : (g : Graph) → IsTree g → (p : Path) →
+      list_any (λ e. contains_key (made e) p) (entries g) ≡ contains_key (folded f g) p
   inside g t [] = some_root (entries g) (ap is_some (sym (get-entries g [])) ∙ t.root)
-      ∙ sym (has-added_up made default (entries g) [] ∙ ap (λ b. b || list_any (λ e. contains_key (made e) []) (entries g)) default_root)
+      ∙ sym (has-added_up made default (entries g) []
+      ∙ ap (λ b. b || list_any (λ e. contains_key (made e) []) (entries g)) default_root)
   inside g t (k ∷ p) = sym (has-added_up made default (entries g) (k ∷ p)
       ∙ ap (λ o. is_some o || list_any (λ e. contains_key (made e) (k ∷ p)) (entries g)) (nothing_below k p))
 
@@ -123,15 +139,25 @@ module _ (f : Key → Key) where
   folded_node g n cs whole h =
       fold-map (λ (x : Graph) (c : Child). sum_of x (under c.key c.graph)) (folded_child f) (bytes_alone n) cs
       ∙ same_graph (added_up put (bytes_alone n) cs) (added_up made (bytes_alone n) (rows_of cs)) sizes paths
-      ∙ ap (λ (x : Graph). added_up made x (rows_of cs)) (sym (sum_of-commutes default (bytes_alone n) ∙ sum_of-default (bytes_alone n) (tree-path [] n)))
+      ∙ ap (λ (x : Graph). added_up made x (rows_of cs)) (sym
+      (sum_of-commutes default (bytes_alone n) ∙ sum_of-default (bytes_alone n) (tree-path [] n)))
       ∙ ap (added_up made default) (sym (entries-node n cs h.sorted)) ∙ ap (folded f) (sym whole)
     where
-      sizes : (p : Path) → size_at (added_up put (bytes_alone n) cs) p ≡ size_at (added_up made (bytes_alone n) (rows_of cs)) p
-      sizes p = omega (arith, size_at-added_up put (bytes_alone n) cs p, size_at-added_up made (bytes_alone n) (rows_of cs) p, rows-sizes cs p)
+      sizes : (p : Path) → size_at (added_up put (bytes_alone n) cs) p
+          ≡ size_at (added_up made (bytes_alone n) (rows_of cs)) p
+      sizes p = omega (
+        arith,
+        size_at-added_up put (bytes_alone n) cs p,
+        size_at-added_up made (bytes_alone n) (rows_of cs) p,
+        rows-sizes cs p,
+      )
 
-      paths : (p : Path) → contains_key (added_up put (bytes_alone n) cs) p ≡ contains_key (added_up made (bytes_alone n) (rows_of cs)) p
-      paths [] = has-added_up put (bytes_alone n) cs [] ∙ ap (λ b. b || list_any (λ c. contains_key (put c) []) cs) (tree-path [] n).root
-          ∙ sym (has-added_up made (bytes_alone n) (rows_of cs) [] ∙ ap (λ b. b || list_any (λ e. contains_key (made e) []) (rows_of cs)) (tree-path [] n).root)
+      paths : (p : Path) → contains_key (added_up put (bytes_alone n) cs) p
+          ≡ contains_key (added_up made (bytes_alone n) (rows_of cs)) p
+      paths [] = has-added_up put (bytes_alone n) cs []
+          ∙ ap (λ b. b || list_any (λ c. contains_key (put c) []) cs) (tree-path [] n).root
+          ∙ sym (has-added_up made (bytes_alone n) (rows_of cs) []
+          ∙ ap (λ b. b || list_any (λ e. contains_key (made e) []) (rows_of cs)) (tree-path [] n).root)
       paths (l ∷ p) = has-added_up put (bytes_alone n) cs (l ∷ p)
           ∙ ap (λ b. contains_key (bytes_alone n) (l ∷ p) || b) (sym (rows-paths cs h.trees l p))
           ∙ sym (has-added_up made (bytes_alone n) (rows_of cs) (l ∷ p))

@@ -38,7 +38,8 @@ reach_by o n q p = lower_by o n q p + cond (is_eq (ordering_reverse o) && begins
 
 -- `reach` goes by the order of the first keys.
 reach-cons : (n : ℕ) (l k : Key) (q p : Path) → reach n (l ∷ q) (k ∷ p) ≡ reach_by (key_cmp l k) n q p
-reach-cons n l k q p = ap (λ o. lower n (l ∷ q) (k ∷ p) + cond (is_eq o && begins p q) n 0) (nat_list_cmp_total.antisymm k l)
+reach-cons n l k q p =
+    ap (λ o. lower n (l ∷ q) (k ∷ p) + cond (is_eq o && begins p q) n 0) (nat_list_cmp_total.antisymm k l)
 
 -- What holds at each order holds at any.
 at_order : (P : Ordering → Type 0) (o : Ordering) → P Less → P Equal → P Greater → P o
@@ -52,7 +53,8 @@ once n [] [] = omega arith
 once n (l ∷ q) [] = omega arith
 once n [] (k ∷ p) = omega arith
 once n (l ∷ q) (k ∷ p) =
-    rw (reach-cons n l k q p) (at_order (λ o. reach_by o n q p ≤ n) (key_cmp l k) (omega arith) (once n q p) (omega arith))
+    rw (reach-cons n l k q p)
+    (at_order (λ o. reach_by o n q p ≤ n) (key_cmp l k) (omega arith) (once n q p) (omega arith))
 
 -- What comes before a path also comes before each longer path that begins with it, and that path reaches no more.
 longer : (n : ℕ) (q p r : Path) → (lower n q p ≤ lower n q (p ++ r)) × (reach n q (p ++ r) ≤ reach n q p)
@@ -86,14 +88,17 @@ begins-place o f [] q = refl
 begins-place o f (k ∷ p) [] = refl
 begins-place o f (k ∷ p) (l ∷ q) =
     on_test (λ b. begins (place o f (k ∷ p)) (place o f (l ∷ q)) ≡ (b && begins p q)) (eq_by_cmp key_cmp k l)
-    (λ same. subst (λ m. begins (place o f (k ∷ p)) (place o f (m ∷ q)) ≡ begins p q) (key_same k l (is_eq-Equal (key_cmp k l) same))
-    (ap (λ b. b && begins (place o (λ r. f (k ∷ r)) p) (place o (λ r. f (k ∷ r)) q)) (ap is_eq (key_itself (place_key o (f (k ∷ [])) k)))
+    (λ same. subst (λ m. begins (place o f (k ∷ p)) (place o f (m ∷ q)) ≡ begins p q)
+    (key_same k l (is_eq-Equal (key_cmp k l) same))
+    (ap (λ b. b && begins (place o (λ r. f (k ∷ r)) p) (place o (λ r. f (k ∷ r)) q))
+    (ap is_eq (key_itself (place_key o (f (k ∷ [])) k)))
     ∙ begins-place o (λ r. f (k ∷ r)) p q))
     (λ other. ap (λ b. b && begins (place o (λ r. f (k ∷ r)) p) (place o (λ r. f (l ∷ r)) q))
     (other_place o (f (k ∷ [])) (f (l ∷ [])) k l other))
 
 -- The path that is drawn first is placed by the lesser key.
-first_place : (o : Order) (m n : ℕ) (k l : Key) → IsDrawnFirst o m n k l → key_cmp (place_key o m k) (place_key o n l) ≡ Less
+first_place : (o : Order) (m n : ℕ) (k l : Key) → IsDrawnFirst o m n k l →
+    key_cmp (place_key o m k) (place_key o n l) ≡ Less
 first_place order.Key m n k l h = h
 first_place order.Size m n k l (fits, inl more) =
     ap (λ o. ordering_then o (key_cmp k l)) (sym (nat_cmp_is (2 ^ 64 - m) (2 ^ 64 - n) Less (omega arith)))
@@ -118,12 +123,20 @@ module _ (o : Order) (f : Path → ℕ) where
   reached p (r ∷ rs) =
       let below : cond (begins (place o f p) (place o f r.0)) r.1 0 ≡ cond (begins p r.0) r.1 0 =
       ap (λ b. cond b r.1 0) (begins-place o f p r.0) in
-      omega (arith, below, sum_by-cons (lowers p) r rs, sum_by-cons (λ e. cond (begins p e.0) e.1 0) r rs, sum_by-cons (reaches p) r rs, reached p rs)
+      omega (
+        arith,
+        below,
+        sum_by-cons (lowers p) r rs,
+        sum_by-cons (λ e. cond (begins p e.0) e.1 0) r rs,
+        sum_by-cons (reaches p) r rs,
+        reached p rs,
+      )
 
   -- What is drawn before a path is drawn before those below it, and what these reach the path reaches.
   longer-place : (p : Path) (k : Key) (e : Path × ℕ) →
       (lowers p e ≤ lowers (p ++ k ∷ []) e) × (reaches (p ++ k ∷ []) e ≤ reaches p e)
-  longer-place p k e = rw (place-append o f p (k ∷ [])) (longer e.1 (place o f e.0) (place o f p) (place_key o (f (p ++ k ∷ [])) k ∷ []))
+  longer-place p k e =
+      rw (place-append o f p (k ∷ [])) (longer e.1 (place o f e.0) (place o f p) (place_key o (f (p ++ k ∷ [])) k ∷ []))
 
   -- What a path reaches is drawn before each path beside it that is drawn later.
   beside-place : (p : Path) (k l : Key) → IsDrawnFirst o (f (p ++ k ∷ [])) (f (p ++ l ∷ [])) k l → (e : Path × ℕ) →
@@ -150,15 +163,22 @@ module _ (o : Order) (g : Graph) where
 
   -- A box does not end behind that of its parent.
   ends_inside : (p : Path) (k : Key) →
-      edge (total g) (before_at o g (p ++ k ∷ []) + total_at g (p ++ k ∷ [])) ≤ edge (total g) (before_at o g p + total_at g p)
+      edge (total g) (before_at o g (p ++ k ∷ []) + total_at g (p ++ k ∷ []))
+      ≤ edge (total g) (before_at o g p + total_at g p)
   ends_inside p k =
       let le = sum_by-le-sum_by (reaches o (total_at g) (p ++ k ∷ [])) (reaches o (total_at g) p) (entries g)
       (λ e. (longer-place o (total_at g) p k e).1) in
-      edges-le (total g) _ _ (omega (arith, le, reached o (total_at g) p (entries g), reached o (total_at g) (p ++ k ∷ []) (entries g)))
+      edges-le (total g) _ _ (omega (
+        arith,
+        le,
+        reached o (total_at g) p (entries g),
+        reached o (total_at g) (p ++ k ∷ []) (entries g),
+      ))
 
   -- A box ends at or before the beginning of those beside it that are drawn later.
   pub is_apart : (p : Path) (k l : Key) → IsDrawnFirst o (total_at g (p ++ k ∷ [])) (total_at g (p ++ l ∷ [])) k l →
-      edge (total g) (before_at o g (p ++ k ∷ []) + total_at g (p ++ k ∷ [])) ≤ edge (total g) (before_at o g (p ++ l ∷ []))
+      edge (total g) (before_at o g (p ++ k ∷ []) + total_at g (p ++ k ∷ []))
+      ≤ edge (total g) (before_at o g (p ++ l ∷ []))
   is_apart p k l h = edges-le (total g) _ _ (rw (reached o (total_at g) (p ++ k ∷ []) (entries g))
       (sum_by-le-sum_by (reaches o (total_at g) (p ++ k ∷ [])) (lowers o (total_at g) (p ++ l ∷ [])) (entries g)
       (beside-place o (total_at g) p k l h)))

@@ -35,7 +35,8 @@ module _ (k : Key) (p : Path) where
   past : (c : Child) (cs : List Child) → eq_by_cmp key_cmp k c.key ≡ false →
       counted (k ∷ p) (rows_of (c ∷ cs)) ≡ counted (k ∷ p) (rows_of cs)
   past c cs e =
-      let none : sum_by (λ (r : Path × ℕ). cond (eq_by_cmp key_cmp k c.key && is_one_below p r.0) 1 0) (entries c.graph) ≡ 0 =
+      let none : sum_by (λ (r : Path × ℕ). cond (eq_by_cmp key_cmp k c.key && is_one_below p r.0) 1 0) (entries c.graph)
+      ≡ 0 =
       (λ i. sum_by (λ (r : Path × ℕ). cond (e i && is_one_below p r.0) 1 0) (entries c.graph))
       ∙ fold_stays (λ n (r : Path × ℕ). n + 0) 0 (λ r. refl) (entries c.graph) in
       omega (arith, rows-cons (one (k ∷ p)) c cs, none)
@@ -52,9 +53,15 @@ module _ (k : Key) (p : Path) where
   found (c ∷ cs) zero d o w s =
       let same : eq_by_cmp key_cmp k c.key ≡ true =
       subst (λ l. eq_by_cmp key_cmp k l ≡ true) (sym s) (ap is_eq (tied_itself nat_list_cmp_total k)) in
-      let here : sum_by (λ (r : Path × ℕ). cond (eq_by_cmp key_cmp k c.key && is_one_below p r.0) 1 0) (entries c.graph) ≡ children_at c.graph p =
+      let here : sum_by (λ (r : Path × ℕ). cond (eq_by_cmp key_cmp k c.key && is_one_below p r.0) 1 0) (entries c.graph)
+      ≡ children_at c.graph p =
       λ i. sum_by (λ (r : Path × ℕ). cond (same i && is_one_below p r.0) 1 0) (entries c.graph) in
-      omega (arith, rows-cons (one (k ∷ p)) c cs, here, lacking cs (lacks-above k cs (subst (λ l. AllAbove cs l) s o.0)))
+      omega (
+        arith,
+        rows-cons (one (k ∷ p)) c cs,
+        here,
+        lacking cs (lacks-above k cs (subst (λ l. AllAbove cs l) s o.0)),
+      )
   found (c ∷ cs) (suc i) d o w s =
       let less = subst (λ l. key_cmp c.key l ≡ Less) s (rises (c ∷ cs) 0 (suc i) d o (omega arith) w) in
       past c cs ((eq_by_cmp_equiv nat_list_cmp_total).symm k c.key ∙ ap is_eq less) ∙ found cs i d o.1 (omega arith) s
@@ -64,7 +71,12 @@ children_at-child : (n : ℕ) (cs : List Child) (i : ℕ) (d : Child) (p : Path)
     children_at (node n cs) ((get_or cs i d).key ∷ p) ≡ children_at (get_or cs i d).graph p
 children_at-child n cs i d p o w =
     let k = (get_or cs i d).key in
-    omega (arith, ap (counted (k ∷ p)) (entries-node n cs o), sum_by-cons (one (k ∷ p)) ([], n) (rows_of cs), found k p cs i d o w refl)
+    omega (
+      arith,
+      ap (counted (k ∷ p)) (entries-node n cs o),
+      sum_by-cons (one (k ∷ p)) ([], n) (rows_of cs),
+      found k p cs i d o w refl,
+    )
 
 -- A path is one key below the root if it is that key alone.
 one_key : (k : Key) (q : Path) → is_one_below [] (k ∷ q) ≡ is_same_path [] q
@@ -75,13 +87,21 @@ roots : (cs : List Child) → AllByRecursion (λ (c : Child). IsTree c.graph) cs
 roots [] h = refl
 roots (c ∷ cs) h =
     let root : sum_by (λ (r : Path × ℕ). one [] (c.key ∷ r.0, r.1)) (entries c.graph) ≡ 1 =
-    (λ i. sum_by (λ (r : Path × ℕ). cond (one_key c.key r.0 i) 1 0) (entries c.graph)) ∙ stands_once c.graph [] h.0.root in
+    (λ i. sum_by (λ (r : Path × ℕ). cond (one_key c.key r.0 i) 1 0) (entries c.graph))
+    ∙ stands_once c.graph [] h.0.root in
     omega (arith, rows-cons (one []) c cs, root, roots cs h.1)
 
 -- The root of a node has the children of the node.
-pub children_counted : (g : Graph) (n : ℕ) (cs : List Child) → g ≡ node n cs → AreChildren cs → children_at g [] ≡ length cs
+pub children_counted : (g : Graph) (n : ℕ) (cs : List Child) →
+    g ≡ node n cs → AreChildren cs → children_at g [] ≡ length cs
 children_counted g n cs whole h =
-    omega (arith, ap (λ (x : Graph). children_at x []) whole, ap (counted []) (entries-node n cs h.sorted), sum_by-cons (one []) ([], n) (rows_of cs), roots cs h.trees)
+    omega (
+      arith,
+      ap (λ (x : Graph). children_at x []) whole,
+      ap (counted []) (entries-node n cs h.sorted),
+      sum_by-cons (one []) ([], n) (rows_of cs),
+      roots cs h.trees,
+    )
 
 -- ---- the paths of a node
 -- The paths of a child with what f gives them, with some keys before its own.
@@ -91,7 +111,8 @@ child_weighed f ks c = behind (ks ++ c.key ∷ []) (weighed (λ p. f (c.key ∷ 
 weighed-under : (f : Path → ℕ) (ks : Path) (c : Child) (es : Sizes) →
     behind ks (weighed f (under_rows c.key es)) ≡ behind (ks ++ c.key ∷ []) (weighed (λ p. f (c.key ∷ p)) es)
 weighed-under f ks c [] = refl
-weighed-under f ks c (e ∷ es) = λ i. (sym (append_assoc ks (c.key ∷ []) e.0) i, f (c.key ∷ e.0)) ∷ weighed-under f ks c es i
+weighed-under f ks c (e ∷ es) =
+    λ i. (sym (append_assoc ks (c.key ∷ []) e.0) i, f (c.key ∷ e.0)) ∷ weighed-under f ks c es i
 
 weighed-rows : (f : Path → ℕ) (ks : Path) (cs : List Child) →
     behind ks (weighed f (rows_of cs)) ≡ flat_map (child_weighed f ks) cs
@@ -105,7 +126,8 @@ weighed-rows f ks (c ∷ cs) =
 pub node_weighed : (f : Path → ℕ) (ks : Path) (n : ℕ) (cs : List Child) (g : Graph) → g ≡ node n cs → AreChildren cs →
     behind ks (weighed f (entries g)) ≡ (ks, f []) ∷ flat_map (child_weighed f ks) cs
 node_weighed f ks n cs g whole h =
-    ap (λ (x : Graph). behind ks (weighed f (entries x))) whole ∙ ap (λ es. behind ks (weighed f es)) (entries-node n cs h.sorted)
+    ap (λ (x : Graph). behind ks (weighed f (entries x))) whole
+    ∙ ap (λ es. behind ks (weighed f es)) (entries-node n cs h.sorted)
     ∙ (λ i. (append-nil ks i, f []) ∷ weighed-rows f ks cs i)
 
 -- ---- growth
@@ -137,16 +159,19 @@ child_grew s o u n cs i d g ks whole h w at own_before whole_before =
   where
     sizes : (p : Path) → size_at g (d.key ∷ p) ≡ size_at d.graph p
     sizes p = ap (λ (x : Graph). size_at x (d.key ∷ p)) whole
-        ∙ ap (λ (m : Option ℕ). unwrap_or m 0) (get-under n cs d.key p h.sorted ∙ size_under-found d.key p cs i d h.sorted w (ap (λ (x : Child). x.key) (sym at)))
+        ∙ ap (λ (m : Option ℕ). unwrap_or m 0) (get-under n cs d.key p h.sorted
+        ∙ size_under-found d.key p cs i d h.sorted w (ap (λ (x : Child). x.key) (sym at)))
         ∙ ap (λ (x : Child). size_at x.graph p) (sym at)
 
     totals : (p : Path) → total_at g (d.key ∷ p) ≡ total_at d.graph p
     totals p = ap (λ (x : Graph). total_at x (d.key ∷ p)) whole
-        ∙ subst (λ (x : Child). total_at (node n cs) (x.key ∷ p) ≡ total_at x.graph p) (sym at) (total_at-child n cs i d p h.sorted w)
+        ∙ subst (λ (x : Child). total_at (node n cs) (x.key ∷ p)
+        ≡ total_at x.graph p) (sym at) (total_at-child n cs i d p h.sorted w)
 
     children : (p : Path) → children_at g (d.key ∷ p) ≡ children_at d.graph p
     children p = ap (λ (x : Graph). children_at x (d.key ∷ p)) whole
-        ∙ subst (λ (x : Child). children_at (node n cs) (x.key ∷ p) ≡ children_at x.graph p) (sym at) (children_at-child n cs i d p h.sorted w)
+        ∙ subst (λ (x : Child). children_at (node n cs) (x.key ∷ p)
+        ≡ children_at x.graph p) (sym at) (children_at-child n cs i d p h.sorted w)
 
     each : (p : Path) → growth_in s o g (d.key ∷ p) ≡ growth_in s u d.graph p
     each p = growth-same s o u g d.graph (d.key ∷ p) p (sizes p) (totals p) (children p) (own_before p) (whole_before p)

@@ -18,7 +18,8 @@ use Rattle.allocative_picture.specs.Views.{GuidesChild, TakesGuide}
 -- children that wait.
 pub record AreLeft (us vs waiting : List Child) : Type 0 where
   pub keys : keys_of vs ≡ keys_of us
-  pub each : (j : ℕ) (d : Child) → j < length us → (get_or vs j d ≡ get_or us j d) ⊎ AllAbove waiting (get_or us j d).key
+  pub each : (j : ℕ) (d : Child) → j < length us →
+      (get_or vs j d ≡ get_or us j d) ⊎ AllAbove waiting (get_or us j d).key
 
 -- At the start all guides are left.
 pub all_left : (us waiting : List Child) → AreLeft us us waiting
@@ -27,7 +28,12 @@ all_left us waiting = record { keys = refl; each = λ j d w. inl refl }
 -- The guides that are left are as many.
 same_length : (us vs : List Child) → keys_of vs ≡ keys_of us → length vs ≡ length us
 same_length us vs e =
-    omega (arith, ap (λ (ks : List Key). length ks) e, length-map us (λ (c : Child). c.key), length-map vs (λ (c : Child). c.key))
+    omega (
+      arith,
+      ap (λ (ks : List Key). length ks) e,
+      length-map us (λ (c : Child). c.key),
+      length-map vs (λ (c : Child). c.key),
+    )
 
 -- They have the same keys at each place.
 same_key : (us vs : List Child) (j : ℕ) (d : Child) → keys_of vs ≡ keys_of us → j < length us →
@@ -44,7 +50,8 @@ left_in_order us vs waiting h o = subst (λ (ks : List Key). IsStrictlySortedBy 
 not_below : (k : Key) → key_cmp k k ≡ Less → ⊥
 not_below k e = let tied = tied_itself nat_list_cmp_total k in cc
 
-module _ (g : Graph) (n : ℕ) (us : List Child) (whole : g ≡ node n us) (h : AreChildren us) (fits : total g < 2 ^ 64) where
+module _ (g : Graph) (n : ℕ) (us : List Child) (whole : g ≡ node n us)
+    (h : AreChildren us) (fits : total g < 2 ^ 64) where
   is_node : IsNode us (total_of us) n
   is_node = record { children = h; size = refl; fits = omega (arith, ap total whole, total-node n us h.sorted, fits) }
 
@@ -70,8 +77,10 @@ module _ (g : Graph) (n : ℕ) (us : List Child) (whole : g ≡ node n us) (h : 
         record {
           within = omega (arith, gap.within, many);
           between = (
-            λ j d low high. subst (λ k. key_cmp k c.key ≡ Less) (same_key us vs j d left.keys (omega (arith, gap.within, many, high))) (gap.between.0 j d low high),
-            λ j d low high. subst (λ k. key_cmp k c.key ≡ Greater) (same_key us vs j d left.keys high) (gap.between.1 j d low (omega (arith, many, high))),
+            λ j d low high. subst (λ k. key_cmp k c.key ≡ Less)
+                (same_key us vs j d left.keys (omega (arith, gap.within, many, high))) (gap.between.0 j d low high),
+            λ j d low high. subst (λ k. key_cmp k c.key ≡ Greater)
+                (same_key us vs j d left.keys high) (gap.between.1 j d low (omega (arith, many, high))),
           );
         }
 
@@ -79,21 +88,25 @@ module _ (g : Graph) (n : ℕ) (us : List Child) (whole : g ≡ node n us) (h : 
     untouched : (i : ℕ) (d : Child) → IsFound vs c.key i → get_or vs i d ≡ get_or us i d
     untouched i d f = is (left.each i d (found_there i f).within)
       where
-        is : (get_or vs i d ≡ get_or us i d) ⊎ AllAbove (c ∷ waiting) (get_or us i d).key → get_or vs i d ≡ get_or us i d
+        is : (get_or vs i d ≡ get_or us i d) ⊎ AllAbove (c ∷ waiting) (get_or us i d).key →
+            get_or vs i d ≡ get_or us i d
         is (inl e) = e
-        is (inr above) = absurd (not_below c.key (subst (λ k. key_cmp k c.key ≡ Less) ((found_there i f).same d) above.0))
+        is (inr above) =
+            absurd (not_below c.key (subst (λ k. key_cmp k c.key ≡ Less) ((found_there i f).same d) above.0))
 
     -- What is taken for a child guides it.
     pub guides-taken : TakesGuide vs c x ws → GuidesChild g c x
     guides-taken (inl (i, v, f, key, graph, e)) =
-        subst (GuidesChild g c) (ap (λ (u : Child). u.graph) (sym (untouched i c f)) ∙ graph c) (guides-found c i c (found_there i f))
+        subst (GuidesChild g c) (ap (λ (u : Child). u.graph) (sym (untouched i c f)) ∙ graph c)
+        (guides-found c i c (found_there i f))
     guides-taken (inr (i, gap, is, e)) = subst (GuidesChild g c) (sym is) (guides-missing c i (gap_there i gap))
 
     -- The others are left for the children that wait.
     pub left-taken : TakesGuide vs c x ws → AreLeft us ws waiting
     unfolding IsStrictlySortedBy
     left-taken (inl (i, v, f, key, graph, e)) =
-        let same : keys_of ws ≡ keys_of vs = ap keys_of e ∙ map-set_same (λ (u : Child). u.key) vs i v c (key ∙ sym (f.same c)) in
+        let same : keys_of ws ≡ keys_of vs = ap keys_of e
+        ∙ map-set_same (λ (u : Child). u.key) vs i v c (key ∙ sym (f.same c)) in
         record { keys = same ∙ left.keys; each = λ j d w. step j d w (cases_eq j i) (left.each j d w) }
       where
         step : (j : ℕ) (d : Child) → j < length us → (j ≡ i) ⊎ (j ≡ i → ⊥) →
@@ -101,7 +114,8 @@ module _ (g : Graph) (n : ℕ) (us : List Child) (whole : g ≡ node n us) (h : 
             (get_or ws j d ≡ get_or us j d) ⊎ AllAbove waiting (get_or us j d).key
         step j d w (inl at) m =
             inr (subst (AllAbove waiting) (sym (ap (λ m. (get_or us m d).key) at ∙ (found_there i f).same d)) o.0)
-        step j d w (inr other) (inl is) = inl (ap (λ (us : List Child). get_or us j d) e ∙ get_or-set_other vs i j v d other ∙ is)
+        step j d w (inr other) (inl is) =
+            inl (ap (λ (us : List Child). get_or us j d) e ∙ get_or-set_other vs i j v d other ∙ is)
         step j d w (inr other) (inr above) = inr above.1
     left-taken (inr (i, gap, is, e)) = record {
       keys = ap keys_of e ∙ left.keys;

@@ -35,7 +35,8 @@ Weighed = Path × ℕ
 -- ---- the order of a table
 -- The order of a table is total.
 weights_total : IsTotalOrder weight_cmp
-weights_total = then_total (back_total (on_total (λ (e : Weighed). e.1) nat_cmp_total)) (on_total (λ (e : Weighed). e.0) path_total)
+weights_total =
+    then_total (back_total (on_total (λ (e : Weighed). e.1) nat_cmp_total)) (on_total (λ (e : Weighed). e.0) path_total)
 
 weights : IsStrictWeakOrder (λ (e f : Weighed). is_lt (weight_cmp e f))
 weights = ranks_by weights_total (λ (e : Weighed). e)
@@ -88,10 +89,12 @@ kept_pushed n es kept kept' f some room same h = record {
       (IsPermutation-trans _ _ _ (IsPermutation-cons f es (kept ++ h.rest) h.same)
       (IsPermutation-append_left h.rest (f ∷ kept) kept' same));
   within = omega (arith, length_permutation (f ∷ kept) kept' same, room);
-  heavy = All-permutation (λ (e : Weighed). 0 < e.1) (f ∷ kept) kept' same (All-cons (λ (e : Weighed). 0 < e.1) f kept some h.heavy);
+  heavy = All-permutation (λ (e : Weighed). 0 < e.1)
+      (f ∷ kept) kept' same (All-cons (λ (e : Weighed). 0 < e.1) f kept some h.heavy);
   after = λ k d w. let g = get_or h.rest k d in
       All-permutation (λ (e : Weighed). IsNotAfter e g) (f ∷ kept) kept' same
-      (All-cons (λ (e : Weighed). IsNotAfter e g) f kept (not_after_empty f g some (h.empty room k d w)) (h.after k d w));
+      (All-cons (λ (e : Weighed). IsNotAfter e g) f kept
+      (not_after_empty f g some (h.empty room k d w)) (h.after k d w));
   empty = λ few. h.empty room;
 }
 
@@ -101,21 +104,26 @@ kept_replaced : (n : ℕ) (es kept less kept' : List Weighed) (m f : Weighed) �
     IsPermutation (f ∷ less) kept' → AreHeaviest n es kept → AreHeaviest n (es ++ f ∷ []) kept'
 kept_replaced n es kept less kept' m f full some split last before same h =
     let first : IsNotAfter f m = weights.one_way f m before in
-    let count : length kept' ≡ length kept = omega (arith, length_permutation (f ∷ less) kept' same, length_permutation kept (m ∷ less) split) in
-    let split_all : (P : Weighed → Type 0) → All P kept → All P (m ∷ less) = λ P a. All-permutation P kept (m ∷ less) split a in
+    let count : length kept' ≡ length kept =
+    omega (arith, length_permutation (f ∷ less) kept' same, length_permutation kept (m ∷ less) split) in
+    let split_all : (P : Weighed → Type 0) → All P kept → All P (m ∷ less) =
+    λ P a. All-permutation P kept (m ∷ less) split a in
     let made : (P : Weighed → Type 0) → P f → All P less → All P kept' =
     λ P p a. All-permutation P (f ∷ less) kept' same (All-cons P f less p a) in
     record {
       rest = m ∷ h.rest;
       same = IsPermutation-trans _ _ _ (IsPermutation-to_front es f)
           (IsPermutation-trans _ _ _ (IsPermutation-cons f es (kept ++ h.rest) h.same)
-          (IsPermutation-trans _ _ _ (IsPermutation-cons f (kept ++ h.rest) ((m ∷ less) ++ h.rest) (IsPermutation-append_left h.rest kept (m ∷ less) split))
+          (IsPermutation-trans _ _ _ (IsPermutation-cons f
+          (kept ++ h.rest) ((m ∷ less) ++ h.rest) (IsPermutation-append_left h.rest kept (m ∷ less) split))
           (IsPermutation-trans _ _ _ (IsPermutation-middle (f ∷ []) m (less ++ h.rest))
           (IsPermutation-trans _ _ _ (IsPermutation-sym _ _ (IsPermutation-middle (f ∷ less) m h.rest))
           (IsPermutation-append_left (m ∷ h.rest) (f ∷ less) kept' same)))));
       within = omega (arith, count, h.within);
-      heavy = made (λ (e : Weighed). 0 < e.1) some (All-tail (λ (e : Weighed). 0 < e.1) m less (split_all (λ (e : Weighed). 0 < e.1) h.heavy));
-      after = All-cons (λ (g : Weighed). All (λ (e : Weighed). IsNotAfter e g) kept') m h.rest (made (λ (e : Weighed). IsNotAfter e m) first last)
+      heavy = made (λ (e : Weighed). 0 < e.1) some (All-tail
+          (λ (e : Weighed). 0 < e.1) m less (split_all (λ (e : Weighed). 0 < e.1) h.heavy));
+      after = All-cons (λ (g : Weighed). All
+          (λ (e : Weighed). IsNotAfter e g) kept') m h.rest (made (λ (e : Weighed). IsNotAfter e m) first last)
           (λ k d w. let g = get_or h.rest k d in let P : Weighed → Type 0 = λ e. IsNotAfter e g in
           let all = split_all P (h.after k d w) in
           made P (not_after f m g first (All-head P m less all)) (All-tail P m less all));
@@ -142,11 +150,13 @@ keeps_full n f heap full after es k = record {
 
 -- If the last path of a heap does not come after f, none does.
 pub none_after : (heap : BinaryHeap Heavy Global) (last : Heavy) (f : Weighed) →
-    IsUpperBound heavy_cmp last (heap_items heap) → IsNotAfter (weight_of last) f → All (λ e. IsNotAfter e f) (weights_of heap)
+    IsUpperBound heavy_cmp last (heap_items heap) →
+    IsNotAfter (weight_of last) f → All (λ e. IsNotAfter e f) (weights_of heap)
 none_after heap last f bound later =
     All-map (λ (e : Weighed). IsNotAfter e f) weight_of (heap_items heap)
     (All-weaker (λ (x : Heavy). is_lt (heavy_cmp last x) ≡ false) (λ (x : Heavy). IsNotAfter (weight_of x) f)
-    (λ x u. not_after (weight_of x) (weight_of last) f (ap is_lt (sym (heavy_cmp-weights last x)) ∙ u) later) (heap_items heap)
+    (λ x u. not_after (weight_of x) (weight_of last) f (ap is_lt (sym (heavy_cmp-weights last x)) ∙ u) later)
+    (heap_items heap)
     (All-from_recursion (λ (x : Heavy). is_lt (heavy_cmp last x) ≡ false) (heap_items heap) bound))
 
 -- If there is no room, a path that comes before the last replaces it.
@@ -185,7 +195,8 @@ pub keeps_pushed : (n : ℕ) (f : Weighed) (old new : BinaryHeap Heavy Global) �
     IsPushed f old new → Keeps n (f ∷ []) old new
 keeps_pushed n f old new some room pushed es k = record {
   ordered = pushed.order k.ordered;
-  heaviest = kept_pushed n es (weights_of old) (weights_of new) f some (omega (arith, length-map (heap_items old) weight_of, room)) pushed.items k.heaviest;
+  heaviest = kept_pushed n es (weights_of old) (weights_of new) f some
+      (omega (arith, length-map (heap_items old) weight_of, room)) pushed.items k.heaviest;
 }
 
 -- ---- the paths of a graph
@@ -194,7 +205,8 @@ abbrev pub child_weights : Path → Child → List Weighed
 child_weights ks c = behind (ks ++ c.key ∷ []) (entries c.graph)
 
 -- Putting a key before the paths is adding it at the end of the keys before them.
-behind-under : (ks : Path) (c : Child) (es : List Weighed) → behind ks (under_rows c.key es) ≡ behind (ks ++ c.key ∷ []) es
+behind-under : (ks : Path) (c : Child) (es : List Weighed) →
+    behind ks (under_rows c.key es) ≡ behind (ks ++ c.key ∷ []) es
 behind-under ks c [] = refl
 behind-under ks c (e ∷ es) = λ i. (sym (append_assoc ks (c.key ∷ []) e.0) i, e.1) ∷ behind-under ks c es i
 
@@ -218,7 +230,8 @@ behind-none (e ∷ es) = ap (λ (xs : List Weighed). e ∷ xs) (behind-none es)
 -- Two steps that keep the heaviest are one.
 pub keeps_then : (n : ℕ) (a b : List Weighed) (x y z : BinaryHeap Heavy Global) → Keeps n a x y → Keeps n b y z →
     Keeps n (a ++ b) x z
-keeps_then n a b x y z k l es h = subst (λ (fs : List Weighed). IsKept n fs z) (append_assoc es a b) (l (es ++ a) (k es h))
+keeps_then n a b x y z k l es h =
+    subst (λ (fs : List Weighed). IsKept n fs z) (append_assoc es a b) (l (es ++ a) (k es h))
 
 -- ---- all paths in the order of a table
 pairs_head : (e : Weighed) (es : List Weighed) → AllPairs IsNotAfter (e ∷ es) → All (IsNotAfter e) es
@@ -237,7 +250,8 @@ unfolding put_in
 put_in-same e [] = IsPermutation-refl _
 put_in-same e (f ∷ fs) =
     on_test (λ b. IsPermutation (e ∷ f ∷ fs) (cond b (f ∷ put_in e fs) (e ∷ f ∷ fs))) (is_lt (weight_cmp f e))
-    (λ _. IsPermutation-trans _ _ _ (IsPermutation-middle (e ∷ []) f fs) (IsPermutation-cons f (e ∷ fs) (put_in e fs) (put_in-same e fs)))
+    (λ _. IsPermutation-trans _ _ _ (IsPermutation-middle (e ∷ []) f fs)
+    (IsPermutation-cons f (e ∷ fs) (put_in e fs) (put_in-same e fs)))
     (λ _. IsPermutation-refl _)
 
 put_in-falls : (e : Weighed) (fs : List Weighed) → AllPairs IsNotAfter fs → AllPairs IsNotAfter (put_in e fs)
@@ -260,7 +274,8 @@ in_order (e ∷ es) = put_in e (in_order es)
 in_order-same : (es : List Weighed) → IsPermutation es (in_order es)
 unfolding in_order
 in_order-same [] = IsPermutation-refl _
-in_order-same (e ∷ es) = IsPermutation-trans _ _ _ (IsPermutation-cons e es (in_order es) (in_order-same es)) (put_in-same e (in_order es))
+in_order-same (e ∷ es) =
+    IsPermutation-trans _ _ _ (IsPermutation-cons e es (in_order es) (in_order-same es)) (put_in-same e (in_order es))
 
 in_order-falls : (es : List Weighed) → AllPairs IsNotAfter (in_order es)
 unfolding in_order
@@ -272,8 +287,10 @@ pairs-append : (es fs : List Weighed) → AllPairs IsNotAfter es → AllPairs Is
     All (λ f. All (λ e. IsNotAfter e f) es) fs → AllPairs IsNotAfter (es ++ fs)
 pairs-append [] fs a b c = b
 pairs-append (e ∷ es) fs a b c = AllPairs-cons IsNotAfter e (es ++ fs)
-    (All-append (IsNotAfter e) es fs (pairs_head e es a) (λ k d w. All-head (λ (x : Weighed). IsNotAfter x (get_or fs k d)) e es (c k d w)))
-    (pairs-append es fs (pairs_tail e es a) b (λ k d w. All-tail (λ (x : Weighed). IsNotAfter x (get_or fs k d)) e es (c k d w)))
+    (All-append (IsNotAfter e) es fs (pairs_head e es a)
+    (λ k d w. All-head (λ (x : Weighed). IsNotAfter x (get_or fs k d)) e es (c k d w)))
+    (pairs-append es fs (pairs_tail e es a) b
+    (λ k d w. All-tail (λ (x : Weighed). IsNotAfter x (get_or fs k d)) e es (c k d w)))
 
 -- Whether a path has bytes.
 abbrev has_bytes : Weighed → Bool
@@ -309,15 +326,19 @@ top_of_heaviest n es kept sorted h same falls =
     let more = n - length sorted in
     let sum : length sorted + more ≡ n = omega (arith, count, h.within) in
     let empty : All (λ (e : Weighed). e.1 ≡ 0) (take more rest) = take_empty more rest
-    (λ some. All-permutation (λ (e : Weighed). e.1 ≡ 0) h.rest rest (in_order-same h.rest) (h.empty (omega (arith, some, count)))) in
+    (λ some. All-permutation (λ (e : Weighed). e.1 ≡ 0) h.rest rest
+    (in_order-same h.rest) (h.empty (omega (arith, some, count)))) in
     let heavy = All-permutation (λ (e : Weighed). 0 < e.1) kept sorted same h.heavy in
     record {
       rows = sorted ++ rest;
-      same = IsPermutation-trans _ _ _ h.same (IsPermutation-trans _ _ _ (IsPermutation-append_left h.rest kept sorted same)
+      same = IsPermutation-trans _ _ _ h.same (IsPermutation-trans
+          _ _ _ (IsPermutation-append_left h.rest kept sorted same)
           (IsPermutation-append_right sorted h.rest rest (in_order-same h.rest)));
       falling = pairs-append sorted rest falls (in_order-falls h.rest)
-          (All-permutation (λ (f : Weighed). All (λ (e : Weighed). IsNotAfter e f) sorted) h.rest rest (in_order-same h.rest)
-          (λ k d w. All-permutation (λ (e : Weighed). IsNotAfter e (get_or h.rest k d)) kept sorted same (h.after k d w)));
+          (All-permutation (λ (f : Weighed). All (λ (e : Weighed). IsNotAfter e f) sorted) h.rest rest
+          (in_order-same h.rest)
+          (λ k d w. All-permutation (λ (e : Weighed). IsNotAfter e (get_or h.rest k d)) kept sorted same
+          (h.after k d w)));
       is = sym (ap (λ m. filter has_bytes (take m (sorted ++ rest))) (sym sum)
           ∙ ap (filter has_bytes) (take-append-add sorted rest more)
           ∙ filter-append has_bytes sorted (take more rest)
@@ -332,4 +353,5 @@ falls (r ∷ rs) s i j d before within =
     let short : j < length (r ∷ rs) = omega (arith, within, length-map (r ∷ rs) weight_of) in
     rw (get_or-map weight_of (r ∷ rs) i r d (omega arith), get_or-map weight_of (r ∷ rs) j r d short)
     (sorted_far (λ x y. is_lt (weight_cmp (weight_of x) (weight_of y))) (ranks_by weights_total weight_of) (r ∷ rs)
-    (λ k e low high. ap is_lt (sym (heavy_cmp-weights (get_or (r ∷ rs) (k + 1) e) (get_or (r ∷ rs) k e))) ∙ s k e low high) i j r (omega arith) short)
+    (λ k e low high. ap is_lt (sym (heavy_cmp-weights (get_or (r ∷ rs) (k + 1) e) (get_or (r ∷ rs) k e)))
+    ∙ s k e low high) i j r (omega arith) short)

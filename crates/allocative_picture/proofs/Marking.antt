@@ -52,7 +52,8 @@ none_counted (w ∷ ws) p = rw (sum_by-cons (count_at p) w ws, (eq_by_cmp_equiv 
     (grind (arith, none_counted ws p))
 
 -- The graph of some warnings marks a path that has one of them, and no other.
-pub mark_warned : (ws : List WarnedPath) (p : Path) → mark_by marks.Warned (bytes_at ws) p ≡ warned_mark (map warning_of ws) p
+pub mark_warned : (ws : List WarnedPath) (p : Path) →
+    mark_by marks.Warned (bytes_at ws) p ≡ warned_mark (map warning_of ws) p
 unfolding is_warned
 mark_warned ws p =
     let each : sum_by (λ w. size_at (byte_at w) p) ws ≡ sum_by (count_at p) ws =

@@ -25,7 +25,12 @@ total-reversed_onto h [] = omega arith
 total-reversed_onto h (e ∷ es) =
     let sum : total (cond (e.1 == 0) h (sum_of h (graph_of_path (reverse e.0) e.1))) ≡ total h + e.1 =
     grind (arith, nat_tests, total-sum_of h (graph_of_path (reverse e.0) e.1), total-path (reverse e.0) e.1) in
-    omega (arith, sum, total-reversed_onto (cond (e.1 == 0) h (sum_of h (graph_of_path (reverse e.0) e.1))) es, sum_by-cons (λ (x : Path × ℕ). x.1) e es)
+    omega (
+      arith,
+      sum,
+      total-reversed_onto (cond (e.1 == 0) h (sum_of h (graph_of_path (reverse e.0) e.1))) es,
+      sum_by-cons (λ (x : Path × ℕ). x.1) e es,
+    )
 
 -- Reversing keeps the total.
 pub total-reversed : (g : Graph) → total (reversed g) ≡ total g
@@ -49,7 +54,8 @@ size_at-reversed_onto h (e ∷ es) p =
 same-reverse : (p q : Path) → is_same_path p (reverse q) ≡ is_same_path (reverse p) q
 same-reverse p q = both_ways _ _
     (λ e. ap (λ r. is_same_path r q) (ap reverse (same_path p (reverse q) e) ∙ reverse-reverse q) ∙ same_path_itself q)
-    (λ e. ap (λ r. is_same_path p (reverse r)) (sym (same_path (reverse p) q e)) ∙ ap (is_same_path p) (reverse-reverse p) ∙ same_path_itself p)
+    (λ e. ap (λ r. is_same_path p (reverse r)) (sym (same_path (reverse p) q e))
+    ∙ ap (is_same_path p) (reverse-reverse p) ∙ same_path_itself p)
 
 -- Of rows in order, those of one path have the bytes that are found there.
 pub bytes_at-found : (q : Path) (es : Sizes) → T (is_sorted path_cmp es) →
@@ -65,15 +71,24 @@ pub size_at-reversed : (g : Graph) (p : Path) → size_at (reversed g) p ≡ siz
 size_at-reversed g p =
     let each : sum_by (added_at p) (entries g) ≡ sum_by (λ e. cond (is_same_path (reverse p) e.0) e.1 0) (entries g) =
     λ i. sum_by (λ (e : Path × ℕ). cond (same-reverse p e.0 i) e.1 0) (entries g) in
-    omega (arith, size_at-reversed_onto default (entries g) p, size_at-default p, each, bytes_at-found (reverse p) (entries g) (entries_sorted g), ap (λ o. unwrap_or o 0) (get-entries g (reverse p)))
+    omega (
+      arith,
+      size_at-reversed_onto default (entries g) p,
+      size_at-default p,
+      each,
+      bytes_at-found (reverse p) (entries g) (entries_sorted g),
+      ap (λ o. unwrap_or o 0) (get-entries g (reverse p)),
+    )
 
 -- Reversing twice gives each path its bytes back.
 pub reversed_twice : (g : Graph) (p : Path) → size_at (reversed (reversed g)) p ≡ size_at g p
-reversed_twice g p = size_at-reversed (reversed g) p ∙ size_at-reversed g (reverse p) ∙ ap (size_at g) (reverse-reverse p)
+reversed_twice g p = size_at-reversed (reversed g) p
+    ∙ size_at-reversed g (reverse p) ∙ ap (size_at g) (reverse-reverse p)
 
 -- ---- the steps of the code
 -- The bytes of paths are added one list after the other.
-pub reversed_onto-append : (h : Graph) (es fs : Sizes) → reversed_onto h (es ++ fs) ≡ reversed_onto (reversed_onto h es) fs
+pub reversed_onto-append : (h : Graph) (es fs : Sizes) →
+    reversed_onto h (es ++ fs) ≡ reversed_onto (reversed_onto h es) fs
 reversed_onto-append h es fs =
     fold-append (λ (x : Graph) (e : Path × ℕ). cond (e.1 == 0) x (sum_of x (graph_of_path (reverse e.0) e.1))) h es fs
 
@@ -84,10 +99,12 @@ onto_default p n = sum_of-commutes default (graph_of_path p n) ∙ sum_of-defaul
 -- One key more is put before the keys that came before it.
 pub reversed_more : (ks : List (Bor (List ℕ))) (i : ℕ) (d : Bor (List ℕ)) (k : Key) (n : ℕ) → i < length ks →
     k ≡ (get_or ks i d).now →
-    sum_of default (under k (graph_of_path (reverse (texts (take i ks))) n)) ≡ graph_of_path (reverse (texts (take (i + 1) ks))) n
+    sum_of default (under k (graph_of_path (reverse (texts (take i ks))) n))
+    ≡ graph_of_path (reverse (texts (take (i + 1) ks))) n
 reversed_more ks i d k n within at =
     onto_default (k ∷ reverse (texts (take i ks))) n
-    ∙ ap (λ (p : Path). graph_of_path p n) (sym (ap reverse (ap texts (take_more ks i d within) ∙ map-append (λ (x : Bor (List ℕ)). x.now) (take i ks) (get_or ks i d ∷ [])
+    ∙ ap (λ (p : Path). graph_of_path p n) (sym (ap reverse
+    (ap texts (take_more ks i d within) ∙ map-append (λ (x : Bor (List ℕ)). x.now) (take i ks) (get_or ks i d ∷ [])
     ∙ ap (λ (x : Key). texts (take i ks) ++ x ∷ []) (sym at)) ∙ reverse-append (texts (take i ks)) (k ∷ [])))
 
 not_zero : (n : ℕ) → 0 < n → false ≡ (n == 0)
@@ -104,7 +121,8 @@ one_reversed h p k n some =
 pub reversed-node : (g : Graph) (n : ℕ) (cs : List Child) → g ≡ node n cs → AreChildren cs →
     reversed_onto (bytes_alone n) (rows_of cs) ≡ reversed g
 reversed-node g n cs whole h =
-    ap (λ (x : Graph). reversed_onto x (rows_of cs)) (root n) ∙ ap (reversed_onto default) (sym (entries-node n cs h.sorted))
+    ap (λ (x : Graph). reversed_onto x (rows_of cs)) (root n)
+    ∙ ap (reversed_onto default) (sym (entries-node n cs h.sorted))
     ∙ ap reversed (sym whole)
   where
     root : (n : ℕ) → bytes_alone n ≡ cond (n == 0) default (sum_of default (graph_of_path [] n))

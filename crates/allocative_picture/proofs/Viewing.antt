@@ -35,7 +35,12 @@ pub total-by_last_key : (g : Graph) → total (by_last_key g) ≡ total g
 total-by_last_key g =
     let each : sum_by (λ (e : Path × ℕ). total (graph_of_path (last_of e.0) e.1)) (entries g) ≡ total g =
     λ i. sum_by (λ (e : Path × ℕ). total-path (last_of e.0) e.1 i) (entries g) in
-    omega (arith, total-added_up (λ (e : Path × ℕ). graph_of_path (last_of e.0) e.1) default (entries g), total-default, each)
+    omega (
+      arith,
+      total-added_up (λ (e : Path × ℕ). graph_of_path (last_of e.0) e.1) default (entries g),
+      total-default,
+      each,
+    )
 
 -- The graphs of some children add up in any order, and two may be added first.
 pub joined_turned : (a b c : Child) (rest : List Child) → c.graph ≡ sum_of a.graph b.graph →
@@ -45,12 +50,29 @@ joined_turned a b c rest e = same_graph (joined (rest ++ c ∷ [])) (joined (a �
     sizes : (p : Path) → size_at (joined (rest ++ c ∷ [])) p ≡ size_at (joined (a ∷ b ∷ rest)) p
     sizes p =
         let f : Child → ℕ = λ x. size_at x.graph p in
-        omega (arith, size_at-added_up (λ (x : Child). x.graph) default (rest ++ c ∷ []) p, size_at-added_up (λ (x : Child). x.graph) default (a ∷ b ∷ rest) p, sum_by-append f rest (c ∷ []), sum_by-cons f c [], sum_by-cons f a (b ∷ rest), sum_by-cons f b rest, ap (λ (g : Graph). size_at g p) e, size_at-sum_of a.graph b.graph p)
+        omega (
+          arith,
+          size_at-added_up (λ (x : Child). x.graph) default (rest ++ c ∷ []) p,
+          size_at-added_up (λ (x : Child). x.graph) default (a ∷ b ∷ rest) p,
+          sum_by-append f rest (c ∷ []),
+          sum_by-cons f c [],
+          sum_by-cons f a (b ∷ rest),
+          sum_by-cons f b rest,
+          ap (λ (g : Graph). size_at g p) e,
+          size_at-sum_of a.graph b.graph p,
+        )
 
     paths : (p : Path) → contains_key (joined (rest ++ c ∷ [])) p ≡ contains_key (joined (a ∷ b ∷ rest)) p
     paths p =
         let f : Child → Bool = λ x. contains_key x.graph p in
-        grind (arith, has-added_up (λ (x : Child). x.graph) default (rest ++ c ∷ []) p, has-added_up (λ (x : Child). x.graph) default (a ∷ b ∷ rest) p, list_any-append f rest (c ∷ []), ap (λ (g : Graph). contains_key g p) e, has-sum_of a.graph b.graph p)
+        grind (
+          arith,
+          has-added_up (λ (x : Child). x.graph) default (rest ++ c ∷ []) p,
+          has-added_up (λ (x : Child). x.graph) default (a ∷ b ∷ rest) p,
+          list_any-append f rest (c ∷ []),
+          ap (λ (g : Graph). contains_key g p) e,
+          has-sum_of a.graph b.graph p,
+        )
 
 -- One graph alone is that graph.
 pub joined_one : (c : Child) → IsTree c.graph → joined (c ∷ []) ≡ c.graph
@@ -78,16 +100,33 @@ pub total-outline : (l n : ℕ) (u g h : Graph) → IsOutline l n u g h → tota
 unfolding IsOutline
 total-outline zero n u g h e = ap total e ∙ total-path [] (total g)
 total-outline (suc l) n u g h (us, cs, a, b, inl (more, o, sub, e)) =
-    omega (arith, ap total e, total-sum_of (bytes_alone (size_at g [])) (under (codes "{}") o), total-path [] (size_at g []), total-under (codes "{}") o, total-outline l n (joined us) (joined cs) o sub, total-joined cs, total-children g cs b)
+    omega (
+      arith,
+      ap total e,
+      total-sum_of (bytes_alone (size_at g [])) (under (codes "{}") o),
+      total-path [] (size_at g []),
+      total-under (codes "{}") o,
+      total-outline l n (joined us) (joined cs) o sub,
+      total-joined cs,
+      total-children g cs b,
+    )
 total-outline (suc l) n u g h (us, cs, a, b, inr (few, ds, step, e)) =
     let R : Child → Graph → Type 0 = λ c o. (x : Graph) × GuidesChild u c x × IsOutline l n x c.graph o in
-    omega (arith, ap total e, total-all (bytes_alone (size_at g [])) ds, total-path [] (size_at g []), total-step R (λ c o of. total-outline l n of.0 c.graph o of.2) cs ds step, total-children g cs b)
+    omega (
+      arith,
+      ap total e,
+      total-all (bytes_alone (size_at g [])) ds,
+      total-path [] (size_at g []),
+      total-step R (λ c o of. total-outline l n of.0 c.graph o of.2) cs ds step,
+      total-children g cs b,
+    )
 
 -- ---- the steps of the code
 -- Bytes are added by last key one list after the other.
 pub by_last_keys-append : (h : Graph) (es fs : List (Path × ℕ)) →
     by_last_keys h (es ++ fs) ≡ by_last_keys (by_last_keys h es) fs
-by_last_keys-append h es fs = fold-append (λ (x : Graph) (e : Path × ℕ). sum_of x (graph_of_path (last_of e.0) e.1)) h es fs
+by_last_keys-append h es fs =
+    fold-append (λ (x : Graph) (e : Path × ℕ). sum_of x (graph_of_path (last_of e.0) e.1)) h es fs
 
 -- A key before a path that has one does not change its last key.
 last-under : (k l : Key) (p : Path) → last_of (k ∷ l ∷ p) ≡ last_of (l ∷ p)
@@ -114,7 +153,8 @@ rows-under k h (c ∷ cs) =
 pub by_last_key-node : (g : Graph) (n : ℕ) (cs : List Child) → g ≡ node n cs → AreChildren cs →
     by_last_keys (bytes_alone n) (rows_of cs) ≡ by_last_key g
 by_last_key-node g n cs whole h =
-    ap (λ (x : Graph). by_last_keys x (rows_of cs)) (sym (sum_of-commutes default (bytes_alone n) ∙ sum_of-default (bytes_alone n) (tree-path [] n)))
+    ap (λ (x : Graph). by_last_keys x (rows_of cs))
+    (sym (sum_of-commutes default (bytes_alone n) ∙ sum_of-default (bytes_alone n) (tree-path [] n)))
     ∙ ap (by_last_keys default) (sym (entries-node n cs h.sorted)) ∙ ap by_last_key (sym whole)
 
 -- One child more is added.
@@ -133,17 +173,26 @@ same-last k (l ∷ m ∷ p) = let e : length (l ∷ m ∷ p) - 1 ≡ suc (length
 -- By last key, a key has the bytes of all paths that end in it.
 pub size_at-by_last_key : (g : Graph) (k : Key) → size_at (by_last_key g) (k ∷ []) ≡ bytes_ending_in k g
 size_at-by_last_key g k =
-    let each : sum_by (λ (e : Path × ℕ). size_at (graph_of_path (last_of e.0) e.1) (k ∷ [])) (entries g) ≡ bytes_ending_in k g =
-    λ i. sum_by (λ (e : Path × ℕ). (size_at-path (last_of e.0) e.1 (k ∷ []) ∙ ap (λ b. cond b e.1 0) (same-last k e.0)) i) (entries g) in
-    omega (arith, size_at-added_up (λ (e : Path × ℕ). graph_of_path (last_of e.0) e.1) default (entries g) (k ∷ []), size_at-default (k ∷ []), each)
+    let each : sum_by (λ (e : Path × ℕ). size_at (graph_of_path (last_of e.0) e.1) (k ∷ [])) (entries g)
+    ≡ bytes_ending_in k g =
+    λ i. sum_by (λ (e : Path × ℕ).
+    (size_at-path (last_of e.0) e.1 (k ∷ []) ∙ ap (λ b. cond b e.1 0) (same-last k e.0)) i) (entries g) in
+    omega (
+      arith,
+      size_at-added_up (λ (e : Path × ℕ). graph_of_path (last_of e.0) e.1) default (entries g) (k ∷ []),
+      size_at-default (k ∷ []),
+      each,
+    )
 
 -- ---- a graph as the sum of its children
 -- Of two values, the second is missing if the first is taken.
 pick : (t : Bool) (x y : Option ℕ) → (t ≡ true → y ≡ None) →
     (unwrap_or (cond t x None) 0 + unwrap_or y 0 ≡ unwrap_or (cond t x y) 0)
     × ((is_some (cond t x None) || is_some y) ≡ is_some (cond t x y))
-pick true x y h =
-    (omega (arith, ap (λ (o : Option ℕ). unwrap_or o 0) (h refl)), ap (λ (o : Option ℕ). is_some x || is_some o) (h refl) ∙ or-false (is_some x))
+pick true x y h = (
+  omega (arith, ap (λ (o : Option ℕ). unwrap_or o 0) (h refl)),
+  ap (λ (o : Option ℕ). is_some x || is_some o) (h refl) ∙ or-false (is_some x),
+)
 pick false x y h = (omega arith, refl)
 
 -- The sum of nothing is 0.
@@ -162,7 +211,13 @@ children_at (c ∷ cs) k p o =
     let t = eq_by_cmp key_cmp k c.key in
     let both = pick t (get c.graph p) (size_under cs k p) (λ e. none_above k c.key p cs e o.0) in
     let here : get (under c.key c.graph) (k ∷ p) ≡ cond t (get c.graph p) None = get-under c.key c.graph k p in (
-      omega (arith, sum_by-cons (λ (d : Child). size_at (under d.key d.graph) (k ∷ p)) c cs, rest.0, both.0, ap (λ (x : Option ℕ). unwrap_or x 0) here),
+      omega (
+        arith,
+        sum_by-cons (λ (d : Child). size_at (under d.key d.graph) (k ∷ p)) c cs,
+        rest.0,
+        both.0,
+        ap (λ (x : Option ℕ). unwrap_or x 0) here,
+      ),
       (λ i. is_some (here i) || rest.1 i) ∙ both.1,
     )
 
@@ -183,11 +238,25 @@ sum_of_children n cs h = same_graph _ _ sizes paths
     alone k p = ap (λ (g : Graph). get g (k ∷ p)) (sym (node_leaf n)) ∙ get-below n [] k p no_children.sorted
 
     sizes : (p : Path) → size_at (sum_of_all (bytes_alone n) cs) p ≡ size_at (node n cs) p
-    sizes [] = omega (arith, size_at-added_up made (bytes_alone n) cs [], sum_by-none (λ (c : Child). size_at (made c) []) none cs, ap (λ (o : Option ℕ). unwrap_or o 0) own, ap (λ (o : Option ℕ). unwrap_or o 0) (get-root n cs h.sorted))
-    sizes (k ∷ p) = omega (arith, size_at-added_up made (bytes_alone n) cs (k ∷ p), (children_at cs k p h.sorted).0, ap (λ (o : Option ℕ). unwrap_or o 0) (alone k p), ap (λ (o : Option ℕ). unwrap_or o 0) (get-below n cs k p h.sorted))
+    sizes [] = omega (
+      arith,
+      size_at-added_up made (bytes_alone n) cs [],
+      sum_by-none (λ (c : Child). size_at (made c) []) none cs,
+      ap (λ (o : Option ℕ). unwrap_or o 0) own,
+      ap (λ (o : Option ℕ). unwrap_or o 0) (get-root n cs h.sorted),
+    )
+    sizes (k ∷ p) = omega (
+      arith,
+      size_at-added_up made (bytes_alone n) cs (k ∷ p),
+      (children_at cs k p h.sorted).0,
+      ap (λ (o : Option ℕ). unwrap_or o 0) (alone k p),
+      ap (λ (o : Option ℕ). unwrap_or o 0) (get-below n cs k p h.sorted),
+    )
 
     paths : (p : Path) → contains_key (sum_of_all (bytes_alone n) cs) p ≡ contains_key (node n cs) p
-    paths [] = has-added_up made (bytes_alone n) cs [] ∙ (λ i. is_some (own i) || list_any (λ (c : Child). contains_key (made c) []) cs)
+    paths [] = has-added_up made (bytes_alone n) cs []
+        ∙ (λ i. is_some (own i) || list_any (λ (c : Child). contains_key (made c) []) cs)
         ∙ ap is_some (sym (get-root n cs h.sorted))
-    paths (k ∷ p) = has-added_up made (bytes_alone n) cs (k ∷ p) ∙ (λ i. is_some (alone k p i) || (children_at cs k p h.sorted).1 i)
+    paths (k ∷ p) = has-added_up made (bytes_alone n) cs (k ∷ p)
+        ∙ (λ i. is_some (alone k p i) || (children_at cs k p h.sorted).1 i)
         ∙ ap is_some (sym (get-below n cs k p h.sorted))

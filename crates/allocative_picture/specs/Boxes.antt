@@ -159,7 +159,8 @@ figure_text unit (Changed before) r = change_text unit before (r.whole - before)
 unfoldable pub declared_text : List ℕ → ℕ → FrameData → List ℕ
 declared_text unit u r =
     concat (full_text unit r.whole ∷ codes ", " ∷ percent_text u
-    ∷ cond (r.own == r.whole) (codes "% of all") (codes "% of all\n" ++ full_text unit r.own ++ codes " of its own") ∷ [])
+    ∷ cond (r.own == r.whole) (codes "% of all") (codes "% of all\n" ++ full_text unit r.own ++ codes " of its own")
+    ∷ [])
 
 -- The amounts of a path in the earlier profile and in the later one, also in full.
 unfoldable pub both_text : List ℕ → ℕ → ℕ → List ℕ
@@ -190,5 +191,6 @@ element unit all r =
     viewport all r
     ++ concat (codes "<title>" ∷ escaped r.key ∷ codes "\n" ∷ title_text unit (edge all r.whole) r.mark r
     ∷ codes "</title><rect width=\"100%\" height=\"100%\" rx=\"2\"" ∷ paint_text r.mark r
-    ∷ codes "/><text x=\"4\" y=\"13\">" ∷ escaped r.key ∷ codes "<tspan class=\"n\" dx=\"8\">" ∷ figure_text unit r.mark r
+    ∷ codes "/><text x=\"4\" y=\"13\">" ∷ escaped r.key
+    ∷ codes "<tspan class=\"n\" dx=\"8\">" ∷ figure_text unit r.mark r
     ∷ codes "</tspan></text></svg>\n" ∷ [])

@@ -26,7 +26,8 @@ pub record FrameData : Type 0 where
 
 -- What a `Frame` of the code shows.
 abbrev pub frame_data : Frame → FrameData
-frame_data r = record { depth = r.depth; key = r.key.now; own = r.own; whole = r.whole; before = r.before; mark = r.mark }
+frame_data r =
+    record { depth = r.depth; key = r.key.now; own = r.own; whole = r.whole; before = r.before; mark = r.mark }
 
 -- The key that a picture shows for a path: the last one, and `all` for the root.
 abbrev pub shown_key : Path → Key
@@ -49,7 +50,8 @@ before_at o g p = before_in o (total_at g) (entries g) p
 
 -- The frame of an entry of g, if M gives the mark of each path, and children are drawn in an order.
 abbrev pub frame_of : Order → (Path → Mark) → Graph → Path × ℕ → FrameData
-frame_of o M g e = frame_from M (before_at o g e.0) (record { path = e.0; self_size = e.1; total_size = total_at g e.0 })
+frame_of o M g e =
+    frame_from M (before_at o g e.0) (record { path = e.0; self_size = e.1; total_size = total_at g e.0 })
 
 -- The frames of g: one for each path, in the order of paths. Each begins where the order of children places it.
 unfoldable pub frames_of : Order → (Path → Mark) → Graph → List FrameData

@@ -44,7 +44,8 @@ ShareLaw = (all : ℕ) (r : FrameData) → 0 < all → IsShare all r
 -- No box extends past the right edge of the picture.
 abbrev pub WithinLaw : Type 0
 WithinLaw =
-    (o : Order) (M : Path → Mark) (g : Graph) (p : Path) → 0 < total g → right_edge (total g) (frame_at o M g p) ≤ 1000000
+    (o : Order) (M : Path → Mark) (g : Graph) (p : Path) →
+    0 < total g → right_edge (total g) (frame_at o M g p) ≤ 1000000
 
 -- The boxes of some frames, one after another: the element of a frame, or no text if it has none.
 abbrev pub boxes : ℕ → List ℕ → ℕ → List FrameData → List ℕ

@@ -72,7 +72,8 @@ unfoldable pub drawing_of : Subject → Options → List FrameData → ℕ → L
 drawing_of s o ws n =
     opening (bottom ws + 8 + 16 * length o.warned.now + (legend_of s).1) (escaped o.title.now)
     ++ heading (escaped o.title.now) (escaped o.unit.now) s (length ws) n ++ (legend_of s).0
-    ++ flat_map (element (escaped o.unit.now) (all_of s)) ws ++ warning_lines (bottom ws + 14) (map warning_of o.warned.now)
+    ++ flat_map (element (escaped o.unit.now) (all_of s)) ws
+    ++ warning_lines (bottom ws + 14) (map warning_of o.warned.now)
     ++ CLOSING.now
 
 -- The picture of some frames, one for each path.

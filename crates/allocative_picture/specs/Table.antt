@@ -71,8 +71,8 @@ abbrev pub grown : Option Graph → Graph → ℕ
 grown o g = sum_by (λ e. e.1) (growths Own o g)
 
 -- ---- the texts
--- The paths `top` are the first n of the paths es if the heaviest come first, and of as heavy ones the first path. Those
--- without bytes are left out.
+-- The paths `top` are the first n of the paths es if the heaviest come first, and of as heavy ones the first path.
+-- Those without bytes are left out.
 pub record IsTop (n : ℕ) (es top : List (Path × ℕ)) : Type 0 where
   pub rows : List (Path × ℕ)
   pub same : IsPermutation es rows
@@ -111,8 +111,8 @@ weight_of h = (texts h.path.items, h.bytes.0)
 abbrev pub behind : Path → List (Path × ℕ) → List (Path × ℕ)
 behind ks es = map (λ e. (ks ++ e.0, e.1)) es
 
--- Of the paths es, these are at most n with bytes, and no other comes before one of them. If they are fewer, no other has
--- bytes.
+-- Of the paths es, these are at most n with bytes, and no other comes before one of them. If they are fewer, no other
+-- has bytes.
 pub record AreHeaviest (n : ℕ) (es : List (Path × ℕ)) (kept : List (Path × ℕ)) : Type 0 where
   pub rest : List (Path × ℕ)
   pub same : IsPermutation es (kept ++ rest)

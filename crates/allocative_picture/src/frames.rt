@@ -60,7 +60,8 @@ impl Marks {
 #[tactic(auto, using(crate::proofs::Marking::sizes_found, crate::proofs::Marking::totals_found))]
 pub(crate) fn below<'a>(other: Option<&'a FlameGraph>, key: &Key) -> Option<&'a FlameGraph>
     ensures sizes { (p : Path) → size_in (option_copied other.entry) (key.now ∷ p) ≡ size_in (option_copied result) p }
-    ensures totals { (p : Path) → total_in (option_copied other.entry) (key.now ∷ p) ≡ total_in (option_copied result) p }
+    ensures totals { (p : Path) → total_in (option_copied other.entry) (key.now ∷ p)
+        ≡ total_in (option_copied result) p }
 {
     other?.get(&[key.as_str()])
 }
@@ -112,8 +113,8 @@ pub(crate) fn push_wide<'a>(
     Ok(())
 }
 
-/// Appends the frames of all paths of a graph that are wide enough, each after the given keys. `other` is what the other
-/// graph has at these keys and below them. So many bytes are before the first frame.
+/// Appends the frames of all paths of a graph that are wide enough, each after the given keys. `other` is what the
+/// other graph has at these keys and below them. So many bytes are before the first frame.
 pub(crate) fn push_frames(
     shown: &Shown<'_>,
     graph: &FlameGraph,

@@ -86,8 +86,8 @@ fn draw_graph(
     draw_wide(alloc, subject, wide.as_slice(), paths, options)
 }
 
-/// The picture of some frames, as an SVG document. The frames are expected in the order of paths, with the totals of the
-/// subject. Otherwise the boxes may not fit together.
+/// The picture of some frames, as an SVG document. The frames are expected in the order of paths, with the totals of
+/// the subject. Otherwise the boxes may not fit together.
 ///
 /// The only error is that memory runs out.
 pub fn draw(

@@ -68,8 +68,8 @@ fn push_heavy(
     Ok(())
 }
 
-/// Keeps a path among the heaviest, of which there are at most so many, if it is one of them. It is a call of its own, so
-/// that a level of the walk takes less of the stack.
+/// Keeps a path among the heaviest, of which there are at most so many, if it is one of them. It is a call of its own,
+/// so that a level of the walk takes less of the stack.
 #[inline(never)]
 fn keep(
     heaviest: &mut BinaryHeap<Heavy>,

@@ -1,5 +1,5 @@
-//! Views of a flame graph, which say what is heavy where its keys are data: the outline of a graph, the bytes by last key,
-//! and the reversed paths, which keep the total, and parts. Each is a graph.
+//! Views of a flame graph, which say what is heavy where its keys are data: the outline of a graph, the bytes by last
+//! key, and the reversed paths, which keep the total, and parts. Each is a graph.
 ghost use Rattle.std.specs.Prelude.{◌≡◌, ◌<◌, ◌+◌, ◌-◌, ◌^◌, [], ◌∷◌, ◌++◌, IfErr, IfNone, IfOk, IfSome, OnOk, cond, length, reverse};
 ghost use Rattle.std.specs.FinMap.{entries, len};
 ghost use Rattle.allocative_graph.specs.Path.{Key, Path, key_cmp, texts};
@@ -34,8 +34,8 @@ fn bytes_alone(alloc: Global, bytes: usize) -> Result<FlameGraph, AllocError>
     Ok(graph)
 }
 
-/// Adds a graph with a key before its paths, and leaves an empty graph in its place. The bytes of all views together are
-/// those of one graph, so the only error is that memory runs out.
+/// Adds a graph with a key before its paths, and leaves an empty graph in its place. The bytes of all views together
+/// are those of one graph, so the only error is that memory runs out.
 #[inline(never)]
 fn put(
     alloc: Global,
@@ -50,8 +50,8 @@ fn put(
     view.add_child(key.copy(), child).map_err(|_| AllocError)
 }
 
-/// The graphs of some children, added up: each time the two that wait longest, so that those that meet have about as many
-/// paths.
+/// The graphs of some children, added up: each time the two that wait longest, so that those that meet have about as
+/// many paths.
 fn joined(alloc: Global, children: VecDeque<Child>) -> Result<FlameGraph, AllocError>
     ensures { IfOk result (λ graph. graph ≡ joined children.items) }
 {
@@ -82,7 +82,8 @@ fn place_of(children: &[Child], key: &Key) -> Result<usize, usize>
     )
 }
 
-/// Takes what guides the outline of a child: the graph of the guide with its key, or a copy of its own if there is none.
+/// Takes what guides the outline of a child: the graph of the guide with its key, or a copy of its own if there is
+/// none.
 fn take_guide(
     alloc: Global,
     guides: &mut Vec<Child>,
@@ -177,8 +178,8 @@ fn next_child(
 /// A path has at most `depth` keys; what is below adds to its ancestor of so many keys. If a path has more than `most`
 /// children, they are one child `{}`, in which their graphs add up before they are folded in turn. If `most` is
 /// `usize::MAX` and the graph has fewer than `depth` paths, the outline is the graph. The children are counted in the
-/// guide, which is a copy of the graph, or the sum of several graphs whose outlines are to be alike. Both are taken apart,
-/// so no level keeps a copy. The only error is that memory runs out.
+/// guide, which is a copy of the graph, or the sum of several graphs whose outlines are to be alike. Both are taken
+/// apart, so no level keeps a copy. The only error is that memory runs out.
 pub fn outline(
     alloc: Global,
     guide: FlameGraph,
@@ -196,7 +197,8 @@ pub fn outline(
     Ok(view)
 }
 
-/// Makes the outline of a graph of an empty view. What it calls is not inlined, so that a level takes less of the stack.
+/// Makes the outline of a graph of an empty view. What it calls is not inlined, so that a level takes less of the
+/// stack.
 fn add_outline(
     alloc: Global,
     both: Box<Guided>,
@@ -329,8 +331,8 @@ fn graph_of_reversed(
     Ok(graph)
 }
 
-/// Adds the bytes of a path with a last key at the reversed path, if it has some. It is a call of its own, so that a level
-/// of the walk takes less of the stack.
+/// Adds the bytes of a path with a last key at the reversed path, if it has some. It is a call of its own, so that a
+/// level of the walk takes less of the stack.
 #[inline(never)]
 fn add_reversed_path(
     alloc: Global,
@@ -371,8 +373,8 @@ fn add_reversed(
     Ok(())
 }
 
-/// The graph with the keys of each path in reverse: which paths lead to a last key. Paths without bytes of their own are
-/// left out. Reversed twice, each path has its bytes back. The only error is that memory runs out.
+/// The graph with the keys of each path in reverse: which paths lead to a last key. Paths without bytes of their own
+/// are left out. Reversed twice, each path has its bytes back. The only error is that memory runs out.
 pub fn reverse(alloc: Global, graph: &FlameGraph) -> Result<FlameGraph, AllocError>
     ensures view { IfOk result (λ view. view ≡ reversed graph.now) }
     ensures total { IfOk result (λ view. total view ≡ total graph.now) }
@@ -401,8 +403,8 @@ fn new_key(names: &HashMap<Key, Key>, key: &Key) -> Key
     }
 }
 
-/// Adds a graph under the key that a table has in place of its own. It is a call of its own, so that a level of the walk
-/// takes less of the stack.
+/// Adds a graph under the key that a table has in place of its own. It is a call of its own, so that a level of the
+/// walk takes less of the stack.
 #[inline(never)]
 fn push_folded(
     names: &HashMap<Key, Key>,
@@ -455,8 +457,8 @@ fn is_within(paths: &[Vec<&str>], path: &[&str]) -> bool
     paths.iter().any(|start| path.starts_with(start.as_slice()))
 }
 
-/// Adds the bytes of a path to a part, if it has some and belongs there. The only error is that memory runs out. It is a
-/// call of its own, so that a level of the walk takes less of the stack.
+/// Adds the bytes of a path to a part, if it has some and belongs there. The only error is that memory runs out. It is
+/// a call of its own, so that a level of the walk takes less of the stack.
 #[inline(never)]
 fn add_chosen(
     inside: bool,
@@ -478,8 +480,8 @@ fn add_chosen(
     add_at(view, path.as_slice(), bytes)
 }
 
-/// Adds the bytes of those paths of a graph that belong to a part, each after the given keys. The bytes of a part are at
-/// most those of the graph.
+/// Adds the bytes of those paths of a graph that belong to a part, each after the given keys. The bytes of a part are
+/// at most those of the graph.
 fn add_all_chosen(
     inside: bool,
     paths: &[Vec<&str>],

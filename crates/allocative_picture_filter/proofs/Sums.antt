@@ -83,8 +83,10 @@ pub writes-picture : (asked : Arguments) (change : Bool) (g h : Graph) (o : Opti
     → asked.as_text ≡ false → asked.top ≤ 0 → IsOptions asked o
     → made ≡ cond change (change_drawing o g h) (profile_drawing o h) → Writes asked change g h made
 writes-picture asked change g h o made no_text no_lines options is =
-    let Pictures : Type 0 = (p : Options) × IsOptions asked p × (made ≡ cond change (change_drawing p g h) (profile_drawing p h)) in
+    let Pictures : Type 0 = (p : Options) × IsOptions asked p
+    × (made ≡ cond change (change_drawing p g h) (profile_drawing p h)) in
     let e : asked.top ≡ 0 = omega arith in
     let no_table : nat_lt 0 asked.top ≡ false = ap (λ n. nat_lt 0 n) e in
-    subst (λ (b : Bool). MatchBool b (made ≡ text h) (MatchBool (nat_lt 0 asked.top) (IsTableOf asked change g h made) Pictures)) (sym no_text)
+    subst (λ (b : Bool). MatchBool b (made ≡ text h)
+    (MatchBool (nat_lt 0 asked.top) (IsTableOf asked change g h made) Pictures)) (sym no_text)
     (subst (λ (b : Bool). MatchBool b (IsTableOf asked change g h made) Pictures) (sym no_table) (o, options, is))

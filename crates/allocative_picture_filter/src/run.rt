@@ -420,7 +420,8 @@ fn make<'a, R: Read>(
     input: &mut R,
 ) -> Result<String, Fault<'a>>
     ensures ok { IfOk result (λ made. IfSome (R.remaining input.old)
-        (λ known. IsMade asked.now before.now (later_texts after.now asked.now.reads_input known) (string_bytes made))) }
+        (λ known. IsMade asked.now before.now (later_texts after.now asked.now.reads_input known)
+        (string_bytes made))) }
     ensures stops { IfErr result
         (λ f. IfSome (R.remaining input.old) (λ known. Stops asked.now before.now after.now known f)) }
 {

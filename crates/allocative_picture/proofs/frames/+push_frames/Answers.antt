@@ -16,13 +16,25 @@ pub overflow_add-first : goal.overflow_add-first
 overflow_add-first t c =
     let g = c.args.graph.now in
     let node = c.children-children.ensures in
-    omega (arith, c.self_size.ensures, c.requires.fits, ap total node.whole, total-node (size_at g []) c.children-children.result.now node.children.sorted)
+    omega (
+      arith,
+      c.self_size.ensures,
+      c.requires.fits,
+      ap total node.whole,
+      total-node (size_at g []) c.children-children.result.now node.children.sorted,
+    )
 
 pub starts-requires-clause-fits : goal.starts-requires-clause-fits
 starts-requires-clause-fits t c =
     let g = c.args.graph.now in
     let node = c.children-children.ensures in
-    omega (arith, c.self_size.ensures, c.requires.fits, ap total node.whole, total-node (size_at g []) c.children-children.result.now node.children.sorted)
+    omega (
+      arith,
+      c.self_size.ensures,
+      c.requires.fits,
+      ap total node.whole,
+      total-node (size_at g []) c.children-children.result.now node.children.sorted,
+    )
 
 -- A child has fewer paths, and its bytes fit with those before it.
 pub push_frames-requires : goal.push_frames-requires
@@ -34,9 +46,11 @@ push_frames-requires t c =
     let i = c.loop-index.index in
     let d = c.index-children-index.result in
     let w : i < length cs = omega arith in
-    let small : len d.graph < len g = subst (λ (x : Child). len x.graph < len g) (sym c.index-children-index.is) (node.smaller i d w) in
+    let small : len d.graph < len g =
+    subst (λ (x : Child). len x.graph < len g) (sym c.index-children-index.is) (node.smaller i d w) in
     let start : c.index.result.now ≡ c.args.before + size_at g [] + bytes_before o cs d =
-    start_of o cs i d _ _ (size_at g []) _ c.in_ok-starts.ensures w c.index-children-index.is c.self_size.ensures c.index.ensures in
+    start_of o cs i d _ _ (size_at g []) _ c.in_ok-starts.ensures
+    w c.index-children-index.is c.self_size.ensures c.index.ensures in
     let M = mark_by c.args.shown.now.marks c.args.shown.now.other.now in
     let ks = texts c.args.path.now.items in
     let pushed : c.push.new.self.items ≡ c.args.path.now.items ++ c.as_str.result ∷ [] =
@@ -45,10 +59,18 @@ push_frames-requires t c =
     let falls = c.decreases in (
       omega (arith, small, falls),
       (
-        omega (arith, start, start_total o cs i d w c.index-children-index.is, c.requires.fits, ap total node.whole, total-node (size_at g []) cs node.children.sorted),
+        omega (
+          arith,
+          start,
+          start_total o cs i d w c.index-children-index.is,
+          c.requires.fits,
+          ap total node.whole,
+          total-node (size_at g []) cs node.children.sorted,
+        ),
         λ p. ap (λ (q : Path). M (q ++ p)) behind_it ∙ ap M (append_assoc ks (d.key ∷ []) p)
             ∙ c.requires.other (d.key ∷ p)
-            ∙ (λ j. mark_with c.args.shown.now.marks (c.below-below.ensures.sizes p j) (c.below-below.ensures.totals p j)),
+            ∙ (λ j. mark_with c.args.shown.now.marks
+            (c.below-below.ensures.sizes p j) (c.below-below.ensures.totals p j)),
       ),
     )
 
@@ -66,19 +88,22 @@ loop-index-preserved t c =
     let M = mark_by c.args.shown.now.marks c.args.shown.now.other.now in
     let ks = texts c.args.path.now.items in
     let wide = is_drawn c.args.shown.now.least c.args.shown.now.all in
-    let start = start_of o cs i d _ _ n _ c.in_ok-starts.ensures w c.index-children-index.is c.self_size.ensures c.index.ensures in
+    let start = start_of o cs i d _ _ n _ c.in_ok-starts.ensures
+    w c.index-children-index.is c.self_size.ensures c.index.ensures in
     let pushed : c.push.new.self.items ≡ c.args.path.now.items ++ c.as_str.result ∷ [] =
     rw (c.in_ok-push.ensures.items, c.loop-index.invariant.path) refl in
     let behind_it = pushed_key _ _ c.as_str.result d.key pushed c.as_str.ensures in
     let F = frame_behind o M c.args.before ks g in
-    let came = child_frames o M c.args.before ks g n cs node.whole node.children i d c.index.result.now w c.index-children-index.is start in
+    let came = child_frames o M c.args.before ks g
+    n cs node.whole node.children i d c.index.result.now w c.index-children-index.is start in
     let more : map F (rows_of (take (i + 1) cs)) ≡ map F (rows_of (take i cs)) ++ map F (rows_of_child d) =
     ap (map F) (rows-more cs i d w ∙ (λ j. rows_of (take i cs) ++ rows_of_child (sym c.index-children-index.is j)))
     ∙ map-append F (rows_of (take i cs)) (rows_of_child d) in
     record {
       path = popped _ _ _ c.as_str.result _ c.pop.ensures.rest c.push_frames.new.path.ok.0
           (c.in_ok-push_frames.ensures.path ∙ pushed);
-      frames = rw (more, filter-append, ← append_assoc, ← c.loop-index.invariant.frames, ← came, ← behind_it) c.in_ok-push_frames.ensures.frames;
+      frames = rw (more, filter-append, ← append_assoc, ← c.loop-index.invariant.frames, ← came, ← behind_it)
+          c.in_ok-push_frames.ensures.frames;
     }
 
 -- After the last child the wide frames of the graph are appended.
@@ -108,4 +133,5 @@ returns-clause-frames t c =
     ∙ ap (λ (rs : List FrameData). rs ++ filter wide below)
     (c.in_ok-push_wide.ensures ∙ ap (λ (r : FrameData). start ++ filter wide (r ∷ [])) frame)
     ∙ append_assoc start (filter wide (root ∷ [])) (filter wide below)
-    ∙ ap (λ (rs : List FrameData). start ++ rs) (sym (filter-append wide (root ∷ []) below) ∙ ap (filter wide) (sym whole))
+    ∙ ap (λ (rs : List FrameData). start ++ rs) (sym (filter-append wide (root ∷ []) below)
+    ∙ ap (filter wide) (sym whole))

@@ -14,6 +14,7 @@ invariant-loop-index l = record {
   path : l.path.items ≡ l.fn.path.items;
   frames : map frame_data l.frames.items ≡ map frame_data l.initial.frames.items
       ++ filter (is_drawn l.shown.least l.shown.all)
-      (map (frame_behind l.shown.order (mark_by l.shown.marks l.shown.other.now) l.before (texts l.fn.path.items) l.graph)
+      (map (frame_behind l.shown.order (mark_by l.shown.marks l.shown.other.now) l.before
+      (texts l.fn.path.items) l.graph)
       (rows_of (take l.index l.children)));
 }

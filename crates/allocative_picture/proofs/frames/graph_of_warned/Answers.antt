@@ -17,4 +17,5 @@ loop-one-preserved c = record {
 
 pub returns : goal.returns
 returns c = λ p.
-    rw (c.loop-one.invariant.graph, take_all c.loop-one.one-index c.args.warned.now (omega arith)) (mark_warned c.args.warned.now p)
+    rw (c.loop-one.invariant.graph, take_all c.loop-one.one-index c.args.warned.now (omega arith))
+    (mark_warned c.args.warned.now p)

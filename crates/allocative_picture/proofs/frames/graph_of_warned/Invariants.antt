@@ -6,4 +6,5 @@ use Rattle.allocative_picture.proofs.frames.graph_of_warned.Given as goal
 
 -- Each path has a byte for each of its warnings so far, and there are as many bytes as warnings.
 abbrev pub invariant-loop-one : goal.invariant-loop-one
-invariant-loop-one l = record { graph : l.graph ≡ bytes_at (take l.one-index l.warned); bytes : total l.graph ≡ l.one-index }
+invariant-loop-one l =
+    record { graph : l.graph ≡ bytes_at (take l.one-index l.warned); bytes : total l.graph ≡ l.one-index }

@@ -15,6 +15,7 @@ returns c =
     let paths : c.in_ok-paths.paths ≡ len g = search rules in
     let frames = ap (map frame_data) c.as_slice.ensures.value ∙ c.in_ok-push_frames.ensures.frames
     ∙ (λ i. map frame_data (c.new-wide.ensures.items i)
-    ++ filter (is_drawn least (c.all.ensures i)) (map (frame_behind o M 0 (texts (c.new-path.ensures.items i)) g) (entries g)))
+    ++ filter (is_drawn least (c.all.ensures i)) (map
+    (frame_behind o M 0 (texts (c.new-path.ensures.items i)) g) (entries g)))
     ∙ ap (filter (is_drawn least (all_of c.args.subject))) (frames_alone o M g) in
     rw (← frames, length-frames_of o M g, ← paths) c.draw_wide.ensures

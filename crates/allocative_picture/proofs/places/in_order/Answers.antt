@@ -15,7 +15,8 @@ loop-index-preserved c =
     ap (map numbers_of) c.in_ok-push.ensures.items
     ∙ map-append numbers_of c.loop-index.places.items _
     ∙ (λ t. c.loop-index.invariant t ++ (c.total_size.ensures.total t, many t) ∷ [])
-    ∙ ap (λ (x : Child). numbered 0 (take i cs) ++ (total x.graph, 0 + length (take i cs)) ∷ []) c.index-children-index.is
+    ∙ ap (λ (x : Child). numbered 0 (take i cs)
+    ++ (total x.graph, 0 + length (take i cs)) ∷ []) c.index-children-index.is
     ∙ sym (ap (numbered 0) (take_more cs i d (omega arith)) ∙ numbered-push 0 (take i cs) (get_or cs i d))
 
 pub returns-in-Key : goal.returns-in-Key
@@ -27,5 +28,6 @@ pub returns-in_ok-sort-in-Size : goal.returns-in_ok-sort-in-Size
 returns-in_ok-sort-in-Size c =
     let cs = c.args.children.now in
     let all = c.loop-index.invariant ∙ ap (numbered 0) (take_all c.loop-index.index cs (omega arith)) in
-    rw c.in-Size.is (by_size cs c.loop-index.places.items all c.sort.new.self.items c.in_ok-sort-in-Size.ensures.permutation
+    rw c.in-Size.is
+    (by_size cs c.loop-index.places.items all c.sort.new.self.items c.in_ok-sort-in-Size.ensures.permutation
     c.in_ok-sort-in-Size.ensures.sorted)

@@ -12,20 +12,33 @@ index_mut-requires c =
     let cs = c.args.children.now in
     let ps = c.deref-place-items.result.now in
     let i = c.loop-place.place-index in
-    let h : AreInOrder c.args.order cs (map numbers_of ps) = rw c.deref-place-items.ensures.value c.in_ok-places.ensures in
+    let h : AreInOrder c.args.order cs (map numbers_of ps) =
+    rw c.deref-place-items.ensures.value c.in_ok-places.ensures in
     let w : i < length ps = omega arith in
     let at = get_or-map numbers_of ps i no_place (0, 0) w in
-    omega (arith, ap (λ (y : Numbered). y.1) at, c.loop-place.invariant.many, number_within cs (map numbers_of ps) h.same i (0, 0) (omega (arith, length-map ps numbers_of, w)))
+    omega (
+      arith,
+      ap (λ (y : Numbered). y.1) at,
+      c.loop-place.invariant.many,
+      number_within cs (map numbers_of ps) h.same i (0, 0) (omega (arith, length-map ps numbers_of, w)),
+    )
 
 pub overflow_add-next : goal.overflow_add-next
 overflow_add-next c =
     let cs = c.args.children.now in
     let ps = c.deref-place-items.result.now in
     let i = c.loop-place.place-index in
-    let h : AreInOrder c.args.order cs (map numbers_of ps) = rw c.deref-place-items.ensures.value c.in_ok-places.ensures in
+    let h : AreInOrder c.args.order cs (map numbers_of ps) =
+    rw c.deref-place-items.ensures.value c.in_ok-places.ensures in
     let w : i < length ps = omega arith in
     let at = get_or-map numbers_of ps i no_place (0, 0) w in
-    omega (arith, ap (λ (y : Numbered). y.0) at, c.requires.fits, c.loop-place.invariant.next, sum_within cs (map numbers_of ps) i (0, 0) h.same (omega (arith, length-map ps numbers_of, w)))
+    omega (
+      arith,
+      ap (λ (y : Numbered). y.0) at,
+      c.requires.fits,
+      c.loop-place.invariant.next,
+      sum_within cs (map numbers_of ps) i (0, 0) h.same (omega (arith, length-map ps numbers_of, w)),
+    )
 
 pub loop-place-preserved : goal.loop-place-preserved
 loop-place-preserved c =
@@ -40,9 +53,16 @@ loop-place-preserved c =
     let fits : total_of cs < 2 ^ 64 = omega (arith, c.requires.fits) in
     record {
       many = length-set c.loop-place.starts.items _ _ ∙ c.loop-place.invariant.many;
-      next = omega (arith, ap (λ (y : Numbered). y.0) at, c.loop-place.invariant.next, sum_by_more (λ (y : Numbered). y.0) ys i (0, 0) v);
-      each = subst (λ (y : Numbered). All (HasStart c.args.order c.args.first cs c.requires.sorted fits ys h (set c.loop-place.starts.items y.1 c.loop-place.next)) (take (i + 1) ys)) at
-          (starts_more c.args.order c.args.first cs c.requires.sorted fits ys h i (0, 0) v c.loop-place.starts.items c.loop-place.next c.loop-place.invariant.many c.loop-place.invariant.next c.loop-place.invariant.each);
+      next = omega (
+        arith,
+        ap (λ (y : Numbered). y.0) at,
+        c.loop-place.invariant.next,
+        sum_by_more (λ (y : Numbered). y.0) ys i (0, 0) v,
+      );
+      each = subst (λ (y : Numbered). All (HasStart c.args.order c.args.first cs c.requires.sorted fits ys h
+          (set c.loop-place.starts.items y.1 c.loop-place.next)) (take (i + 1) ys)) at
+          (starts_more c.args.order c.args.first cs c.requires.sorted fits ys h i (0, 0) v c.loop-place.starts.items
+          c.loop-place.next c.loop-place.invariant.many c.loop-place.invariant.next c.loop-place.invariant.each);
     }
 
 pub returns : goal.returns
@@ -53,5 +73,7 @@ returns c =
     let h : AreInOrder c.args.order cs ys = rw c.deref-place-items.ensures.value c.in_ok-places.ensures in
     let fits : total_of cs < 2 ^ 64 = omega (arith, c.requires.fits) in
     let Q = HasStart c.args.order c.args.first cs c.requires.sorted fits ys h c.loop-place.starts.items in
-    starts_all c.args.order c.args.first cs c.requires.sorted fits ys h c.loop-place.starts.items c.loop-place.invariant.many
-    (subst (All Q) (take_all c.loop-place.place-index ys (omega (arith, length-map ps numbers_of))) c.loop-place.invariant.each)
+    starts_all c.args.order c.args.first cs c.requires.sorted
+    fits ys h c.loop-place.starts.items c.loop-place.invariant.many
+    (subst (All Q)
+    (take_all c.loop-place.place-index ys (omega (arith, length-map ps numbers_of))) c.loop-place.invariant.each)

@@ -10,6 +10,7 @@ abbrev pub invariant-loop-place : goal.invariant-loop-place
 invariant-loop-place l = record {
   many : length l.starts.items ≡ length l.children;
   next : l.next ≡ l.first + sum_by (λ (x : Numbered). x.0) (take l.place-index (map numbers_of l.place-items));
-  each : All (λ (x : Numbered). (d : Child) → get_or l.starts.items x.1 0 ≡ l.first + bytes_before l.fn.order l.children (get_or l.children x.1 d))
+  each : All (λ (x : Numbered). (d : Child) →
+      get_or l.starts.items x.1 0 ≡ l.first + bytes_before l.fn.order l.children (get_or l.children x.1 d))
       (take l.place-index (map numbers_of l.place-items));
 }

@@ -15,7 +15,17 @@ overflow_add-bytes t c =
     let cs = c.children-children.result.now in
     let i = c.loop-child.child-index in
     let d = c.child-item.result in
-    omega (arith, ap total c.children-children.ensures.whole, total-node (size_at g []) cs c.children-children.ensures.children.sorted, c.total_size-all.ensures.total, c.loop-child.invariant.bound, c.grown-bytes.ensures.bound, total_of_more cs i d (omega arith) c.child-item.is, sum_by-take-le (λ (x : Child). total x.graph) cs (i + 1))
+    omega (
+      arith,
+      ap total c.children-children.ensures.whole,
+      total-node (size_at g []) cs c.children-children.ensures.children.sorted,
+      c.total_size-all.ensures.total,
+      c.loop-child.invariant.bound,
+      c.grown-bytes.ensures.bound,
+      total_of_more cs i d
+          (omega arith) c.child-item.is,
+      sum_by-take-le (λ (x : Child). total x.graph) cs (i + 1),
+    )
 
 pub loop-child-preserved : goal.loop-child-preserved
 loop-child-preserved t c =
@@ -30,7 +40,8 @@ loop-child-preserved t c =
     child_grew Own o u _ cs i d g [] c.children-children.ensures.whole c.children-children.ensures.children
     (omega arith) c.child-item.is c.below.ensures.sizes c.below.ensures.totals in
     let bytes : bytes_of (child_weighed grew [] d) ≡ c.grown-bytes.result =
-    ap bytes_of child ∙ fold-map (λ n (e : Path × ℕ). n + e.1) (λ (e : Path × ℕ). (d.key ∷ e.0, e.1)) 0 (growths Own u d.graph)
+    ap bytes_of child
+    ∙ fold-map (λ n (e : Path × ℕ). n + e.1) (λ (e : Path × ℕ). (d.key ∷ e.0, e.1)) 0 (growths Own u d.graph)
     ∙ sym c.grown-bytes.ensures.sum in
     let before = flat_map (child_weighed grew []) (take i cs) in
     let more : bytes_of (flat_map (child_weighed grew []) (take (i + 1) cs)) ≡ bytes_of before + c.grown-bytes.result =
@@ -38,7 +49,12 @@ loop-child-preserved t c =
     ∙ sum_by-append (λ (e : Path × ℕ). e.1) before (child_weighed grew [] d) ∙ ap (λ n. bytes_of before + n) bytes in
     record {
       sum = omega (arith, c.loop-child.invariant.sum, more);
-      bound = omega (arith, c.loop-child.invariant.bound, c.grown-bytes.ensures.bound, total_of_more cs i d (omega arith) c.child-item.is);
+      bound = omega (
+        arith,
+        c.loop-child.invariant.bound,
+        c.grown-bytes.ensures.bound,
+        total_of_more cs i d (omega arith) c.child-item.is,
+      );
     }
 
 pub returns-clause-sum : goal.returns-clause-sum
@@ -52,11 +68,18 @@ returns-clause-sum t c =
     ∙ node_weighed grew [] _ cs g c.children-children.ensures.whole c.children-children.ensures.children)
     ∙ sum_by-cons (λ (e : Path × ℕ). e.1) ([], grew []) rows in
     c.loop-child.invariant.sum
-    ∙ ap (λ (xs : List Child). grew [] + bytes_of (flat_map (child_weighed grew []) xs)) (take_all c.loop-child.child-index cs (omega arith))
+    ∙ ap (λ (xs : List Child). grew []
+    + bytes_of (flat_map (child_weighed grew []) xs)) (take_all c.loop-child.child-index cs (omega arith))
     ∙ sym all
 
 pub returns-clause-bound : goal.returns-clause-bound
 returns-clause-bound t c =
     let g = c.args.graph.now in
     let cs = c.children-children.result.now in
-    omega (arith, ap total c.children-children.ensures.whole, total-node (size_at g []) cs c.children-children.ensures.children.sorted, c.loop-child.invariant.bound, sum_by-take-le (λ (x : Child). total x.graph) cs c.loop-child.child-index)
+    omega (
+      arith,
+      ap total c.children-children.ensures.whole,
+      total-node (size_at g []) cs c.children-children.ensures.children.sorted,
+      c.loop-child.invariant.bound,
+      sum_by-take-le (λ (x : Child). total x.graph) cs c.loop-child.child-index,
+    )

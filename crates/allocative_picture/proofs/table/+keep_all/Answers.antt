@@ -22,17 +22,20 @@ loop-child-preserved t c =
     rw (c.in_ok-push.ensures.items, c.loop-child.invariant.path) refl in
     let behind_it = pushed_key _ _ c.as_str.result d.key pushed c.as_str.ensures in
     let child : child_weighed grew ks d ≡ behind (ks ++ d.key ∷ []) (growths c.args.size u d.graph) =
-    child_grew c.args.size o u _ cs i d c.args.graph.now ks c.children-children.ensures.whole c.children-children.ensures.children
+    child_grew c.args.size o u _ cs i d c.args.graph.now
+    ks c.children-children.ensures.whole c.children-children.ensures.children
     (omega arith) c.child-item.is c.below-below.ensures.sizes c.below-below.ensures.totals in
     let kept = subst (λ (es : Sizes). Keeps c.args.most es c.loop-child.heaviest new)
     (ap (λ (p : Path). behind p (growths c.args.size u d.graph)) behind_it ∙ sym child) c.in_ok-keep_all.ensures.kept in
-    let step = keeps_then c.args.most (own ∷ flat_map (child_weighed grew ks) (take i cs)) (child_weighed grew ks d) c.args.heaviest.now c.loop-child.heaviest new
+    let step = keeps_then c.args.most (own ∷ flat_map (child_weighed grew ks) (take i cs))
+    (child_weighed grew ks d) c.args.heaviest.now c.loop-child.heaviest new
     c.loop-child.invariant.kept kept in
     record {
       path = popped _ _ _ c.as_str.result _ c.pop.ensures.rest c.keep_all.new.path.ok.0
           (c.in_ok-keep_all.ensures.path ∙ pushed);
       kept = subst (λ (es : Sizes). Keeps c.args.most es c.args.heaviest.now new)
-          (ap (λ (es : Sizes). own ∷ es) (sym (flat_map_more (child_weighed grew ks) cs i d (omega arith) c.child-item.is))) step;
+          (ap (λ (es : Sizes). own ∷ es)
+          (sym (flat_map_more (child_weighed grew ks) cs i d (omega arith) c.child-item.is))) step;
     }
 
 pub returns-clause-kept : goal.returns-clause-kept
@@ -42,6 +45,8 @@ returns-clause-kept t c =
     let grew = growth_in c.args.size (option_copied c.args.other) c.args.graph.now in
     let own : Weighed = (ks, grew []) in
     subst (λ (es : Sizes). Keeps c.args.most es c.args.heaviest.now c.loop-child.heaviest)
-    (ap (λ (xs : List Child). own ∷ flat_map (child_weighed grew ks) xs) (take_all c.loop-child.child-index cs (omega arith))
-    ∙ sym (node_weighed grew ks _ cs c.args.graph.now c.children-children.ensures.whole c.children-children.ensures.children))
+    (ap (λ (xs : List Child). own ∷ flat_map (child_weighed grew ks) xs)
+    (take_all c.loop-child.child-index cs (omega arith))
+    ∙ sym (node_weighed grew ks _ cs c.args.graph.now
+    c.children-children.ensures.whole c.children-children.ensures.children))
     c.loop-child.invariant.kept

@@ -15,5 +15,6 @@ invariant-loop-child l =
     let grew = growth_in l.size (option_copied l.other) l.graph in record {
       path : l.path.items ≡ l.fn.path.items;
       kept : Keeps l.most ((texts l.fn.path.items, grew [])
-          ∷ flat_map (child_weighed grew (texts l.fn.path.items)) (take l.child-index l.children)) l.fn.heaviest l.heaviest;
+          ∷ flat_map (child_weighed grew (texts l.fn.path.items)) (take l.child-index l.children))
+          l.fn.heaviest l.heaviest;
     }

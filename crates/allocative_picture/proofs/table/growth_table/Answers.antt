@@ -12,6 +12,7 @@ returns c =
       c.in_ok-lines.ensures,
       c.loop-line.invariant
           ∙ ap (λ (hs : List Heavy). flat_map (line c.grown-all.result) (map weight_of hs))
-          (take_all c.loop-line.line-index c.deref-line-items.result.now (omega arith) ∙ c.deref-line-items.ensures.value)
+          (take_all c.loop-line.line-index c.deref-line-items.result.now (omega arith)
+          ∙ c.deref-line-items.ensures.value)
           ∙ ap (λ t. flat_map (line t) (map weight_of lines)) c.grown-all.ensures.sum,
     )

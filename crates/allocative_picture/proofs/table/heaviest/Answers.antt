@@ -10,7 +10,8 @@ returns c =
     let es = growths c.args.size (option_copied c.args.other) c.args.graph.now in
     let heap = c.keep_all.new.heaviest in
     let sorted = c.into_sorted_vec.result.items in
-    let kept : IsKept c.args.most (behind (texts c.new-path.result.items) es) heap = c.in_ok-keep_all.ensures.kept [] (record {
+    let kept : IsKept c.args.most (behind (texts c.new-path.result.items) es) heap =
+    c.in_ok-keep_all.ensures.kept [] (record {
       ordered = c.new-heaviest.ensures.heap_order;
       heaviest = none_kept c.args.most c.new-heaviest.result c.new-heaviest.ensures.items;
     }) in

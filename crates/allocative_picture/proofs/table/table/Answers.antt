@@ -10,9 +10,11 @@ pub returns : goal.returns
 returns c =
     let lines = c.in_ok-lines.lines.items in (
       map weight_of lines,
-      subst (λ (es : Sizes). IsTop c.args.most es (map weight_of lines)) (all_grew c.args.size c.args.graph.now) c.in_ok-lines.ensures,
+      subst (λ (es : Sizes). IsTop c.args.most es (map weight_of lines))
+          (all_grew c.args.size c.args.graph.now) c.in_ok-lines.ensures,
       c.loop-line.invariant
           ∙ ap (λ (hs : List Heavy). flat_map (table_line c.total_size-all.result) (map weight_of hs))
-          (take_all c.loop-line.line-index c.deref-line-items.result.now (omega arith) ∙ c.deref-line-items.ensures.value)
+          (take_all c.loop-line.line-index c.deref-line-items.result.now (omega arith)
+          ∙ c.deref-line-items.ensures.value)
           ∙ ap (λ t. flat_map (table_line t) (map weight_of lines)) c.total_size-all.ensures.total,
     )

@@ -14,7 +14,13 @@ pub add_chosen-requires : goal.add_chosen-requires
 add_chosen-requires t c =
     let g = c.args.graph.now in
     let node = c.children-children.ensures in
-    omega (arith, c.requires, c.self_size.ensures, ap total node.whole, total-node (size_at g []) c.children-children.result.now node.children.sorted)
+    omega (
+      arith,
+      c.requires,
+      c.self_size.ensures,
+      ap total node.whole,
+      total-node (size_at g []) c.children-children.result.now node.children.sorted,
+    )
 
 -- The bytes of the root are added.
 pub loop-child-init : goal.loop-child-init
@@ -24,7 +30,13 @@ loop-child-init t c =
     let own : List Weighed = (ks, c.self_size.result) ∷ [] in
     record {
       path = refl;
-      fits = omega (arith, ap total c.in_ok-add_chosen.ensures, total-chosen_le test c.args.view.now own, sum_by-cons (λ (e : Weighed). e.1) (ks, c.self_size.result) [], c.self_size.ensures);
+      fits = omega (
+        arith,
+        ap total c.in_ok-add_chosen.ensures,
+        total-chosen_le test c.args.view.now own,
+        sum_by-cons (λ (e : Weighed). e.1) (ks, c.self_size.result) [],
+        c.self_size.ensures,
+      );
       view = c.in_ok-add_chosen.ensures ∙ (λ j. chosen_onto test c.args.view.now ((ks, c.self_size.ensures j) ∷ []));
     }
 
@@ -36,10 +48,20 @@ add_all_chosen-requires t c =
     let node = c.children-children.ensures in
     let i = c.loop-child.child-index in
     let d = c.child-item.result in
-    let small : len d.graph < len g = subst (λ (x : Child). len x.graph < len g) (sym c.child-item.is) (node.smaller i d (omega arith)) in
+    let small : len d.graph < len g =
+    subst (λ (x : Child). len x.graph < len g) (sym c.child-item.is) (node.smaller i d (omega arith)) in
     let falls = c.decreases in (
       omega (arith, small, falls),
-      omega (arith, c.requires, c.loop-child.invariant.fits, ap total node.whole, total-node (size_at g []) cs node.children.sorted, total_of_more cs i d (omega arith) c.child-item.is, sum_by-take-le (λ (x : Child). total x.graph) cs (i + 1)),
+      omega (
+        arith,
+        c.requires,
+        c.loop-child.invariant.fits,
+        ap total node.whole,
+        total-node (size_at g []) cs node.children.sorted,
+        total_of_more cs i d
+            (omega arith) c.child-item.is,
+        sum_by-take-le (λ (x : Child). total x.graph) cs (i + 1),
+      ),
     )
 
 pub loop-child-preserved : goal.loop-child-preserved
@@ -60,12 +82,21 @@ loop-child-preserved t c =
       fits =
           let more : List Weighed = behind (texts c.push.new.self.items) (entries d.graph) in
           let bytes : sum_by (λ e. e.1) more ≡ total d.graph =
-          fold-map (λ n (e : Weighed). n + e.1) (λ (e : Weighed). (texts c.push.new.self.items ++ e.0, e.1)) 0 (entries d.graph) in
-          omega (arith, ap total c.in_ok-add_all_chosen.ensures.view, total-chosen_le test c.loop-child.view more, bytes, c.loop-child.invariant.fits, total_of_more cs i d (omega arith) c.child-item.is);
+          fold-map (λ n (e : Weighed). n + e.1) (λ (e : Weighed). (texts c.push.new.self.items ++ e.0, e.1)) 0
+          (entries d.graph) in
+          omega (
+            arith,
+            ap total c.in_ok-add_all_chosen.ensures.view,
+            total-chosen_le test c.loop-child.view more,
+            bytes,
+            c.loop-child.invariant.fits,
+            total_of_more cs i d (omega arith) c.child-item.is,
+          );
       view = c.in_ok-add_all_chosen.ensures.view
           ∙ (λ j. chosen_onto test (c.loop-child.invariant.view j) (behind (here j) (entries d.graph)))
           ∙ sym (chosen_onto-append test start (own ∷ flat_map (child_weights ks) (take i cs)) (child_weights ks d))
-          ∙ ap (λ (es : List Weighed). chosen_onto test start (own ∷ es)) (sym (flat_map_more (child_weights ks) cs i d (omega arith) c.child-item.is));
+          ∙ ap (λ (es : List Weighed). chosen_onto test start (own ∷ es)) (sym
+          (flat_map_more (child_weights ks) cs i d (omega arith) c.child-item.is));
     }
 
 pub returns-clause-view : goal.returns-clause-view
@@ -75,5 +106,7 @@ returns-clause-view t c =
     let n = size_at c.args.graph.now [] in
     let test = is_chosen c.args.inside (paths_of c.args.paths.now) in
     c.loop-child.invariant.view
-    ∙ ap (λ (xs : List Child). chosen_onto test c.args.view.now ((ks, n) ∷ flat_map (child_weights ks) xs)) (take_all c.loop-child.child-index cs (omega arith))
-    ∙ ap (chosen_onto test c.args.view.now) (sym (node_weights ks n cs c.args.graph.now c.children-children.ensures.whole c.children-children.ensures.children))
+    ∙ ap (λ (xs : List Child). chosen_onto test c.args.view.now
+    ((ks, n) ∷ flat_map (child_weights ks) xs)) (take_all c.loop-child.child-index cs (omega arith))
+    ∙ ap (chosen_onto test c.args.view.now) (sym
+    (node_weights ks n cs c.args.graph.now c.children-children.ensures.whole c.children-children.ensures.children))

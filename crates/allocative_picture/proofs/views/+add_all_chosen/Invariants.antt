@@ -15,5 +15,6 @@ invariant-loop-child l = record {
   path : l.path.items ≡ l.fn.path.items;
   fits : total l.view ≤ total l.fn.view + (size_at l.graph [] + total_of (take l.child-index l.children));
   view : l.view ≡ chosen_onto (is_chosen l.inside (paths_of l.paths)) l.fn.view
-      ((texts l.fn.path.items, size_at l.graph []) ∷ flat_map (child_weights (texts l.fn.path.items)) (take l.child-index l.children));
+      ((texts l.fn.path.items, size_at l.graph [])
+      ∷ flat_map (child_weights (texts l.fn.path.items)) (take l.child-index l.children));
 }

@@ -18,7 +18,8 @@ loop-child-preserved t c =
     c.in_ok-add_last_keys.ensures
     ∙ ap (λ (h : Graph). by_last_keys h (rows_of_child d)) c.loop-child.invariant
     ∙ sym (by_last_keys-append start (own ∷ rows_of (take i cs)) (rows_of_child d))
-    ∙ ap (λ rs. by_last_keys start (own ∷ rs)) (ap (λ (x : Child). rows_of (take i cs) ++ rows_of_child x) c.child-item.is
+    ∙ ap (λ rs. by_last_keys start (own ∷ rs)) (ap
+    (λ (x : Child). rows_of (take i cs) ++ rows_of_child x) c.child-item.is
     ∙ sym (rows-more cs i d (omega arith)))
 
 pub returns : goal.returns
@@ -28,7 +29,9 @@ returns t c =
     let key = c.args.key.now in
     let start = all_of c.args.gathered.now in
     c.loop-child.invariant
-    ∙ ap (λ (xs : List Child). by_last_keys start ((key ∷ [], n) ∷ rows_of xs)) (take_all c.loop-child.child-index cs (omega arith))
+    ∙ ap (λ (xs : List Child). by_last_keys start
+    ((key ∷ [], n) ∷ rows_of xs)) (take_all c.loop-child.child-index cs (omega arith))
     ∙ sym (rows-under key (sum_of start (graph_of_path (key ∷ []) n)) cs)
     ∙ ap (λ es. by_last_keys start (under_rows key es))
-    (sym (ap (λ (g : Graph). entries g) c.children-children.ensures.whole ∙ entries-node n cs c.children-children.ensures.children.sorted))
+    (sym (ap (λ (g : Graph). entries g) c.children-children.ensures.whole
+    ∙ entries-node n cs c.children-children.ensures.children.sorted))

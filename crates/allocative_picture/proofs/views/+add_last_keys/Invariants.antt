@@ -12,4 +12,5 @@ decreases-add_last_keys l = len l.graph.now
 -- The bytes of the graph's root and of the children before this one are added.
 abbrev pub invariant-loop-child : goal.invariant-loop-child
 invariant-loop-child l =
-    all_of l.gathered ≡ by_last_keys (all_of l.fn.gathered) ((l.key ∷ [], size_at l.graph []) ∷ rows_of (take l.child-index l.children))
+    all_of l.gathered ≡ by_last_keys (all_of l.fn.gathered)
+    ((l.key ∷ [], size_at l.graph []) ∷ rows_of (take l.child-index l.children))

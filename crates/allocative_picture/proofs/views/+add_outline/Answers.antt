@@ -15,7 +15,8 @@ pub returns-in_default-clause-outline : goal.returns-in_default-clause-outline
 unfolding IsOutline
 returns-in_default-clause-outline t c =
     let none : c.args.depth ≡ 0 = omega (arith, c.in_default.ensures) in
-    on_ok_weaker c.add_bytes.result (λ is. rw none (is ∙ ap bytes_alone (c.total_size.ensures.total ∙ ap (λ (b : Guided). total b.graph) c.deref.ensures))) c.add_bytes.ensures
+    on_ok_weaker c.add_bytes.result (λ is. rw none (is ∙ ap bytes_alone (c.total_size.ensures.total
+    ∙ ap (λ (b : Guided). total b.graph) c.deref.ensures))) c.add_bytes.ensures
 
 pub returns-in_default-clause-whole : goal.returns-in_default-clause-whole
 returns-in_default-clause-whole t c =
@@ -35,9 +36,11 @@ returns-then-count_guides-most-clause-outline t c =
       inl (
         omega arith,
         c.add_outline.new.view,
-        subst₂ (λ x y. IsOutline c.in-Some.rest c.args.most x y c.add_outline.new.view) c.in_ok-both.ensures.guide c.in_ok-both.ensures.graph
+        subst₂ (λ x y. IsOutline c.in-Some.rest c.args.most x y c.add_outline.new.view)
+            c.in_ok-both.ensures.guide c.in_ok-both.ensures.graph
             c.in_ok-add_outline.ensures.outline,
-        is ∙ (λ i. sum_of ((c.in_ok-add_bytes.ensures ∙ ap bytes_alone (c.self_size.ensures ∙ ap (λ (b : Guided). size_at b.graph []) c.deref-2.ensures)) i)
+        is ∙ (λ i. sum_of ((c.in_ok-add_bytes.ensures
+            ∙ ap bytes_alone (c.self_size.ensures ∙ ap (λ (b : Guided). size_at b.graph []) c.deref-2.ensures)) i)
             (under (c.new.ensures i) c.add_outline.new.view)),
       ),
     )) c.put.ensures.sum
@@ -63,7 +66,8 @@ loop-below-init t c =
 
 -- The guides that are left are in the order of their keys.
 pub next_child-requires : goal.next_child-requires
-next_child-requires t c = left_in_order c.in_ok-level.level.value.guides.items c.loop-below.level.value.guides.items c.loop-below.level.value.waiting.items
+next_child-requires t c = left_in_order c.in_ok-level.level.value.guides.items
+    c.loop-below.level.value.guides.items c.loop-below.level.value.waiting.items
     c.loop-below.invariant.left c.in_ok-level.ensures.guides.children.sorted
 
 -- One child more is outlined.
@@ -78,7 +82,8 @@ loop-below-preserved t c =
     let b : Child = record { key = c.in-Some-2.key; graph = c.in-Some-2.both.value.graph } in
     let rest = c.next_child.new.level.value.waiting.items in
     let x = c.in-Some-2.both.value.guide in
-    let next : TakesNext b x vs ws c.loop-below.level.value.waiting.items rest = rw c.in-Some-2.is at c.in_ok-key.ensures.some in
+    let next : TakesNext b x vs ws c.loop-below.level.value.waiting.items rest =
+    rw c.in-Some-2.is at c.in_ok-key.ensures.some in
     let below = c.add_outline-in-Some-2.new.view in
     let d : Child = record { key = b.key; graph = below } in
     let own = bytes_alone (size_at c.args.both.value.graph []) in
@@ -88,11 +93,13 @@ loop-below-preserved t c =
     let Small : Child → Type 0 = λ y. len y.graph < len c.args.both.value.graph in
     let small : All Small (b ∷ rest) = subst (All Small) at inv.smaller in
     let left : AreLeft us vs (b ∷ rest) = subst (AreLeft us vs) at inv.left in
-    let fits : total g < 2 ^ 64 = omega (arith, c.total_size-all.ensures.total, ap (λ (b : Guided). total b.guide) c.deref-3.ensures) in
+    let fits : total g < 2 ^ 64 =
+    omega (arith, c.total_size-all.ensures.total, ap (λ (b : Guided). total b.guide) c.deref-3.ensures) in
     let whole = c.in_ok-level.ensures.guides.whole in
     let guides = c.in_ok-level.ensures.guides.children in
     let guided : GuidesChild g b x = guides-taken g n us whole guides fits vs ws rest b x left order next.taken in
-    let R : Child → Graph → Type 0 = λ y o. (u : Graph) × GuidesChild g y u × IsOutline c.in-Some.rest c.args.most u y.graph o in
+    let R : Child → Graph → Type 0 = λ y o. (u : Graph)
+    × GuidesChild g y u × IsOutline c.in-Some.rest c.args.most u y.graph o in
     let done = inv.outlined.0 in
     let ds = inv.outlined.1 in
     record {
@@ -121,9 +128,11 @@ returns-clause-outline t c =
     let cs = c.in_ok-level.level.value.waiting.items in
     let inv = c.loop-below.invariant in
     let none : c.loop-below.level.value.waiting.items ≡ [] = rw c.in_default-2.is at c.in_ok-key.ensures.none in
-    let all : inv.outlined.0 ≡ cs = sym (inv.outlined.2 ∙ ap (λ (ys : List Child). inv.outlined.0 ++ ys) none ∙ append-nil inv.outlined.0) in
+    let all : inv.outlined.0 ≡ cs =
+    sym (inv.outlined.2 ∙ ap (λ (ys : List Child). inv.outlined.0 ++ ys) none ∙ append-nil inv.outlined.0) in
     let some : c.args.depth ≡ suc c.in-Some.rest = omega (arith, c.in-Some.ensures.0, c.in-Some.ensures.1) in
-    let R : Child → Graph → Type 0 = λ y o. (u : Graph) × GuidesChild c.args.both.value.guide y u × IsOutline c.in-Some.rest c.args.most u y.graph o in
+    let R : Child → Graph → Type 0 = λ y o. (u : Graph)
+    × GuidesChild c.args.both.value.guide y u × IsOutline c.in-Some.rest c.args.most u y.graph o in
     rw some (
       c.in_ok-level.level.value.guides.items,
       cs,
@@ -137,7 +146,8 @@ returns-clause-whole t c = λ few all.
     let cs = c.in_ok-level.level.value.waiting.items in
     let inv = c.loop-below.invariant in
     let none : c.loop-below.level.value.waiting.items ≡ [] = rw c.in_default-2.is at c.in_ok-key.ensures.none in
-    let done : inv.outlined.0 ≡ cs = sym (inv.outlined.2 ∙ ap (λ (ys : List Child). inv.outlined.0 ++ ys) none ∙ append-nil inv.outlined.0) in
+    let done : inv.outlined.0 ≡ cs =
+    sym (inv.outlined.2 ∙ ap (λ (ys : List Child). inv.outlined.0 ++ ys) none ∙ append-nil inv.outlined.0) in
     inv.outlined.5 few all
     ∙ ap (λ (ys : List Child). sum_of_all (bytes_alone (size_at c.args.both.value.graph [])) ys) done
     ∙ sum_of_children (size_at c.args.both.value.graph []) cs c.in_ok-level.ensures.children.children

@@ -20,8 +20,11 @@ invariant-loop-below l = record {
   order : InOrder l.level.value.waiting.items;
   smaller : All (λ c. len c.graph < len l.fn.both.value.graph) l.level.value.waiting.items;
   left : AreLeft l.initial.level.value.guides.items l.level.value.guides.items l.level.value.waiting.items;
-  outlined : (done : List Child) × (ds : List Child) × (l.initial.level.value.waiting.items ≡ done ++ l.level.value.waiting.items)
-      × InStep (λ c o. (x : Graph) × GuidesChild l.fn.both.value.guide c x × IsOutline l.rest l.most x c.graph o) done ds
+  outlined : (done : List Child) × (ds : List Child)
+      × (l.initial.level.value.waiting.items ≡ done ++ l.level.value.waiting.items)
+      × InStep (λ c o. (x : Graph) × GuidesChild l.fn.both.value.guide c x
+      × IsOutline l.rest l.most x c.graph o) done ds
       × (l.view ≡ sum_of_all (bytes_alone (size_at l.fn.both.value.graph [])) ds)
-      × (len l.fn.both.value.graph < l.depth → l.most ≡ 2 ^ 64 - 1 → l.view ≡ sum_of_all (bytes_alone (size_at l.fn.both.value.graph [])) done);
+      × (len l.fn.both.value.graph < l.depth → l.most ≡ 2 ^ 64 - 1 →
+      l.view ≡ sum_of_all (bytes_alone (size_at l.fn.both.value.graph [])) done);
 }

@@ -23,12 +23,14 @@ loop-child-preserved t c =
       all = c.in_ok-add_reversed.ensures.all
           ∙ (λ j. reversed_onto (c.loop-child.invariant.all j) (behind (here j ++ d.key ∷ []) (entries d.graph)))
           ∙ sym (reversed_onto-append start (own ∷ flat_map (child_weights ks) (take i cs)) (child_weights ks d))
-          ∙ ap (λ (es : List Weighed). reversed_onto start (own ∷ es)) (sym (flat_map_more (child_weights ks) cs i d (omega arith) c.child-item.is));
+          ∙ ap (λ (es : List Weighed). reversed_onto start (own ∷ es)) (sym
+          (flat_map_more (child_weights ks) cs i d (omega arith) c.child-item.is));
     }
 
 pub returns-clause-path : goal.returns-clause-path
 returns-clause-path t c =
-    popped _ _ _ c.as_str.result _ c.pop.ensures.rest c.loop-child.path.ok.0 (c.loop-child.invariant.path ∙ c.in_ok-push.ensures.items)
+    popped _ _ _ c.as_str.result _ c.pop.ensures.rest c.loop-child.path.ok.0
+    (c.loop-child.invariant.path ∙ c.in_ok-push.ensures.items)
 
 pub returns-clause-all : goal.returns-clause-all
 returns-clause-all t c =
@@ -37,5 +39,7 @@ returns-clause-all t c =
     let n = size_at c.args.graph.now [] in
     let start = all_of c.args.gathered.now in
     c.loop-child.invariant.all
-    ∙ ap (λ (xs : List Child). reversed_onto start ((ks, n) ∷ flat_map (child_weights ks) xs)) (take_all c.loop-child.child-index cs (omega arith))
-    ∙ ap (reversed_onto start) (sym (node_weights ks n cs c.args.graph.now c.children-children.ensures.whole c.children-children.ensures.children))
+    ∙ ap (λ (xs : List Child). reversed_onto start
+    ((ks, n) ∷ flat_map (child_weights ks) xs)) (take_all c.loop-child.child-index cs (omega arith))
+    ∙ ap (reversed_onto start) (sym
+    (node_weights ks n cs c.args.graph.now c.children-children.ensures.whole c.children-children.ensures.children))

@@ -13,6 +13,7 @@ decreases-add_reversed l = len l.graph.now
 abbrev pub invariant-loop-child : goal.invariant-loop-child
 invariant-loop-child l = record {
   path : l.path.items ≡ l.initial.path.items;
-  all : all_of l.gathered ≡ reversed_onto (all_of l.fn.gathered) ((texts l.fn.path.items ++ l.key ∷ [], size_at l.graph [])
+  all : all_of l.gathered
+      ≡ reversed_onto (all_of l.fn.gathered) ((texts l.fn.path.items ++ l.key ∷ [], size_at l.graph [])
       ∷ flat_map (child_weights (texts l.fn.path.items ++ l.key ∷ [])) (take l.child-index l.children));
 }

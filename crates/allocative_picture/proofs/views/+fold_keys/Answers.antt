@@ -12,9 +12,11 @@ returns-clause-view t c =
     let g = c.args.graph.now in
     let cs = c.children-children.result.now in
     let node = c.children-children.ensures in
-    let below = c.loop-child.invariant ∙ ap (map (folded_child f)) (take_all c.loop-child.child-index cs (omega arith)) in
+    let below = c.loop-child.invariant
+    ∙ ap (map (folded_child f)) (take_all c.loop-child.child-index cs (omega arith)) in
     IfOk-weaker c.put_together.result _ _
-    (λ view is. is ∙ (λ i. sum_of_all (bytes_alone (c.self_size.ensures i)) (below i)) ∙ folded_node f g (size_at g []) cs node.whole node.children)
+    (λ view is. is ∙ (λ i. sum_of_all (bytes_alone (c.self_size.ensures i)) (below i))
+    ∙ folded_node f g (size_at g []) cs node.whole node.children)
     c.put_together.ensures
 
 pub returns-clause-total : goal.returns-clause-total

@@ -12,5 +12,6 @@ returns-then-bytes-eq0 c = rw c.if-bytes-eq0.true refl
 pub returns : goal.returns
 returns c = on_ok_weaker c.add.result
     (λ is. is ∙ (λ i. sum_of (all_of c.args.gathered.now) (under (c.copy.ensures i) (c.in_ok-graph.ensures i)))
-    ∙ one_reversed (all_of c.args.gathered.now) (texts c.args.path.now) c.args.key.now c.args.bytes (omega (arith, c.if-bytes-eq0.false)))
+    ∙ one_reversed (all_of c.args.gathered.now) (texts c.args.path.now) c.args.key.now c.args.bytes
+    (omega (arith, c.if-bytes-eq0.false)))
     c.add.ensures

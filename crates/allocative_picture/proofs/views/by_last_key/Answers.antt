@@ -16,7 +16,8 @@ loop-child-preserved c =
     c.in_ok-add_last_keys.ensures
     ∙ ap (λ (h : Graph). by_last_keys h (rows_of_child d)) c.loop-child.invariant
     ∙ sym (by_last_keys-append start (rows_of (take i cs)) (rows_of_child d))
-    ∙ ap (by_last_keys start) (ap (λ (x : Child). rows_of (take i cs) ++ rows_of_child x) c.child-item.is ∙ sym (rows-more cs i d (omega arith)))
+    ∙ ap (by_last_keys start) (ap (λ (x : Child). rows_of (take i cs) ++ rows_of_child x) c.child-item.is
+    ∙ sym (rows-more cs i d (omega arith)))
 
 pub returns-clause-view : goal.returns-clause-view
 returns-clause-view c =
@@ -24,7 +25,8 @@ returns-clause-view c =
     let n = size_at c.args.graph.now [] in
     sym (ap (sum_of_all c.add_waiting.new.self.view) c.in_ok-add_waiting.ensures.none) ∙ c.in_ok-add_waiting.ensures.all
     ∙ c.loop-child.invariant
-    ∙ ap (λ (xs : List Child). by_last_keys (bytes_alone n) (rows_of xs)) (take_all c.loop-child.child-index cs (omega arith))
+    ∙ ap (λ (xs : List Child). by_last_keys (bytes_alone n)
+    (rows_of xs)) (take_all c.loop-child.child-index cs (omega arith))
     ∙ by_last_key-node c.args.graph.now n cs c.children-children.ensures.whole c.children-children.ensures.children
 
 pub returns-clause-total : goal.returns-clause-total

@@ -10,4 +10,5 @@ loop-key-preserved c =
     ∙ reversed_more c.args.path.now c.loop-key.key-index _ c.new.result c.args.bytes (omega arith) c.new.ensures
 
 pub returns : goal.returns
-returns c = c.loop-key.invariant ∙ ap (λ ks. graph_of_path (reverse (texts ks)) c.args.bytes) (take_all c.loop-key.key-index c.args.path.now (omega arith))
+returns c = c.loop-key.invariant ∙ ap (λ ks. graph_of_path (reverse (texts ks)) c.args.bytes) (take_all
+    c.loop-key.key-index c.args.path.now (omega arith))

@@ -12,6 +12,7 @@ returns-clause-some c =
     rw c.in_ok-both.ensures.ok (record {
       front = ap (λ (l : Level). l.waiting.items) (sym before) ∙ c.in-Some.ensures.items
           ∙ ap (λ (l : Level). c.in-Some.child ∷ l.waiting.items) (sym after);
-      taken = subst (λ (us : List Child). TakesGuide us c.in-Some.child c.in_ok-guide.guide c.take_guide.new.guides.items)
+      taken =
+          subst (λ (us : List Child). TakesGuide us c.in-Some.child c.in_ok-guide.guide c.take_guide.new.guides.items)
           (ap (λ (l : Level). l.guides.items) after ∙ ap (λ (l : Level). l.guides.items) before) c.in_ok-guide.ensures;
     })

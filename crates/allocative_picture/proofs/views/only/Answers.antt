@@ -12,4 +12,5 @@ returns-clause-total c = IfOk-weaker c.part.result _ _
 
 pub returns-clause-sizes : goal.returns-clause-sizes
 returns-clause-sizes c = IfOk-weaker c.part.result _ _
-    (λ view is p. ap (λ (h : Graph). size_at h p) is ∙ size_at-only (paths_of c.args.paths.now) c.args.graph.now p) c.part.ensures
+    (λ view is p. ap (λ (h : Graph). size_at h p) is
+    ∙ size_at-only (paths_of c.args.paths.now) c.args.graph.now p) c.part.ensures

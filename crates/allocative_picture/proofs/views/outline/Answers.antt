@@ -11,7 +11,8 @@ returns-clause-outline c = rw c.in_ok-both.ensures.ok at c.in_ok-add_outline.ens
 pub returns-clause-total : goal.returns-clause-total
 returns-clause-total c =
     let both = c.in_ok-both.both.value in
-    total-outline c.args.depth c.args.most both.guide both.graph c.add_outline.new.view c.in_ok-add_outline.ensures.outline
+    total-outline c.args.depth c.args.most both.guide
+    both.graph c.add_outline.new.view c.in_ok-add_outline.ensures.outline
     ∙ ap (λ (b : Guided). total b.graph) c.in_ok-both.ensures.ok
 
 pub returns-clause-whole : goal.returns-clause-whole

@@ -17,9 +17,11 @@ loop-child-preserved c =
     record {
       path = c.in_ok-add_reversed.ensures.path ∙ c.loop-child.invariant.path;
       all = c.in_ok-add_reversed.ensures.all
-          ∙ (λ j. reversed_onto (c.loop-child.invariant.all j) (behind (texts (c.loop-child.invariant.path j) ++ d.key ∷ []) (entries d.graph)))
+          ∙ (λ j. reversed_onto (c.loop-child.invariant.all j)
+          (behind (texts (c.loop-child.invariant.path j) ++ d.key ∷ []) (entries d.graph)))
           ∙ sym (reversed_onto-append start (rows_of (take i cs)) (rows_of_child d))
-          ∙ ap (reversed_onto start) (ap (λ (x : Child). rows_of (take i cs) ++ rows_of_child x) c.child-item.is ∙ sym (rows-more cs i d (omega arith)));
+          ∙ ap (reversed_onto start) (ap (λ (x : Child). rows_of (take i cs) ++ rows_of_child x) c.child-item.is
+          ∙ sym (rows-more cs i d (omega arith)));
     }
 
 pub returns-clause-view : goal.returns-clause-view
@@ -28,11 +30,13 @@ returns-clause-view c =
     let n = size_at c.args.graph.now [] in
     sym (ap (sum_of_all c.add_waiting.new.self.view) c.in_ok-add_waiting.ensures.none) ∙ c.in_ok-add_waiting.ensures.all
     ∙ c.loop-child.invariant.all
-    ∙ ap (λ (xs : List Child). reversed_onto (bytes_alone n) (rows_of xs)) (take_all c.loop-child.child-index cs (omega arith))
+    ∙ ap (λ (xs : List Child). reversed_onto (bytes_alone n)
+    (rows_of xs)) (take_all c.loop-child.child-index cs (omega arith))
     ∙ reversed-node c.args.graph.now n cs c.children-children.ensures.whole c.children-children.ensures.children
 
 pub returns-clause-total : goal.returns-clause-total
 returns-clause-total c = ap total (returns-clause-view c) ∙ total-reversed c.args.graph.now
 
 pub returns-clause-sizes : goal.returns-clause-sizes
-returns-clause-sizes c = λ p. ap (λ (h : Graph). size_at h p) (returns-clause-view c) ∙ size_at-reversed c.args.graph.now p
+returns-clause-sizes c = λ p. ap (λ (h : Graph). size_at h p) (returns-clause-view c)
+    ∙ size_at-reversed c.args.graph.now p

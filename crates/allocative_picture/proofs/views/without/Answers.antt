@@ -10,8 +10,10 @@ pub returns-clause-total : goal.returns-clause-total
 returns-clause-total c =
     let ps = paths_of c.args.paths.now in
     IfOk-weaker c.part.result _ _
-    (λ view is. ap (λ (h : Graph). total h + bytes_within ps c.args.graph.now) is ∙ total-without ps c.args.graph.now) c.part.ensures
+    (λ view is. ap (λ (h : Graph). total h + bytes_within ps c.args.graph.now) is
+    ∙ total-without ps c.args.graph.now) c.part.ensures
 
 pub returns-clause-sizes : goal.returns-clause-sizes
 returns-clause-sizes c = IfOk-weaker c.part.result _ _
-    (λ view is p. ap (λ (h : Graph). size_at h p) is ∙ size_at-without (paths_of c.args.paths.now) c.args.graph.now p) c.part.ensures
+    (λ view is p. ap (λ (h : Graph). size_at h p) is
+    ∙ size_at-without (paths_of c.args.paths.now) c.args.graph.now p) c.part.ensures

@@ -22,7 +22,8 @@ counts last cut h = (
 )
 
 pub returns-in_default : goal.returns-in_default
-returns-in_default c = (λ f. absurd (cc), λ h. absurd (uncut (no_space c.args.line.now c.in_default.ensures.cases) h.last_cut))
+returns-in_default c =
+    (λ f. absurd (cc), λ h. absurd (uncut (no_space c.args.line.now c.in_default.ensures.cases) h.last_cut))
 
 pub returns-in_default-rsplit_once : goal.returns-in_default-rsplit_once
 returns-in_default-rsplit_once c =
@@ -33,7 +34,8 @@ returns-in_default-rsplit_once c =
 pub returns-then-is_numeral : goal.returns-then-is_numeral
 returns-then-is_numeral c =
     let last = cut_of (c.in-Some.front, c.in-Some.second) c.in-Some.ensures.cases in
-    let cut = cut_of (c.in-Some-rsplit_once.field-0-0, c.in-Some-rsplit_once.first) c.in-Some-rsplit_once.ensures.cases in (
+    let cut =
+    cut_of (c.in-Some-rsplit_once.field-0-0, c.in-Some-rsplit_once.first) c.in-Some-rsplit_once.ensures.cases in (
       λ passes. record {
         front = c.in-Some.front.now;
         path = c.in-Some-rsplit_once.field-0-0.now;
@@ -50,5 +52,6 @@ returns-then-is_numeral c =
 pub returns-else-is_numeral : goal.returns-else-is_numeral
 returns-else-is_numeral c =
     let last = cut_of (c.in-Some.front, c.in-Some.second) c.in-Some.ensures.cases in
-    let cut = cut_of (c.in-Some-rsplit_once.field-0-0, c.in-Some-rsplit_once.first) c.in-Some-rsplit_once.ensures.cases in
+    let cut =
+    cut_of (c.in-Some-rsplit_once.field-0-0, c.in-Some-rsplit_once.first) c.in-Some-rsplit_once.ensures.cases in
     (λ passes. absurd (cc), λ h. c.is_numeral.ensures.1 (counts last cut h).0)

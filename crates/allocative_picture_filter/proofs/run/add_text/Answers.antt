@@ -9,7 +9,11 @@ pub returns-in_err-add-clause-stops : goal.returns-in_err-add-clause-stops
 returns-in_err-add-clause-stops c =
     let read = c.in_ok-graph_of.field-0 in
     holds-of c.from_residual-in_err-add.result _ _ c.from_residual-in_err-add.ensures.1
-    (inr (read, c.in_ok-graph_of.ensures.ok, stops-joining (total c.args.graph.now + total read) c.in_err-add.field-0.0 c.in_err-add.ensures.too_large.0))
+    (inr (
+      read,
+      c.in_ok-graph_of.ensures.ok,
+      stops-joining (total c.args.graph.now + total read) c.in_err-add.field-0.0 c.in_err-add.ensures.too_large.0,
+    ))
 
 -- A text that is added is read, and its bytes fit with those before.
 pub returns-clause-ok : goal.returns-clause-ok

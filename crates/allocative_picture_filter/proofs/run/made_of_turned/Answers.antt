@@ -17,4 +17,5 @@ returns-clause-ok c =
 
 -- What is shown of a graph has its bytes.
 pub returns-clause-too_large : goal.returns-clause-too_large
-returns-clause-too_large c = rw (← c.in_ok-shown_earlier.ensures.total, ← c.in_ok-shown_later.ensures.total) c.written.ensures.too_large
+returns-clause-too_large c =
+    rw (← c.in_ok-shown_earlier.ensures.total, ← c.in_ok-shown_later.ensures.total) c.written.ensures.too_large

@@ -32,7 +32,8 @@ returns-in_err-made_of-clause-stops g c =
     at (stops-joining _ c.in_err-made_of.field-0.0 c.in_err-made_of.ensures.too_large) in
     holds-of c.from_residual-in_err-made_of.result _ _ c.from_residual-in_err-made_of.ensures.1
     (IfSome_then (g.R.Read.remaining c.args.input.now) c.in_ok-later.ensures.ok
-    (λ known up. inr (c.in_ok-earlier.earlier, c.in_ok-earlier.ensures.ok, inr (inr (c.in_ok-later.later, up, refused)))))
+    (λ known up. inr
+    (c.in_ok-earlier.earlier, c.in_ok-earlier.ensures.ok, inr (inr (c.in_ok-later.later, up, refused)))))
 
 -- What is made is what the arguments ask for.
 pub returns-clause-ok : goal.returns-clause-ok
@@ -44,14 +45,20 @@ returns-clause-ok g c =
       later_read = up;
       some = λ asked.
           let some : total (part_of c.args.asked.now c.in_ok-later.later) ≡ 0 → ⊥ =
-          λ none. true≢false (sym (c.is_refused.ensures.1 (asked, ap total c.in_ok-later_part.ensures ∙ none)) ∙ c.if-is_refused.false) in
+          λ none. true≢false (sym (c.is_refused.ensures.1 (asked, ap total c.in_ok-later_part.ensures ∙ none))
+          ∙ c.if-is_refused.false) in
           omega (arith, some);
       names = c.in_ok-made_of.ensures.ok.0;
-      shows = rw (c.is_change-change.ensures, c.in_ok-earlier_part.ensures, c.in_ok-later_part.ensures) at c.in_ok-made_of.ensures.ok.1;
+      shows = rw (c.is_change-change.ensures, c.in_ok-earlier_part.ensures, c.in_ok-later_part.ensures) at
+          c.in_ok-made_of.ensures.ok.1;
     })
 
 pub returns-then-is_refused-clause-stops : goal.returns-then-is_refused-clause-stops
 returns-then-is_refused-clause-stops g c =
     let refused = c.is_refused.ensures.0 c.if-is_refused.true in
     IfSome_then (g.R.Read.remaining c.args.input.now) c.in_ok-later.ensures.ok
-    (λ known up. inr (c.in_ok-earlier.earlier, c.in_ok-earlier.ensures.ok, inr (inl (c.in_ok-later.later, up, refused.0, ap total (sym c.in_ok-later_part.ensures) ∙ refused.1, refl))))
+    (λ known up. inr (
+      c.in_ok-earlier.earlier,
+      c.in_ok-earlier.ensures.ok,
+      inr (inl (c.in_ok-later.later, up, refused.0, ap total (sym c.in_ok-later_part.ensures) ∙ refused.1, refl)),
+    ))

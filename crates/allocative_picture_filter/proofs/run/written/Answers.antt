@@ -10,7 +10,13 @@ returns-then-change-clause-ok c =
     let asked = c.args.asked.now in
     IfOk-weaker c.change_picture.result _ _
     (λ made is. writes-picture asked c.args.change c.args.earlier.now c.args.later.now
-    (record { title = asked.title; warned = c.default.result.warned; narrowest = asked.narrowest; unit = asked.unit; order = asked.order })
+    (record {
+      title = asked.title;
+      warned = c.default.result.warned;
+      narrowest = asked.narrowest;
+      unit = asked.unit;
+      order = asked.order;
+    })
     (string_bytes made) c.if-asked.false (omega arith)
     (record { title = refl; warned = c.default.ensures.warned; narrowest = refl; unit = refl; order = refl })
     (rw c.if-change.true is))
@@ -22,7 +28,13 @@ returns-else-change-clause-ok c =
     let asked = c.args.asked.now in
     IfOk-weaker c.picture.result _ _
     (λ made is. writes-picture asked c.args.change c.args.earlier.now c.args.later.now
-    (record { title = asked.title; warned = c.default.result.warned; narrowest = asked.narrowest; unit = asked.unit; order = asked.order })
+    (record {
+      title = asked.title;
+      warned = c.default.result.warned;
+      narrowest = asked.narrowest;
+      unit = asked.unit;
+      order = asked.order;
+    })
     (string_bytes made) c.if-asked.false (omega arith)
     (record { title = refl; warned = c.default.ensures.warned; narrowest = refl; unit = refl; order = refl })
     (rw c.if-change.false is))
