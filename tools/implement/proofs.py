@@ -71,7 +71,7 @@ class Proofs:
             arm = "" if self.lemma else f"-in-{variant.name}"
             kept = self.writer.kept(variant, [f"c{arm.replace('-', '.', 1)}.{name}" for name in bound(variant.names)])
             values = [(member, value) for member, _, value in kept]
-            proofs.append((f"returns{arm}", self.proof(taken, arm, fact, variant.is_entry, values)))
+            proofs.append((f"returns{arm}", self.proof(taken, arm, fact, variant, values)))
         self.keep(proofs, self.lemma)
 
     def one_variant(self, variant: Variant, case: str) -> str:
@@ -97,14 +97,17 @@ class Proofs:
         return f"(let e : {value[1:-1]} ≡ {level} = ap {one_word(out)} {arm}.is ∙ search the_lemmas in e)"
 
     def proof(
-        self, taken: set[str], arm: str = "", fact: str = "", is_entry: bool = False, values: Sequence[tuple[Member, str]] = ()
+        self, taken: set[str], arm: str = "", fact: str = "", variant: Variant | None = None, values: Sequence[tuple[Member, str]] = ()
     ) -> str:
         """The proof of an arm with some values in its fields: what was entered means what may be shown."""
         means = joined([self.means(taken, arm, *each) for each in values], means_of)
         is_asked = self.writer.is_borrowed or bool(self.cycle)
-        for is_call in [True] * is_entry + [is_asked]:
-            size = "refl" if not is_call else SIZE if self.definition.parameters else ensured(taken, "size", arm)
-            means = f"(means_field refl {size} {means})"
+        is_generic, is_entry = bool(self.definition.parameters), bool(variant and variant.is_entry)
+        is_open = bool(variant) and self.writer.is_open(variant, self.definition)
+        # The sizes of the variant's entry and of the type's own.
+        for is_call, is_searched in [(True, is_open)] * is_entry + [(is_asked, is_generic)]:
+            size = ensured(taken, "size", arm) if is_call else "refl"
+            means = f"(means_field refl {SIZE if is_call and is_searched else size} {means})"
         entered = ensured(taken, "enter", arm)
         only = "(search (rules, strict))" if self.flags else "strict_same"
         if fact and not (self.lemma or self.cycle or self.definition.parameters):

@@ -95,16 +95,21 @@ class Writer:
 
     def variant_size(self, variant: Variant, definition: Definition) -> Layout:
         """The size of the entry of a variant. Where a type can have that layout, its size is one call for the checker."""
-        if definition.parameters:
+        if self.is_open(variant, definition):
             return size_of(self.layouts.of_variant(variant, definition))
         record = self.source.records[definition.name, variant.name]
         return Layout(f"<{record}>::size()", size_in_clause(record))
 
+    def is_open(self, variant: Variant, definition: Definition) -> bool:
+        """Whether the layout of a variant names a parameter."""
+        named = NAME.findall(self.layouts.of_variant(variant, definition).clause)
+        return any(each.name in named for each in definition.parameters)
+
     def records(self) -> str:
         """The types that have the layouts of the variants with an entry."""
         text = ""
-        for variant in self.definition.variants if self.definition.is_enum and not self.definition.parameters else ():
-            if variant.is_entry:
+        for variant in self.definition.variants if self.definition.is_enum else ():
+            if variant.is_entry and not self.is_open(variant, self.definition):
                 name, layout = self.source.records[self.name, variant.name], self.layouts.of_variant(variant, self.definition)
                 about = f"/// The fields of the variant `{variant.name}` of `{self.name}`.\nstruct {name};\n\n"
                 text += f"{about}impl Described for {name} {{\n{described(layout)}}}\n\n"

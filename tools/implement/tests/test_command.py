@@ -477,6 +477,14 @@ class CommandTest(unittest.TestCase):
             self.assertEqual(self.run_it(text, "--counted", "--output", self.crate)[::2], (0, []))
             self.assertIn(f"whole_counts _ c.in_ok-declared.ensures {room}\n", self.get("proofs/a/shown/ATallied/tally/Answers.antt"))
 
+    def test_the_sizes_of_variants_of_an_enum_with_parameters(self) -> None:
+        """A layout that names a parameter is searched; any other is that of a type, whose size is a call with a name."""
+        text = "#[derive(Drop)]\nenum E<T> {\n    A(T, u8),\n    B(u8, u16),\n}\n"
+        self.assertEqual(self.run_it(text, "--output", self.crate)[::2], (0, []))
+        self.assertEqual(re.findall(r"struct (\w+);", self.get("src/a/shown.rt")), ["EBFields"])
+        sizes = re.findall(r"refl \(means_field refl (\S+|\(.+?\)) means_same", self.get(ANSWERS))
+        self.assertEqual(sizes, ["(search rules)", "c.size-in-B.ensures"])
+
     def test_fields_in_fields(self) -> None:
         """Doubled ten times, a text is too many fields; behind a pointer it is one."""
         for held, told in (("A{0}, A{0}", "A12: it has too many fields for the checker"), ("Box<A{0}>, Vec<A{0}>", "")):
