@@ -1,5 +1,5 @@
 //! Views of a flame graph, which say what is heavy where its keys are data: the outline of a graph, the bytes by last
-//! key, and the reversed paths, which keep the total, and parts. Each is a graph.
+//! key, the reversed paths and other keys, which keep the total, and parts. Each is a graph.
 ghost use Rattle.std.specs.Prelude.{◌≡◌, ◌<◌, ◌+◌, ◌-◌, ◌^◌, [], ◌∷◌, ◌++◌, IfErr, IfNone, IfOk, IfSome, OnOk, cond, length, reverse};
 ghost use Rattle.std.specs.FinMap.{entries, len};
 ghost use Rattle.allocative_graph.specs.Path.{Key, Path, key_cmp, texts};

@@ -48,6 +48,10 @@ fn types_in_place(rt: HostRuntime) -> Result<(), Fail> {
                 &Placed::Somewhere(5u8, 0.5),
                 "Placed;Somewhere 15\nPlaced;Somewhere;0;u8 1\n",
             ),
+            (
+                &Placed::<u8>::Between(1, 2),
+                "Placed 8\nPlaced;Between;0;u32 4\nPlaced;Between;1;u32 4\n",
+            ),
         ],
     )
 }

@@ -30,7 +30,7 @@ where
     pub last: V,
 }
 
-/// Nothing, or a value with its place, which is passed over.
+/// Nothing, a value with its place, which is passed over, or two places.
 #[derive(Drop)]
 pub enum Placed<T> {
     Nowhere,
@@ -39,6 +39,7 @@ pub enum Placed<T> {
         // allocative: skip
         f64,
     ),
+    Between(u32, u32),
 }
 
 /// What happened in a store: fields that are shown, passed over, or shown by their size.

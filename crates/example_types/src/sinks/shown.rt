@@ -9,8 +9,10 @@ use super::*;
 use allocative::{Allocative, Declared, Described, Field, Layout, Part, Refusal, Visitor, Whole};
 
 impl Described for Sink {
-    ghost layout = { pad_to_align (empty (codes "Sink") with ⟦<u8 as Described>⟧.layout
-        with (⟦<u64 as Described>⟧.layout or ⟦<Vec<u64> as Described>⟧.layout)) };
+    ghost layout = { pad_to_align (empty (codes "Sink")
+        with ⟦<u8 as Described>⟧.layout
+        with (⟦<u64 as Described>⟧.layout
+        or ⟦<Vec<u64> as Described>⟧.layout)) };
 
     fn layout() -> Layout {
         Layout::empty("Sink")
@@ -44,9 +46,28 @@ impl Allocative for Sink {
     }
 }
 
+/// The fields of the variant `Between` of `Test`.
+struct TestBetweenFields;
+
+impl Described for TestBetweenFields {
+    ghost layout = { pad_to_align (empty (codes "Between")
+        with ⟦<u64 as Described>⟧.layout
+        with ⟦<u64 as Described>⟧.layout) };
+
+    fn layout() -> Layout {
+        Layout::empty("Between")
+            .with(u64::layout())
+            .with(u64::layout())
+            .pad_to_align()
+    }
+}
+
 impl Described for Test {
-    ghost layout = { pad_to_align (empty (codes "Test") with ⟦<u8 as Described>⟧.layout
-        with (⟦<u64 as Described>⟧.layout or (empty (codes "Between") with ⟦<u64 as Described>⟧.layout
+    ghost layout = { pad_to_align (empty (codes "Test")
+        with ⟦<u8 as Described>⟧.layout
+        with (⟦<u64 as Described>⟧.layout
+        or (empty (codes "Between")
+        with ⟦<u64 as Described>⟧.layout
         with ⟦<u64 as Described>⟧.layout))) };
 
     fn layout() -> Layout {
@@ -66,7 +87,8 @@ impl Allocative for Test {
 
     ghost may_show = { λ x. shows.Field (codes "Test") ⟦<Test as Described>⟧.layout.size (elim x [
       | Above a ↦ shows.Field (codes "Above") ⟦<u64 as Described>⟧.layout.size (⟦<u64 as Allocative>⟧.may_show a)
-      | Between a b ↦ shows.Field (codes "Between") (pad_to_align (empty (codes "Between") with ⟦<u64 as Described>⟧.layout with ⟦<u64 as Described>⟧.layout)).size (shows.Both
+      | Between a b ↦ shows.Field (codes "Between") ⟦<TestBetweenFields as Described>⟧.layout.size
+          (shows.Both
           (shows.Field (codes "0") ⟦<u64 as Described>⟧.layout.size (⟦<u64 as Allocative>⟧.may_show a))
           (shows.Field (codes "1") ⟦<u64 as Described>⟧.layout.size (⟦<u64 as Allocative>⟧.may_show b)))
     ]) };
@@ -82,15 +104,7 @@ impl Allocative for Test {
             Test::Between(a, b) => {
                 let a = Field("0", a);
                 let b = Field("1", b);
-                let inside = Declared(
-                    "Between",
-                    Layout::empty("Between")
-                        .with(u64::layout())
-                        .with(u64::layout())
-                        .pad_to_align()
-                        .size(),
-                    (a, b),
-                );
+                let inside = Declared("Between", <TestBetweenFields>::size(), (a, b));
                 Whole(self, inside).enter(visitor)
             }
         }
@@ -98,8 +112,10 @@ impl Allocative for Test {
 }
 
 impl<S: Allocative + Described> Described for Sinks<S> {
-    ghost layout = { pad_to_align (empty (codes "Sinks") with ⟦<Test as Described>⟧.layout
-        with ⟦<Vec<Sink> as Described>⟧.layout with ⟦<S as Described>⟧.layout) };
+    ghost layout = { pad_to_align (empty (codes "Sinks")
+        with ⟦<Test as Described>⟧.layout
+        with ⟦<Vec<Sink> as Described>⟧.layout
+        with ⟦<S as Described>⟧.layout) };
 
     fn layout() -> Layout {
         Layout::empty("Sinks")
@@ -111,7 +127,8 @@ impl<S: Allocative + Described> Described for Sinks<S> {
 }
 
 impl<S: Allocative + Described> Allocative for Sinks<S> {
-    ghost may_show = { λ x. shows.Field (codes "Sinks") ⟦<Sinks<S> as Described>⟧.layout.size (shows.Both
+    ghost may_show = { λ x. shows.Field (codes "Sinks") ⟦<Sinks<S> as Described>⟧.layout.size
+        (shows.Both
         (shows.Field (codes "test") ⟦<Test as Described>⟧.layout.size (⟦<Test as Allocative>⟧.may_show x.test)) (shows.Both
         (shows.Field (codes "sinks") ⟦<Vec<Sink> as Described>⟧.layout.size (⟦<Vec<Sink> as Allocative>⟧.may_show x.sinks))
         (shows.Field (codes "last") ⟦<S as Described>⟧.layout.size (⟦<S as Allocative>⟧.may_show x.last)))) };

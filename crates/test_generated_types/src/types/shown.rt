@@ -139,12 +139,31 @@ where
     }
 }
 
+/// The fields of the variant `Between` of `Placed`.
+struct PlacedBetweenFields;
+
+impl Described for PlacedBetweenFields {
+    ghost layout = { pad_to_align (empty (codes "Between")
+        with ⟦<u32 as Described>⟧.layout
+        with ⟦<u32 as Described>⟧.layout) };
+
+    fn layout() -> Layout {
+        Layout::empty("Between")
+            .with(u32::layout())
+            .with(u32::layout())
+            .pad_to_align()
+    }
+}
+
 impl<T: Allocative + Described> Described for Placed<T> {
     ghost layout = { pad_to_align (empty (codes "Placed")
         with ⟦<u8 as Described>⟧.layout
         with (empty (codes "Somewhere")
         with ⟦<T as Described>⟧.layout
-        with declared (codes "part1") 8 8 false)) };
+        with declared (codes "part1") 8 8 false
+        or (empty (codes "Between")
+        with ⟦<u32 as Described>⟧.layout
+        with ⟦<u32 as Described>⟧.layout))) };
 
     fn layout() -> Layout {
         Layout::empty("Placed")
@@ -152,14 +171,19 @@ impl<T: Allocative + Described> Described for Placed<T> {
             .with(
                 Layout::empty("Somewhere")
                     .with(T::layout())
-                    .with(Layout::new("part1", 8, 8, false)),
+                    .with(Layout::new("part1", 8, 8, false))
+                    .or(
+                        Layout::empty("Between")
+                            .with(u32::layout())
+                            .with(u32::layout()),
+                    ),
             )
             .pad_to_align()
     }
 }
 
 impl<T: Allocative + Described> Allocative for Placed<T> {
-    ghost use Rattle.test_generated_types.specs.declared.types.Placed.TheVariants.{Nowhere, Somewhere};
+    ghost use Rattle.test_generated_types.specs.declared.types.Placed.TheVariants.{Nowhere, Somewhere, Between};
 
     ghost may_show = { λ x. shows.Field (codes "Placed") ⟦<Placed<T> as Described>⟧.layout.size (elim x [
       | Nowhere ↦ shows.Nothing
@@ -167,6 +191,10 @@ impl<T: Allocative + Described> Allocative for Placed<T> {
           with ⟦<T as Described>⟧.layout
           with declared (codes "part1") 8 8 false)).size
           (shows.Field (codes "0") ⟦<T as Described>⟧.layout.size (⟦<T as Allocative>⟧.may_show a))
+      | Between a b ↦ shows.Field (codes "Between") ⟦<PlacedBetweenFields as Described>⟧.layout.size
+          (shows.Both
+          (shows.Field (codes "0") ⟦<u32 as Described>⟧.layout.size (⟦<u32 as Allocative>⟧.may_show a))
+          (shows.Field (codes "1") ⟦<u32 as Described>⟧.layout.size (⟦<u32 as Allocative>⟧.may_show b)))
     ]) };
 
     ghost is_strict = { T.is_strict };
@@ -185,6 +213,12 @@ impl<T: Allocative + Described> Allocative for Placed<T> {
                         .size(),
                     a,
                 );
+                Whole(self, inside).enter(visitor)
+            }
+            Placed::Between(a, b) => {
+                let a = Field("0", a);
+                let b = Field("1", b);
+                let inside = Declared("Between", <PlacedBetweenFields>::size(), (a, b));
                 Whole(self, inside).enter(visitor)
             }
         }

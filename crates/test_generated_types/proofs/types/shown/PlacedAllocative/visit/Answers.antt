@@ -15,3 +15,9 @@ returns-in-Somewhere g c =
     visited_if c.enter-in-Somewhere.ensures (search (rules, strict))
     (rw c.in-Somewhere.is
     (means_field refl refl (means_field refl (search rules) means_same)))
+
+pub returns-in-Between : goal.returns-in-Between
+returns-in-Between g c =
+    visited_if c.enter-in-Between.ensures (search (rules, strict))
+    (rw c.in-Between.is
+    (means_field refl refl (means_field refl c.size-in-Between.ensures means_same)))
