@@ -74,101 +74,66 @@ at w q xs = sum_by (λ x. cond (is_same_path q x.entry.path) (w x) 0) xs
 abbrev inside_at : Path → List Owner → ℕ
 inside_at q xs = at (λ x. x.inside) q xs
 
--- The entries that `owners_behind` lists are the own entries of the forest.
-own_entries : (p : Path) (f : Forest) → entries_of (owners_behind p f) ≡ own_behind p f
-own_entries p Empty = refl
-own_entries p (Inline k n f after) = rw (
-  map-append {B = Entry} (λ x. x.entry) (owners_behind (p ++ k ∷ []) f) (owners_behind p after),
-  own_entries (p ++ k ∷ []) f,
-  own_entries p after,
-)
-own_entries p (Unique k n f after) = rw (
-  map-append {B = Entry} (λ x. x.entry) (owners_behind (p ++ k ∷ []) f) (owners_behind p after),
-  own_entries (p ++ k ∷ []) f,
-  own_entries p after,
-)
-own_entries p (First k n i f after) = rw (own_entries p after)
-own_entries p (Again k n i after) = rw (own_entries p after)
-
 -- A sum over an entry, those inside it and those after it.
-sum-entry : (w : Owner → ℕ) (x : Owner) (xs ys : List Owner) →
+sum-entry : {X : Type 0} (w : X → ℕ) (x : X) (xs ys : List X) →
     sum_by w (x ∷ (xs ++ ys)) ≡ w x + (sum_by w xs + sum_by w ys)
 sum-entry w x xs ys = omega (arith, sum_by-cons w x (xs ++ ys), sum_by-append w xs ys)
+
+-- The same of the entries at q.
+at-entry : (w : Owner → ℕ) (q : Path) (x : Owner) (xs ys : List Owner) →
+    at w q (x ∷ (xs ++ ys)) ≡ cond (is_same_path q x.entry.path) (w x) 0 + (at w q xs + at w q ys)
+at-entry w q = sum-entry (λ x. cond (is_same_path q x.entry.path) (w x) 0)
 
 -- The entry with n bytes at the path p and then k, and with i bytes directly inside it.
 abbrev owner : Path → Key → ℕ → Mark → ℕ → Owner
 owner p k n m i = record { entry = record { path = p ++ k ∷ []; size = n; mark = m }; inside = i }
 
--- A forest owns the sum of what its own entries keep.
-kept-sum : (p : Path) (f : Forest) → sum_by kept (owners_behind p f) ≡ owned f
-kept-sum p Empty = refl
-kept-sum p (Inline k n f after) = omega (
-  arith,
-  kept-sum (p ++ k ∷ []) f,
-  kept-sum p after,
-  sum-entry kept (owner p k n AsInline (direct f)) (owners_behind (p ++ k ∷ []) f) (owners_behind p after),
-)
-kept-sum p (Unique k n f after) = omega (
-  arith,
-  kept-sum (p ++ k ∷ []) f,
-  kept-sum p after,
-  sum-entry kept (owner p k n AsUnique (direct f)) (owners_behind (p ++ k ∷ []) f) (owners_behind p after),
-)
-kept-sum p (First k n i f after) = omega
-    (arith, kept-sum p after, sum_by-cons kept (owner p k n (AsShared i) 0) (owners_behind p after))
-kept-sum p (Again k n i after) = omega
-    (arith, kept-sum p after, sum_by-cons kept (owner p k n (AsShared i) 0) (owners_behind p after))
+-- xs lists the entries b, which are behind p and own `all`, with `top` bytes at the top. The bytes one key below q are
+-- those directly inside the entries at q, and if q is p those at the top as well.
+record Lists (q p : Path) (b : Bag) (xs : List Owner) (all top : ℕ) : Type 0 where
+  entries : entries_of xs ≡ b
+  keep : sum_by kept xs ≡ all
+  below : below_in b q ≡ inside_at q xs + cond (is_same_path q p) top 0
+  no_root : at kept [] xs ≡ 0
 
--- ---- the bytes below a path
--- The bytes one key below q are those of an entry, if it is one key below q, and those of the bags after it.
-below-entry : (q p : Path) (k : Key) (n : ℕ) (m : Mark) (b c : Bag) →
-    below_in (record { path = p ++ k ∷ []; size = n; mark = m } ∷ (b ++ c)) q
-    ≡ cond (is_same_path q p) n 0 + (below_in b q + below_in c q)
-below-entry q p k n m b c = rw (← one_below_is q p k) (omega (
-  arith,
-  sum_by-cons (λ e. cond
-      (is_one_below q e.path) e.size 0) (record { path = p ++ k ∷ []; size = n; mark = m }) (b ++ c),
-  sum_by-append (λ e. cond (is_one_below q e.path) e.size 0) b c,
-))
+-- No entries.
+lists_none : (q p : Path) → Lists q p [] [] 0 0
+lists_none q p = record { entries = refl; keep = refl; below = grind arith; no_root = refl }
 
--- A sum over the entries at q counts one entry, if it is at q, and those in the lists after it.
-at-entry : (w : Owner → ℕ) (q : Path) (x : Owner) (xs ys : List Owner) →
-    at w q (x ∷ (xs ++ ys)) ≡ cond (is_same_path q x.entry.path) (w x) 0 + (at w q xs + at w q ys)
-at-entry w q = sum-entry (λ x. cond (is_same_path q x.entry.path) (w x) 0)
+-- A path that ends in a key is not the root.
+not_root : (p : Path) (k : Key) → is_same_path [] (p ++ k ∷ []) ≡ false
+not_root [] k = refl
+not_root (l ∷ p) k = refl
 
--- The bytes one key below q are those directly inside the entries at q; if q is the path before all of them, those at
--- the top as well.
-below-inside : (q p : Path) (f : Forest) →
-    below_in (own_behind p f) q ≡ inside_at q (owners_behind p f) + cond (is_same_path q p) (direct f) 0
-below-inside q p Empty = grind arith
-below-inside q p (Inline k n f after) = grind (
-  arith,
-  below-entry q p k n AsInline (own_behind (p ++ k ∷ []) f) (own_behind p after),
-  at-entry (λ x. x.inside) q (owner p k n AsInline (direct f))
-      (owners_behind (p ++ k ∷ []) f) (owners_behind p after),
-  below-inside q (p ++ k ∷ []) f,
-  below-inside q p after,
-)
-below-inside q p (Unique k n f after) = grind (
-  arith,
-  below-entry q p k n AsUnique (own_behind (p ++ k ∷ []) f) (own_behind p after),
-  at-entry (λ x. x.inside) q (owner p k n AsUnique (direct f))
-      (owners_behind (p ++ k ∷ []) f) (owners_behind p after),
-  below-inside q (p ++ k ∷ []) f,
-  below-inside q p after,
-)
-below-inside q p (First k n i f after) = grind (
-  arith,
-  below-entry q p k n (AsShared i) [] (own_behind p after),
-  at-entry (λ x. x.inside) q (owner p k n (AsShared i) 0) [] (owners_behind p after),
-  below-inside q p after,
-)
-below-inside q p (Again k n i after) = grind (
-  arith,
-  below-entry q p k n (AsShared i) [] (own_behind p after),
-  at-entry (λ x. x.inside) q (owner p k n (AsShared i) 0) [] (owners_behind p after),
-  below-inside q p after,
-)
+-- An entry with others inside it and after it.
+lists_entry : (q p : Path) (k : Key) (n : ℕ) (m : Mark) {b c : Bag} {xs ys : List Owner} {s t u all top : ℕ} →
+    Lists q (p ++ k ∷ []) b xs s t → Lists q p c ys u top → all ≡ kept (owner p k n m t) + (s + u) →
+    Lists q p ((owner p k n m t).entry ∷ (b ++ c)) (owner p k n m t ∷ (xs ++ ys)) all (n + top)
+lists_entry q p k n m {b = b} {c = c} {xs = xs} {ys = ys} {t = t} x y is = let o = owner p k n m t in record {
+  entries = rw (map-append {B = Entry} (λ x. x.entry) xs ys, x.entries, y.entries);
+  keep = omega (arith, sum-entry kept o xs ys, x.keep, y.keep, is);
+  below = grind (
+    arith,
+    one_below_is q p k,
+    sum-entry (λ e. cond (is_one_below q e.path) e.size 0) o.entry b c,
+    at-entry (λ x. x.inside) q o xs ys,
+    x.below,
+    y.below,
+  );
+  no_root = grind (arith, not_root p k, at-entry kept [] o xs ys, x.no_root, y.no_root);
+}
+
+-- The own entries of a forest, as `owners_behind` lists them.
+lists : (q p : Path) (f : Forest) → Lists q p (own_behind p f) (owners_behind p f) (owned f) (direct f)
+lists q p Empty = lists_none q p
+lists q p (Inline k n f after) =
+    lists_entry q p k n AsInline (lists q (p ++ k ∷ []) f) (lists q p after) (omega arith)
+lists q p (Unique k n f after) =
+    lists_entry q p k n AsUnique (lists q (p ++ k ∷ []) f) (lists q p after) (omega arith)
+lists q p (First k n i f after) =
+    lists_entry q p k n (AsShared i) (lists_none q (p ++ k ∷ [])) (lists q p after) (omega arith)
+lists q p (Again k n i after) =
+    lists_entry q p k n (AsShared i) (lists_none q (p ++ k ∷ [])) (lists q p after) (omega arith)
 
 -- ---- entries that are alike
 module _ (q : Path) where
@@ -246,79 +211,41 @@ has-with_kept g (x ∷ xs) q = grind (
   get-insert path_total g x.entry.path (size_at g x.entry.path + kept x) q,
 )
 
--- A path that ends in a key is not the root.
-not_root : (p : Path) (k : Key) → is_same_path [] (p ++ k ∷ []) ≡ false
-not_root [] k = refl
-not_root (l ∷ p) k = refl
-
--- The entries of a forest keep nothing at the root, where none of them is.
-root-keeps : (p : Path) (f : Forest) → at kept [] (owners_behind p f) ≡ 0
-root-keeps p Empty = refl
-root-keeps p (Inline k n f after) = grind (
-  arith,
-  not_root p k,
-  at-entry kept [] (owner p k n AsInline
-      (direct f)) (owners_behind (p ++ k ∷ []) f) (owners_behind p after),
-  root-keeps (p ++ k ∷ []) f,
-  root-keeps p after,
-)
-root-keeps p (Unique k n f after) = grind (
-  arith,
-  not_root p k,
-  at-entry kept [] (owner p k n AsUnique
-      (direct f)) (owners_behind (p ++ k ∷ []) f) (owners_behind p after),
-  root-keeps (p ++ k ∷ []) f,
-  root-keeps p after,
-)
-root-keeps p (First k n i f after) = grind
-    (arith, not_root p k, at-entry kept [] (owner p k n (AsShared i) 0) [] (owners_behind p after), root-keeps p after)
-root-keeps p (Again k n i after) = grind
-    (arith, not_root p k, at-entry kept [] (owner p k n (AsShared i) 0) [] (owners_behind p after), root-keeps p after)
-
--- If the entries at a path other than the root are alike, the graph of the own entries has there what they keep.
-size-own : (k : Key) (p : Path) (f : Forest) → AreAlike (k ∷ p) (owners_behind [] f) →
-    size_at (graph (sums_of (entries_of (owners_behind [] f)))) (k ∷ p) ≡ at kept (k ∷ p) (owners_behind [] f)
-size-own k p f alike =
-    let q = k ∷ p in
-    let xs = owners_behind [] f in
-    let s = sums_of (entries_of xs) in
-    let inside : below s q ≡ inside_at q xs = omega (
-      arith,
-      below-sums_of (entries_of xs) q,
-      ap (λ b. below_in b q) (own_entries [] f),
-      below-inside q [] f,
-    ) in
-    rw (get-graph s k p, get-sums_of (entries_of xs) q) (grind (arith, inside, remains q xs alike))
-
 -- If the entries at each path are alike, the graph of the own entries has what they keep.
-pub owned-total : (f : Forest) → ((p : Path) → AreAlike p (owners_behind [] f)) →
-    owned f ≡ total (graph (sums_of (own f)))
-owned-total f alike =
-    let xs = owners_behind [] f in
-    let same = same_graph (graph (sums_of (entries_of xs))) (with_kept default xs) sizes keys in
-    omega (
-      arith,
-      kept-sum [] f,
-      total-with_kept default xs,
-      total-default,
-      ap total same,
-      ap (λ (b : Bag). total (graph (sums_of b))) (own_entries [] f),
-    )
-  where
-    sizes : (q : Path) → size_at (graph (sums_of (entries_of (owners_behind [] f)))) q
-        ≡ size_at (with_kept default (owners_behind [] f)) q
-    sizes [] = ap (λ o. unwrap_or o 0) (get-graph-root (sums_of (entries_of (owners_behind [] f))))
-        ∙ sym (omega (arith, size-with_kept default (owners_behind [] f) [], size_at-default [], root-keeps [] f))
-    sizes (k ∷ p) = omega (
-      arith,
-      size-own k p f (alike (k ∷ p)),
-      size-with_kept default (owners_behind [] f) (k ∷ p),
-      size_at-default (k ∷ p),
-    )
+module _ (f : Forest) (alike : (p : Path) → AreAlike p (owners_behind [] f)) where
+  abbrev xs : List Owner
+  xs = owners_behind [] f
 
-    keys : (q : Path) → contains_key (graph (sums_of (entries_of (owners_behind [] f)))) q
-        ≡ contains_key (with_kept default (owners_behind [] f)) q
-    keys [] = ap is_some (get-graph-root (sums_of (entries_of (owners_behind [] f))))
-        ∙ sym (grind (arith, has-with_kept default (owners_behind [] f) [], get-default []))
-    keys (k ∷ p) = in_graph (entries_of (owners_behind [] f)) k p
-        ∙ sym (grind (arith, has-with_kept default (owners_behind [] f) (k ∷ p), get-default (k ∷ p)))
+  abbrev made : Graph
+  made = graph (sums_of (entries_of xs))
+
+  sizes : (q : Path) → size_at made q ≡ size_at (with_kept default xs) q
+  sizes [] = ap (λ o. unwrap_or o 0) (get-graph-root (sums_of (entries_of xs)))
+      ∙ sym (omega (arith, size-with_kept default xs [], size_at-default [], (lists [] [] f).no_root))
+  sizes (k ∷ p) =
+      let q = k ∷ p in
+      let s = sums_of (entries_of xs) in
+      let inside : below s q ≡ inside_at q xs = omega (
+        arith,
+        below-sums_of (entries_of xs) q,
+        ap (λ b. below_in b q) (lists q [] f).entries,
+        (lists q [] f).below,
+      ) in
+      rw (get-graph s k p, get-sums_of (entries_of xs) q)
+      (grind (arith, inside, remains q xs (alike q), size-with_kept default xs q, size_at-default q))
+
+  paths : (q : Path) → contains_key made q ≡ contains_key (with_kept default xs) q
+  paths [] = ap is_some (get-graph-root (sums_of (entries_of xs)))
+      ∙ sym (grind (arith, has-with_kept default xs [], get-default []))
+  paths (k ∷ p) = in_graph (entries_of xs) k p
+      ∙ sym (grind (arith, has-with_kept default xs (k ∷ p), get-default (k ∷ p)))
+
+  pub owned-total : owned f ≡ total (graph (sums_of (own f)))
+  owned-total = omega (
+    arith,
+    (lists [] [] f).keep,
+    total-with_kept default xs,
+    total-default,
+    ap total (same_graph made (with_kept default xs) sizes paths),
+    ap (λ (b : Bag). total (graph (sums_of b))) (lists [] [] f).entries,
+  )
