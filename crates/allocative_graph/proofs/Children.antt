@@ -6,7 +6,7 @@ use Rattle.std.proofs.Common.{IfOk, IfErr, IsTrue, cond, Some, ◌≤◌, ◌&&�
 use Rattle.std.proofs.Common.{is_ok, zero, suc, set, ⊎_elim, ◌||◌}
 use Rattle.allocative_graph.proofs.Common.{entries, Child, Path, total, rows_of, rows_of_child, total_of, take_more}
 use Rattle.allocative_graph.proofs.Common.{flat_map-append, fold-map, sum_by-cons, is_some, eq_by_cmp, is_eq, get, Key}
-use Rattle.allocative_graph.proofs.Common.{key_cmp, Less, default, size_under, AddsUp, AddsUpInPart, AllAbove}
+use Rattle.allocative_graph.proofs.Common.{key_cmp, Less, default, size_under, Adds, AllAbove}
 use Rattle.allocative_graph.proofs.Common.{All-from_recursion, Equal, Greater, ordering_reverse, nat_list_cmp_total}
 use Rattle.allocative_graph.proofs.Common.{IsTree, AreChildren, InOrder, length-map, keys_of, is_lt, IsFound}
 use Rattle.allocative_graph.proofs.Common.{IsChildGap, from_entries, same_entries_map, get-from_sorted, get-entries}
@@ -73,23 +73,6 @@ pub none_above : (k l : Key) (p : Path) (cs : List Child) → eq_by_cmp key_cmp 
     size_under cs k p ≡ None
 none_above k l p cs e h = size_under-lacks cs k p
     (subst (λ m. Lacks m cs) (sym (exact_bytes k l ((Equal-is (key_cmp k l)).0 e))) (lacks-above l cs h))
-
--- ---- sums of sizes
--- A size and a missing one add up to the first.
-pub AddsUp-first : (x : Option ℕ) → AddsUp x None x
-AddsUp-first x = (omega arith, sym (or-false (is_some x)))
-
--- A missing size and another one add up to the second.
-pub AddsUp-second : (y : Option ℕ) → AddsUp None y y
-AddsUp-second y = (omega arith, refl)
-
--- Sizes that add up also add up in part.
-pub part_of_sum : (x y z : Option ℕ) → AddsUp x y z → AddsUpInPart x y z
-part_of_sum x y z h = (inr h.0, (λ e. h.1 ∙ or_left (is_some x) (is_some y) e), (λ e. sym h.1 ∙ e))
-
--- If the first size does not change, the two add up in part.
-pub part_of_none : (x y : Option ℕ) → AddsUpInPart x y x
-part_of_none x y = (inl refl, (λ e. e), (λ e. or_left (is_some x) (is_some y) e))
 
 -- If k is greater than l, then l is less than k.
 pub key_turn : (k l : Key) → key_cmp k l ≡ Greater → key_cmp l k ≡ Less
@@ -252,14 +235,13 @@ total-node n cs h = omega (
 abbrev pub with_graph : Child → Graph → Child
 with_graph c g = record { key = c.key; graph = g }
 
--- Adding no child changes nothing. Children that did not change are a part of any sum.
+-- If no children are merged into cs, the result is cs. So it is if not all was added.
 unchanged : {all : Bool} (cs ds : List Child) → AreChildren cs → (all ≡ true → [] ≡ ds) → Merged all cs ds cs
-unchanged cs ds h none = record {
+unchanged {all = all} cs ds h none = record {
   children = h;
   above = λ k p q. p;
-  part = λ k p. part_of_none (size_under cs k p) (size_under ds k p);
-  sum = λ w k p. subst (λ l. AddsUp (size_under cs k p) (size_under l k p) (size_under cs k p)) (none w)
-      (AddsUp-first (size_under cs k p));
+  adds = λ k p. let missing : all ≡ true → None ≡ size_under ds k p = λ w. ap (λ (l : List Child). size_under l k p) (none w) in
+      grind (arith, missing);
   at_most = omega arith;
 }
 
@@ -272,29 +254,13 @@ pub not_merged : {all : Bool} → all ≡ false → (cs ds : List Child) → Are
 not_merged failed cs ds h = unchanged cs ds h (λ w. absurd (true≢false (sym w ∙ failed)))
 
 -- ---- one child more at the front, of either list or of both
-module _ (P : Option ℕ → Option ℕ → Option ℕ → Type 0) (c : Child) (cs ds es : List Child) (k : Key) (p : Path)
-    (rest : P (size_under cs k p) (size_under ds k p) (size_under es k p)) where
-  at_first : AllAbove ds c.key → ((x : Option ℕ) → P x None x) →
-      P (size_under (c ∷ cs) k p) (size_under ds k p) (size_under (c ∷ es) k p)
-  at_first h alone = on_test (λ t. P (cond t (get c.graph p) (size_under cs k p)) (size_under ds k p)
-      (cond t (get c.graph p) (size_under es k p))) (eq_by_cmp key_cmp k c.key)
-      (λ e. subst (λ (y : Option ℕ). P (get c.graph p) y (get c.graph p)) (sym (none_above k c.key p ds e h))
-      (alone (get c.graph p)))
-      (λ e. rest)
-
-  at_both : (d : Child) (g : Graph) → d.key ≡ c.key → P (get c.graph p) (get d.graph p) (get g p) →
-      P (size_under (c ∷ cs) k p) (size_under (d ∷ ds) k p) (size_under (with_graph c g ∷ es) k p)
-  at_both d g same one = rw same
-      (on_test (λ t. P (cond t (get c.graph p) (size_under cs k p)) (cond t (get d.graph p) (size_under ds k p))
-      (cond t (get g p) (size_under es k p))) (eq_by_cmp key_cmp k c.key) (λ e. one) (λ e. rest))
-
 module _ (b : Bool) (c : Child) (cs ds es : List Child) (m : Merged b cs ds es) where
   pub merged_first : AreChildren (c ∷ cs) → AllAbove ds c.key → Merged b (c ∷ cs) ds (c ∷ es)
   merged_first h g = record {
     children = with_first c es (m.above c.key (first_below c cs h) g) h.trees.0 m.children;
     above = λ k p q. (p.0, m.above k p.1 q);
-    part = λ k p. at_first AddsUpInPart c cs ds es k p (m.part k p) g (λ x. part_of_none x None);
-    sum = λ w k p. at_first AddsUp c cs ds es k p (m.sum w k p) g AddsUp-first;
+    adds = λ k p. let none = λ (e : eq_by_cmp key_cmp k c.key ≡ true). none_above k c.key p ds e g in
+        grind (arith, m.adds k p, none);
     at_most = omega (arith, m.at_most, total_of-cons c cs, total_of-cons c es);
   }
 
@@ -302,9 +268,8 @@ module _ (b : Bool) (c : Child) (cs ds es : List Child) (m : Merged b cs ds es) 
   merged_second g h = record {
     children = with_first c es (m.above c.key g (first_below c ds h)) h.trees.0 m.children;
     above = λ k p q. (q.0, m.above k p q.1);
-    part = λ k p. at_first (λ x y z. AddsUpInPart y x z) c ds cs es k p (m.part k p) g
-        (λ y. part_of_sum None y y (AddsUp-second y));
-    sum = λ w k p. at_first (λ x y z. AddsUp y x z) c ds cs es k p (m.sum w k p) g AddsUp-second;
+    adds = λ k p. let none = λ (e : eq_by_cmp key_cmp k c.key ≡ true). none_above k c.key p cs e g in
+        grind (arith, m.adds k p, none);
     at_most = omega (arith, m.at_most, total_of-cons c ds, total_of-cons c es);
   }
 
@@ -317,8 +282,7 @@ merged_both a b c d g cs ds es m same sum h below = record {
       with_first (with_graph c g) es (m.above c.key (first_below c cs h) (subst (AllAbove ds) same below)) sum.tree
       m.children;
   above = λ k p q. (p.0, m.above k p.1 q.1);
-  part = λ k p. at_both AddsUpInPart c cs ds es k p (m.part k p) d g same (sum.part p);
-  sum = λ w k p. at_both AddsUp c cs ds es k p (m.sum (and_parts a b w).1 k p) d g same (sum.sum (and_parts a b w).0 p);
+  adds = λ k p. rw same (grind (arith, m.adds k p, sum.adds p));
   at_most =
       omega (arith, m.at_most, sum.at_most, total_of-cons c cs, total_of-cons d ds, total_of-cons (with_graph c g) es);
 }
@@ -409,44 +373,17 @@ pub is_ok-and : {E : Type 0} (r s : Result (Unit {0}) E) → is_ok (result_and r
 is_ok-and r s = grind arith
 
 -- ---- one child and then others
--- A sum with nothing keeps a size, before another sum and after it.
-add_none : (x m y z : Option ℕ) → AddsUp x None m → AddsUp m y z → AddsUp x y z
-add_none x m y z one two =
-    (omega (arith, one.0, two.0), two.1 ∙ ap (λ b. b || is_some y) (one.1 ∙ or-false (is_some x)))
-
-none_added : (x y m z : Option ℕ) → AddsUp x y m → AddsUp m None z → AddsUp x y z
-none_added x y m z one two = (omega (arith, one.0, two.0), two.1 ∙ or-false (is_some m) ∙ one.1)
-
-part_of_none_first : (x m y z : Option ℕ) → AddsUpInPart x None m → AddsUpInPart m y z → AddsUpInPart x y z
-part_of_none_first x m y z one two = grind (arith, one, two)
-
-part_of_none_last : (x y m z : Option ℕ) → AddsUpInPart x y m → AddsUpInPart m None z → AddsUpInPart x y z
-part_of_none_last x y m z one two = grind (arith, one, two)
-
 -- If c was merged into cs, and then children after c into the result, all were merged into cs.
 pub merged_more : {a b : Bool} {c : Child} {cs ms ds es : List Child} → AreChildren (c ∷ ds) → Merged a cs (c ∷ []) ms →
     Merged b ms ds es → Merged (a && b) cs (c ∷ ds) es
-merged_more {a = a} {b = b} {c = c} {cs = cs} {ms = ms} {ds = ds} {es = es} h one rest = record {
+merged_more {c = c} {ds = ds} h one rest = record {
   children = rest.children;
   above = λ k p q. rest.above k (one.above k p (q.0, tt)) q.1;
-  part = λ k p. in_turn AddsUpInPart part_of_none_first part_of_none_last k p (one.part k p) (rest.part k p);
-  sum = λ w k p. in_turn AddsUp add_none none_added k p (one.sum (and_parts a b w).0 k p)
-      (rest.sum (and_parts a b w).1 k p);
+  adds = λ k p.
+      let none = λ (e : eq_by_cmp key_cmp k c.key ≡ true). none_above k c.key p ds e (first_below c ds h) in
+      grind (arith, one.adds k p, rest.adds k p, none);
   at_most = omega (arith, one.at_most, rest.at_most, total_of-cons c ds, total_of-cons c []);
 }
-  where
-    in_turn : (P : Option ℕ → Option ℕ → Option ℕ → Type 0) → ((x m y z : Option ℕ) → P x None m → P m y z → P x y z)
-        → ((x y m z : Option ℕ) → P x y m → P m None z → P x y z) → (k : Key) (p : Path)
-        → P (size_under cs k p) (size_under (c ∷ []) k p) (size_under ms k p)
-        → P (size_under ms k p) (size_under ds k p) (size_under es k p)
-        → P (size_under cs k p) (size_under (c ∷ ds) k p) (size_under es k p)
-    in_turn P first last k p = on_test (λ t. P (size_under cs k p) (cond t (get c.graph p) None) (size_under ms k p)
-        → P (size_under ms k p) (size_under ds k p) (size_under es k p)
-        → P (size_under cs k p) (cond t (get c.graph p) (size_under ds k p)) (size_under es k p))
-        (eq_by_cmp key_cmp k c.key)
-        (λ e m n. last _ _ _ _ m (subst (λ y. P (size_under ms k p) y (size_under es k p))
-        (none_above k c.key p ds e (first_below c ds h)) n))
-        (λ e m n. first _ _ _ _ m n)
 
 -- ---- what is taken off the front
 -- If what was taken off the front of a list is x, the list is x followed by the rest.

@@ -37,7 +37,7 @@ pub use Rattle.allocative_graph.specs.Rows.{rows_of, rows_of_child, under_rows, 
 pub use Rattle.allocative_graph.specs.Path.{Key, Path, is_one_below, is_same_path, key_cmp, path_cmp}
 pub use Rattle.allocative_graph.specs.Read.{AreStacks, IsCut, IsRead, SaysStacks, Stack, all_bytes, bytes_at}
 pub use Rattle.allocative_graph.specs.Read.{is_path_of, line_stack}
-pub use Rattle.allocative_graph.specs.Representation.Children.{AddsUp, AddsUpInPart, AllAbove, InOrder, IsChildGap}
+pub use Rattle.allocative_graph.specs.Representation.Children.{Adds, AllAbove, InOrder, IsChildGap}
 pub use Rattle.allocative_graph.specs.Representation.Children.{IsFound, size_under, Added, Merged, child_of_path}
 pub use Rattle.allocative_graph.specs.Representation.Children.{IsNode, IsSumByPath, line_after, graph_of_path}
 pub use Rattle.allocative_graph.specs.Representation.Children.{one_stack, sum_of_stacks, MergesFirst}

@@ -7,7 +7,7 @@ use Rattle.std.proofs.Common.{append_assoc, append-nil, flat_map}
 use Rattle.allocative_graph.proofs.Common.{sum_by-cons, key_cmp, keys_of, AllByRecursion, is_some, contains_key}
 use Rattle.allocative_graph.proofs.Common.{entries, len, len-entries, Child, Key, Path, Graph, IsTree, size_at, sum_of}
 use Rattle.allocative_graph.proofs.Common.{total, under, node, rows_of, rows_of_child, AreChildren, IsNode, total_of}
-use Rattle.allocative_graph.proofs.Common.{size_under, AddsUp, AddsUpInPart, Added, Merged, entries-node, len-child}
+use Rattle.allocative_graph.proofs.Common.{size_under, Adds, Added, Merged, entries-node, len-child}
 use Rattle.allocative_graph.proofs.Common.{All-from_recursion, insert, default, add_self, IsFound, get, graph_of_path}
 use Rattle.allocative_graph.proofs.Common.{child_of_path, eq_by_cmp, is_eq, Less, nat_list_cmp_total, IsBehind}
 use Rattle.allocative_graph.proofs.Common.{HasNothing, begins, total_at, InOrder, IsChildGap, AllAbove, tied_itself}
@@ -17,7 +17,7 @@ use Rattle.std.proofs.lemmas.List.Sums.{sum_by_more_le}
 use Rattle.std.specs.List.Sorted.{IsStrictlySortedBy}
 use Rattle.allocative_graph.specs.Rows.{ComesLast}
 use Rattle.allocative_graph.proofs.Children.{put_at_gap, merged_same, put_at_found, with_graph, get-root, get-under}
-use Rattle.allocative_graph.proofs.Children.{node_each, node_of_one, one_child, part_of_sum, total-node, no_children}
+use Rattle.allocative_graph.proofs.Children.{node_each, node_of_one, one_child, total-node, no_children}
 use Rattle.allocative_graph.proofs.Children.{insert_root, node_nil, rises, rows-cons, Lacks, lacks-above}
 use Rattle.allocative_graph.proofs.Children.{size_under-lacks}
 use Rattle.std.proofs.lemmas.List.{take_all, drop_all, set-get_or}
@@ -230,16 +230,14 @@ pub added_node : (all : Bool) (m n : ℕ) (cs ds es : List Child) → AreChildre
     Merged all cs ds es → Added all (node m cs) (node n ds) (node (m + n) es)
 added_node all m n cs ds es a b h = record {
   tree = node_tree (m + n) es h.children;
-  part = node_each AddsUpInPart m n (m + n) cs ds es a.sorted b.sorted h.children.sorted
-      (part_of_sum (Some m) (Some n) (Some (m + n)) (refl, refl)) h.part;
-  sum = λ w. node_each AddsUp m n (m + n) cs ds es a.sorted b.sorted h.children.sorted (refl, refl) (h.sum w);
+  adds = node_each (Adds all) m n (m + n) cs ds es a.sorted b.sorted h.children.sorted (grind arith) h.adds;
   at_most = omega
       (arith, h.at_most, total-node m cs a.sorted, total-node n ds b.sorted, total-node (m + n) es h.children.sorted);
 }
 
 -- If all was added, the result is the sum.
 pub added_sum : {all : Bool} {g h r : Graph} → Added all g h r → all ≡ true → r ≡ sum_of g h
-added_sum {g = g} {h = h} {r = r} added done = is_sum_of g h r (added.sum done)
+added_sum {g = g} {h = h} {r = r} added done = is_sum_of g h r (λ p. (added.adds p).1 done)
 
 -- With one child merged into its children, a node is a node if the bytes fit.
 pub grown : {all : Bool} {cs es : List Child} {d : Child} {size n : ℕ} →
@@ -433,8 +431,7 @@ added_trees g h s t = record {
     root = grind (arith, has-sum_of g h [], s.root);
     closed = λ p k e. grind (arith, has-sum_of g h p, has-sum_of g h (p ++ k ∷ []), s.closed p k, t.closed p k, e);
   };
-  part = λ p. part_of_sum (get g p) (get h p) (get (sum_of g h) p) (size_at-sum_of g h p, has-sum_of g h p);
-  sum = λ all p. (size_at-sum_of g h p, has-sum_of g h p);
+  adds = λ p. grind (arith, size_at-sum_of g h p, has-sum_of g h p);
   at_most = omega (arith, total-sum_of g h);
 }
 

@@ -65,6 +65,10 @@ AddsUpInPart x y z =
     × (is_some x ≡ true → is_some z ≡ true)
     × (is_some z ≡ true → (is_some x || is_some y) ≡ true)
 
+-- z is a part of the sum of x and y, and if all was added the sum.
+abbrev pub Adds : Bool → Option ℕ → Option ℕ → Option ℕ → Type 0
+Adds all x y z = AddsUpInPart x y z × (all ≡ true → AddsUp x y z)
+
 -- Each key is below those after it.
 abbrev pub InOrder : List Child → Type 0
 InOrder cs = IsStrictlySortedBy key_cmp (keys_of cs)
@@ -99,16 +103,14 @@ front_order (c ∷ cs) (d ∷ ds) = Some (key_cmp c.key d.key)
 -- h was added to g, with the result r: a part of their sum, and if all was added the sum itself.
 pub record Added (all : Bool) (g h r : Graph) : Type 0 where
   pub tree : IsTree r
-  pub part : IsPartOfSum g h r
-  pub sum : all ≡ true → IsSumByPath g h r
+  pub adds : (p : Path) → Adds all (get g p) (get h p) (get r p)
   pub at_most : total r ≤ total g + total h
 
 -- ds were merged into cs, with the result es: below each key a part of their sum, and if all was added the sum.
 pub record Merged (all : Bool) (cs ds es : List Child) : Type 0 where
   pub children : AreChildren es
   pub above : (k : Key) → AllAbove cs k → AllAbove ds k → AllAbove es k
-  pub part : (k : Key) (p : Path) → AddsUpInPart (size_under cs k p) (size_under ds k p) (size_under es k p)
-  pub sum : all ≡ true → (k : Key) (p : Path) → AddsUp (size_under cs k p) (size_under ds k p) (size_under es k p)
+  pub adds : (k : Key) (p : Path) → Adds all (size_under cs k p) (size_under ds k p) (size_under es k p)
   pub at_most : total_of es ≤ total_of cs + total_of ds
 
 -- Of cs and ds, cs' and ds' remain, and out is the merge of what comes before them.
