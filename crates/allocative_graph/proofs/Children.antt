@@ -13,10 +13,11 @@ use Rattle.allocative_graph.proofs.Common.{IsChildGap, from_entries, same_entrie
 use Rattle.allocative_graph.proofs.Common.{find, under, under_rows, node, path_cmp, entries-node, entries-insert}
 use Rattle.allocative_graph.proofs.Common.{entries-from_sorted, put, insert, len, len-child, Graph, Added, Merged}
 use Rattle.allocative_graph.proofs.Common.{sum_by-append, All, Equal-is, tied_then, exact_bytes, MergesFirst}
+use Rattle.allocative_graph.proofs.Common.{eq_by_cmp_equiv, tied_itself}
 use Rattle.std.specs.List.Sorted.{IsStrictlySortedBy, IsSearchInRange, IsBinarySearchResult, IsNonDecreasingBy}
 use Rattle.std.proofs.lemmas.List.Sums.{sum_by-set, sum_by-insert, get_or-le-sum_by}
 use Rattle.std.specs.List.{insert as insert_at}
-use Rattle.std.proofs.lemmas.List.Recursion.{found_nowhere}
+use Rattle.std.proofs.lemmas.List.Recursion.{found_at, found_nowhere}
 use Rattle.allocative_graph.proofs.Basics.{each-map, or_left, or-false, each-implies, entries-from_entries-sorted}
 use Rattle.allocative_graph.proofs.Basics.{path_total, on_test, and_assoc, and-true, and_parts}
 use Rattle.std.proofs.lemmas.List.{get_or-map, get_or_default}
@@ -63,16 +64,46 @@ pub lacks-above : (k : Key) (cs : List Child) → AllAbove cs k → Lacks k cs
 lacks-above k cs h = λ i d w. ap is_eq (All-from_recursion (λ (c : Child). key_cmp k c.key ≡ Less) cs
     (each-map (λ l. key_cmp k l ≡ Less) (λ (c : Child). c.key) cs h) i d w)
 
+-- The keys rise from place to place.
+pub rises : (cs : List Child) (i j : ℕ) (d : Child) → InOrder cs → i < j → j < length cs →
+    key_cmp (get_or cs i d).key (get_or cs j d).key ≡ Less
+rises cs i j d o low high = subst₂ (λ a b. key_cmp a b ≡ Less)
+    (get_or-map (λ (c : Child). c.key) cs i d [] (omega arith)) (get_or-map (λ (c : Child). c.key) cs j d [] high)
+    (Less-from_sorted key_cmp (keys_of cs) i j [] o low (omega (arith, length-map {B = Key} cs (λ c. c.key))))
+
+-- Keys that compare as other than equal differ, whichever comes first.
+pub other_than : {o : Ordering} (l k : Key) → key_cmp l k ≡ o → eq_by_cmp key_cmp k l ≡ is_eq o
+other_than l k h = (eq_by_cmp_equiv nat_list_cmp_total).symm k l ∙ ap is_eq h
+
+-- F reads the first child with the key k, and passes over those before it.
+module _ {A : Type 0} (F : List Child → A) (one : Child → A) (k : Key)
+    (step : (c : Child) (cs : List Child) → F (c ∷ cs) ≡ cond (eq_by_cmp key_cmp k c.key) (one c) (F cs)) where
+  -- If no child has the key, there is what there is without children.
+  pub read-lacks : (cs : List Child) → Lacks k cs → F cs ≡ F []
+  read-lacks cs h = found_nowhere F (λ c. eq_by_cmp key_cmp k c.key) one (F []) refl step cs
+      (record { key = k; graph = default }) (λ i w. h i _ w)
+
+  -- If the key was found, there is what its child has.
+  pub read-found : (cs : List Child) (i : ℕ) (d : Child) → InOrder cs → i < length cs → (get_or cs i d).key ≡ k →
+      F cs ≡ one (get_or cs i d)
+  read-found cs i d o w s = found_at F (λ c. eq_by_cmp key_cmp k c.key) one (F []) refl step cs i d w
+      (λ j low. other_than (get_or cs j d).key k
+      (subst (λ (l : Key). key_cmp (get_or cs j d).key l ≡ Less) s (rises cs j i d o low w)))
+      (subst (λ (l : Key). eq_by_cmp key_cmp k l ≡ true) (sym s) (ap is_eq (tied_itself nat_list_cmp_total k)))
+
 -- If no child has the key k, no size is below k.
 pub size_under-lacks : (cs : List Child) (k : Key) (p : Path) → Lacks k cs → size_under cs k p ≡ None
-size_under-lacks cs k p h = found_nowhere (λ cs. size_under cs k p) (λ c. eq_by_cmp key_cmp k c.key)
-    (λ c. get c.graph p) None refl (λ c cs. refl) cs (record { key = k; graph = default }) (λ i w. h i _ w)
+size_under-lacks cs k p = read-lacks (λ cs. size_under cs k p) (λ c. get c.graph p) k (λ c cs. refl) cs
+
+-- No child has a key that is equal to one below the keys of all children.
+pub lacks_equal : (k l : Key) (cs : List Child) → eq_by_cmp key_cmp k l ≡ true → AllAbove cs l → Lacks k cs
+lacks_equal k l cs e h =
+    subst (λ m. Lacks m cs) (sym (exact_bytes k l ((Equal-is (key_cmp k l)).0 e))) (lacks-above l cs h)
 
 -- No size is below a key that is below the keys of all children.
 pub none_above : (k l : Key) (p : Path) (cs : List Child) → eq_by_cmp key_cmp k l ≡ true → AllAbove cs l →
     size_under cs k p ≡ None
-none_above k l p cs e h = size_under-lacks cs k p
-    (subst (λ m. Lacks m cs) (sym (exact_bytes k l ((Equal-is (key_cmp k l)).0 e))) (lacks-above l cs h))
+none_above k l p cs e h = size_under-lacks cs k p (lacks_equal k l cs e h)
 
 -- If k is greater than l, then l is less than k.
 pub key_turn : (k l : Key) → key_cmp k l ≡ Greater → key_cmp l k ≡ Less
@@ -111,13 +142,6 @@ above_all k c cs less h =
     (less, each-implies _ _ (λ l q. nat_list_cmp_total.trans k c.key l less q) (keys_of cs) (first_below c cs h))
 
 -- ---- a search for a key
--- The keys rise from place to place.
-pub rises : (cs : List Child) (i j : ℕ) (d : Child) → InOrder cs → i < j → j < length cs →
-    key_cmp (get_or cs i d).key (get_or cs j d).key ≡ Less
-rises cs i j d o low high = subst₂ (λ a b. key_cmp a b ≡ Less)
-    (get_or-map (λ (c : Child). c.key) cs i d [] (omega arith)) (get_or-map (λ (c : Child). c.key) cs j d [] high)
-    (Less-from_sorted key_cmp (keys_of cs) i j [] o low (omega (arith, length-map {B = Key} cs (λ c. c.key))))
-
 module _ (cs : List Child) (o : InOrder cs) (k : Key) where
   comparisons_rise : IsNonDecreasingBy (λ (c : Child). ordering_index (key_cmp c.key k)) cs
   comparisons_rise = searchable_from_sorted nat_list_cmp_total (λ (c : Child). c.key) cs k

@@ -18,8 +18,9 @@ use Rattle.std.specs.List.Sorted.{IsStrictlySortedBy}
 use Rattle.allocative_graph.specs.Rows.{ComesLast}
 use Rattle.allocative_graph.proofs.Children.{put_at_gap, merged_same, put_at_found, with_graph, get-root, get-under}
 use Rattle.allocative_graph.proofs.Children.{node_each, node_of_one, one_child, total-node, no_children}
-use Rattle.allocative_graph.proofs.Children.{insert_root, node_nil, rises, rows-cons, Lacks, lacks-above}
-use Rattle.allocative_graph.proofs.Children.{size_under-lacks}
+use Rattle.allocative_graph.proofs.Children.{insert_root, node_nil, rises, rows-cons, Lacks, lacks_equal}
+use Rattle.allocative_graph.proofs.Children.{size_under-lacks, read-lacks, read-found, other_than}
+use Rattle.allocative_graph.proofs.Basics.{on_test}
 use Rattle.std.proofs.lemmas.List.{take_all, drop_all, set-get_or}
 use Rattle.allocative_graph.proofs.Graphs.{is_sum_of, total-sum_of, total-under, size_at-default, size_at-sum_of}
 use Rattle.allocative_graph.proofs.Graphs.{has-sum_of}
@@ -28,37 +29,12 @@ use Rattle.std.proofs.lemmas.Bool.{cases_lt}
 use Rattle.std.proofs.lemmas.List.Elements.{recursion_from_All}
 use Rattle.std.proofs.lemmas.List.Concat.{length-flat_map}
 
--- Keys that compare as other than equal differ, whichever comes first.
-other_than : {o : Ordering} (l k : Key) → key_cmp l k ≡ o → eq_by_cmp key_cmp k l ≡ is_eq o
-other_than l k h = (eq_by_cmp_equiv nat_list_cmp_total).symm k l ∙ ap is_eq h
-
 -- A key that was not found is none of theirs.
 gap-lacks : (cs : List Child) (i : ℕ) (k : Key) → IsChildGap cs k i → Lacks k cs
 gap-lacks cs i k g = λ j d w. ⊎_elim (λ low. other_than _ k (g.between.0 j d (omega arith) low))
     (λ high. other_than _ k (g.between.1 j d high w)) (cases_lt j i)
 
--- ---- what is read under a key: F passes over children with other keys, and reads the child with the key
-module _ {A : Type 0} (F : List Child → A) (one : Child → A) (k : Key)
-    (past : (c : Child) (cs : List Child) → eq_by_cmp key_cmp k c.key ≡ false → F (c ∷ cs) ≡ F cs) where
-  -- If no child has the key, there is what there is without children.
-  read-lacks : (cs : List Child) → Lacks k cs → F cs ≡ F []
-  read-lacks [] h = refl
-  read-lacks (c ∷ cs) h = past c cs (h 0 c (omega arith)) ∙ read-lacks cs (λ i d w. h (suc i) d (omega arith))
-
-  -- If the key was found, there is what its child has.
-  read-found : ((c : Child) (cs : List Child) → eq_by_cmp key_cmp k c.key ≡ true → F cs ≡ F [] → F (c ∷ cs) ≡ one c)
-      → (cs : List Child) (i : ℕ) (d : Child) → InOrder cs → i < length cs → (get_or cs i d).key ≡ k →
-      F cs ≡ one (get_or cs i d)
-  unfolding IsStrictlySortedBy
-  read-found here [] i d o w s = absurd (omega arith)
-  read-found here (c ∷ cs) zero d o w s =
-      here c cs (subst (λ l. eq_by_cmp key_cmp k l ≡ true) (sym s) (ap is_eq (tied_itself nat_list_cmp_total k)))
-      (read-lacks cs (lacks-above k cs (subst (λ l. AllAbove cs l) s o.0)))
-  read-found here (c ∷ cs) (suc i) d o w s =
-      past c cs
-      (other_than c.key k (subst (λ l. key_cmp c.key l ≡ Less) s (rises (c ∷ cs) 0 (suc i) d o (omega arith) w)))
-      ∙ read-found here cs i d o.1 (omega arith) s
-
+-- ---- what a node has below a key
 -- The sum of the sizes of the rows whose paths begin with q.
 abbrev whole_in : List (Path × ℕ) → Path → ℕ
 whole_in rs q = sum_by (λ e. cond (begins q e.0) e.1 0) rs
@@ -67,44 +43,44 @@ module _ (k : Key) (p : Path) where
   -- The sizes below a key that was found are those of its child.
   pub size_under-found : (cs : List Child) (i : ℕ) (d : Child) → InOrder cs → i < length cs → (get_or cs i d).key ≡ k →
       size_under cs k p ≡ get (get_or cs i d).graph p
-  size_under-found = read-found (λ cs. size_under cs k p) (λ c. get c.graph p) k
-      (λ c cs e. ap (λ b. cond b (get c.graph p) (size_under cs k p)) e)
-      (λ c cs e none. ap (λ b. cond b (get c.graph p) (size_under cs k p)) e)
+  size_under-found = read-found (λ cs. size_under cs k p) (λ c. get c.graph p) k (λ c cs. refl)
 
-  whole-past : (c : Child) (cs : List Child) → eq_by_cmp key_cmp k c.key ≡ false →
-      whole_in (rows_of (c ∷ cs)) (k ∷ p) ≡ whole_in (rows_of cs) (k ∷ p)
-  whole-past c cs e =
-      rw (
-        rows-cons (λ r. cond (begins (k ∷ p) r.0) r.1 0) c cs,
-        e,
-        fold_stays (λ n (r : Path × ℕ). n + 0) 0 (λ r. refl) (entries c.graph),
-      ) (zero-add _)
+  -- The bytes that the child with the key has at the path and below it.
+  abbrev whole_under : List Child → ℕ
+  whole_under [] = 0
+  whole_under (c ∷ cs) = cond (eq_by_cmp key_cmp k c.key) (total_at c.graph p) (whole_under cs)
 
-  -- Nothing is below a key that no child has.
-  whole-lacks : (cs : List Child) → Lacks k cs → whole_in (rows_of cs) (k ∷ p) ≡ 0
-  whole-lacks = read-lacks (λ cs. whole_in (rows_of cs) (k ∷ p)) (λ c. whole_in (entries c.graph) p) k whole-past
+  whole-lacks : (cs : List Child) → Lacks k cs → whole_under cs ≡ 0
+  whole-lacks = read-lacks whole_under (λ c. total_at c.graph p) k (λ c cs. refl)
 
-  -- The bytes below a key that was found are those of its child.
   whole-found : (cs : List Child) (i : ℕ) (d : Child) → InOrder cs → i < length cs → (get_or cs i d).key ≡ k →
-      whole_in (rows_of cs) (k ∷ p) ≡ total_at (get_or cs i d).graph p
-  whole-found = read-found (λ cs. whole_in (rows_of cs) (k ∷ p)) (λ c. whole_in (entries c.graph) p) k whole-past
-      (λ c cs e none. rows-cons (λ r. cond (begins (k ∷ p) r.0) r.1 0) c cs
-      ∙ (λ i. sum_by (λ r. cond (e i && begins p r.0) r.1 0) (entries c.graph) + none i)
-      ∙ add-zero _)
+      whole_under cs ≡ total_at (get_or cs i d).graph p
+  whole-found = read-found whole_under (λ c. total_at c.graph p) k (λ c cs. refl)
 
--- The bytes of a node below a key are those of its children.
-whole-node : (n : ℕ) (cs : List Child) (k : Key) (p : Path) → InOrder cs →
-    total_at (node n cs) (k ∷ p) ≡ whole_in (rows_of cs) (k ∷ p)
-whole-node n cs k p o = omega (
-  arith,
-  ap (λ rs. whole_in rs (k ∷ p)) (entries-node n cs o),
-  sum_by-cons (λ (e : Path × ℕ). cond (begins (k ∷ p) e.0) e.1 0) ([], n) (rows_of cs),
-)
+  whole-rows : (cs : List Child) → InOrder cs → whole_in (rows_of cs) (k ∷ p) ≡ whole_under cs
+  unfolding IsStrictlySortedBy
+  whole-rows [] h = refl
+  whole-rows (c ∷ cs) h =
+      let rest = whole-rows cs h.1 in
+      rows-cons (λ r. cond (begins (k ∷ p) r.0) r.1 0) c cs
+      ∙ on_test (λ t. sum_by (λ r. cond (t && begins p r.0) r.1 0) (entries c.graph) + whole_in (rows_of cs) (k ∷ p)
+      ≡ cond t (total_at c.graph p) (whole_under cs)) (eq_by_cmp key_cmp k c.key)
+      (λ e. omega (arith, rest, whole-lacks cs (lacks_equal k c.key cs e h.0)))
+      (λ e. omega (arith, rest, fold_stays (λ n (r : Path × ℕ). n + 0) 0 (λ r. refl) (entries c.graph)))
+
+  -- The bytes of a node below a key are those of its children.
+  whole-node : (n : ℕ) (cs : List Child) → InOrder cs → total_at (node n cs) (k ∷ p) ≡ whole_under cs
+  whole-node n cs o = omega (
+    arith,
+    ap (λ rs. whole_in rs (k ∷ p)) (entries-node n cs o),
+    sum_by-cons (λ (e : Path × ℕ). cond (begins (k ∷ p) e.0) e.1 0) ([], n) (rows_of cs),
+    whole-rows cs o,
+  )
 
 -- The bytes at a path below a child's key, and below that path, are those of the child.
 pub total_at-child : (n : ℕ) (cs : List Child) (i : ℕ) (d : Child) (p : Path) → InOrder cs → i < length cs →
     total_at (node n cs) ((get_or cs i d).key ∷ p) ≡ total_at (get_or cs i d).graph p
-total_at-child n cs i d p o w = whole-node n cs (get_or cs i d).key p o
+total_at-child n cs i d p o w = whole-node (get_or cs i d).key p n cs o
     ∙ whole-found (get_or cs i d).key p cs i d o w refl
 
 -- ---- the graph at a path
@@ -125,7 +101,7 @@ module _ {n s : ℕ} {cs ds : List Child} {g : Graph} {path : Path} {k : Key} {p
 
     -- A path of the child has its bytes, with all below it, in the node, after the child's key.
     whole : (q : Path) → total_at (node n ds) (k ∷ q) ≡ total_at (get_or ds i d).graph q
-    whole q = whole-node n ds k q in_order ∙ whole-found k q ds i d in_order f.within (f.same d)
+    whole q = whole-node k q n ds in_order ∙ whole-found k q ds i d in_order f.within (f.same d)
 
     -- What the child has at p, the node has at the path.
     pub behind_child : (x : Graph) → IsBehind (get_or ds i d).graph p x → IsBehind g path x
@@ -154,7 +130,7 @@ module _ {n s : ℕ} {cs ds : List Child} {g : Graph} {path : Path} {k : Key} {p
       subst₂ HasNothing (ap (node n) same ∙ view) (sym is) (record {
         missing = missing p;
         below = λ q. missing (p ++ q);
-        nothing = whole-node n ds k p in_order ∙ whole-lacks k p ds none;
+        nothing = whole-node k p n ds in_order ∙ whole-lacks k p ds none;
       })
 
 -- ---- in terms of what a call returns

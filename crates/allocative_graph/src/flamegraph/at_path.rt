@@ -73,8 +73,8 @@ fn put_path(
     put_at(children, at, Child { key, graph })
 }
 
-// The graph that has bytes at one path alone. It is made from the end of the path.
-#[tactic(auto, using(crate::proofs::Nodes::node_leaf, crate::proofs::Children::no_children))]
+// The graph that has bytes at one path alone.
+#[tactic(auto, using(crate::proofs::Nodes::node_leaf, crate::proofs::Children::no_children, std::proofs::lemmas::List::nil_from_length))]
 fn graph_of_path(
     alloc: Global,
     path: &[&'static str],
@@ -82,22 +82,18 @@ fn graph_of_path(
 ) -> Result<FlameGraph, AllocError>
     ensures { IfOk result (λ graph. graph ≡ graph_of_path (texts path.now) size) }
 {
-    let mut graph = FlameGraph {
-        children: Vec::new(alloc),
-        children_size: 0,
-        node_size: size,
+    let Some((key, rest)) = path.split_first() else {
+        return Ok(FlameGraph {
+            children: Vec::new(alloc),
+            children_size: 0,
+            node_size: size,
+        });
     };
-    for key in path.iter().rev() {
-        let mut children = Vec::with_capacity(alloc, 1)?;
-        children.push(Child {
-            key: Key::new(*key),
-            graph,
-        })?;
-        graph = FlameGraph {
-            children,
-            children_size: size,
-            node_size: 0,
-        };
-    }
-    Ok(graph)
+    let graph = graph_of_path(alloc, rest, size)?;
+    let key = Key::new(*key);
+    Ok(FlameGraph {
+        children: vec![in alloc; Child { key, graph }]?,
+        children_size: size,
+        node_size: 0,
+    })
 }
