@@ -1,12 +1,12 @@
 -- Children in the order of their keys: their totals and rows, the sizes below their keys, what a search finds, the node
 -- that has them, and merging them.
 use Rattle.std.proofs.Common.{◌≡◌, ℕ, ◌+◌, ◌<◌, List, [], ◌∷◌, ◌++◌, length, take, get_or, refl, ap, ◌∙◌, arith, sum_by}
-use Rattle.std.proofs.Common.{append-nil, inl, inr, true, false, Option, None, sym, subst, subst₂, ◌-◌, Result, Ok, Err}
+use Rattle.std.proofs.Common.{append-nil, true, false, Option, None, sym, subst, subst₂, ◌-◌, Result, Ok, Err}
 use Rattle.std.proofs.Common.{IfOk, IfErr, IsTrue, cond, Some, ◌≤◌, ◌&&◌, Bool, length-append, append_assoc, true≢false}
-use Rattle.std.proofs.Common.{is_ok, zero, suc, set, ⊎_elim, ◌||◌}
+use Rattle.std.proofs.Common.{is_ok, zero, suc, set, ⊎_elim}
 use Rattle.allocative_graph.proofs.Common.{entries, Child, Path, total, rows_of, rows_of_child, total_of, take_more}
-use Rattle.allocative_graph.proofs.Common.{flat_map-append, fold-map, sum_by-cons, is_some, eq_by_cmp, is_eq, get, Key}
-use Rattle.allocative_graph.proofs.Common.{key_cmp, Less, default, size_under, Adds, AllAbove}
+use Rattle.allocative_graph.proofs.Common.{flat_map-append, fold-map, sum_by-cons, eq_by_cmp, is_eq, get, Key}
+use Rattle.allocative_graph.proofs.Common.{key_cmp, Less, default, size_under, AllAbove}
 use Rattle.allocative_graph.proofs.Common.{All-from_recursion, Equal, Greater, ordering_reverse, nat_list_cmp_total}
 use Rattle.allocative_graph.proofs.Common.{IsTree, AreChildren, InOrder, length-map, keys_of, is_lt, IsFound}
 use Rattle.allocative_graph.proofs.Common.{IsChildGap, from_entries, same_entries_map, get-from_sorted, get-entries}
@@ -18,8 +18,8 @@ use Rattle.std.specs.List.Sorted.{IsStrictlySortedBy, IsSearchInRange, IsBinaryS
 use Rattle.std.proofs.lemmas.List.Sums.{sum_by-set, sum_by-insert, get_or-le-sum_by}
 use Rattle.std.specs.List.{insert as insert_at}
 use Rattle.std.proofs.lemmas.List.Recursion.{found_at, found_nowhere}
-use Rattle.allocative_graph.proofs.Basics.{each-map, or_left, or-false, each-implies, entries-from_entries-sorted}
-use Rattle.allocative_graph.proofs.Basics.{path_total, on_test, and_assoc, and-true, and_parts}
+use Rattle.allocative_graph.proofs.Basics.{each-map, each-implies, entries-from_entries-sorted}
+use Rattle.allocative_graph.proofs.Basics.{path_total, and_assoc, and-true}
 use Rattle.std.proofs.lemmas.List.{get_or-map, get_or_default}
 use Rattle.std.proofs.lemmas.Map.Keys.{Less-from_sorted}
 use Rattle.std.specs.declared.cmp.Ordering.{Ordering}
@@ -267,6 +267,7 @@ unchanged {all = all} cs ds h none = record {
   adds = λ k p. let missing : all ≡ true → None ≡ size_under ds k p = λ w. ap (λ (l : List Child). size_under l k p) (none w) in
       grind (arith, missing);
   at_most = omega arith;
+  fewer = omega arith;
 }
 
 -- If no children are merged into cs, the result is cs, and all was added.
@@ -286,6 +287,7 @@ module _ (b : Bool) (c : Child) (cs ds es : List Child) (m : Merged b cs ds es) 
     adds = λ k p. let none = λ (e : eq_by_cmp key_cmp k c.key ≡ true). none_above k c.key p ds e g in
         grind (arith, m.adds k p, none);
     at_most = omega (arith, m.at_most, total_of-cons c cs, total_of-cons c es);
+    fewer = omega (arith, m.fewer);
   }
 
   pub merged_second : AllAbove cs c.key → AreChildren (c ∷ ds) → Merged b cs (c ∷ ds) (c ∷ es)
@@ -295,6 +297,7 @@ module _ (b : Bool) (c : Child) (cs ds es : List Child) (m : Merged b cs ds es) 
     adds = λ k p. let none = λ (e : eq_by_cmp key_cmp k c.key ≡ true). none_above k c.key p cs e g in
         grind (arith, m.adds k p, none);
     at_most = omega (arith, m.at_most, total_of-cons c ds, total_of-cons c es);
+    fewer = omega (arith, m.fewer);
   }
 
 -- The graph of d is added to that of c.
@@ -309,6 +312,7 @@ merged_both a b c d g cs ds es m same sum h below = record {
   adds = λ k p. rw same (grind (arith, m.adds k p, sum.adds p));
   at_most =
       omega (arith, m.at_most, sum.at_most, total_of-cons c cs, total_of-cons d ds, total_of-cons (with_graph c g) es);
+  fewer = omega (arith, m.fewer);
 }
 
 -- ---- the next child
@@ -397,16 +401,24 @@ pub is_ok-and : {E : Type 0} (r s : Result (Unit {0}) E) → is_ok (result_and r
 is_ok-and r s = grind arith
 
 -- ---- one child and then others
--- If c was merged into cs, and then children after c into the result, all were merged into cs.
-pub merged_more : {a b : Bool} {c : Child} {cs ms ds es : List Child} → AreChildren (c ∷ ds) → Merged a cs (c ∷ []) ms →
-    Merged b ms ds es → Merged (a && b) cs (c ∷ ds) es
-merged_more {c = c} {ds = ds} h one rest = record {
-  children = rest.children;
-  above = λ k p q. rest.above k (one.above k p (q.0, tt)) q.1;
-  adds = λ k p.
-      let none = λ (e : eq_by_cmp key_cmp k c.key ≡ true). none_above k c.key p ds e (first_below c ds h) in
-      grind (arith, one.adds k p, rest.adds k p, none);
-  at_most = omega (arith, one.at_most, rest.at_most, total_of-cons c ds, total_of-cons c []);
+-- If the first child of ds was merged into cs, what merges the others into the result merges all.
+pub next_put : {a : Bool} {c : Child} {cs ms ds : List Child} → AreChildren (c ∷ ds) → Merged a cs (c ∷ []) ms →
+    MergesFirst a cs (c ∷ ds) [] ms ds
+next_put {c = c} {ds = ds} h one = record {
+  goes_on = λ b es rest. record {
+    children = rest.children;
+    above = λ k p q. rest.above k (one.above k p (q.0, tt)) q.1;
+    adds = λ k p.
+        let none = λ (e : eq_by_cmp key_cmp k c.key ≡ true). none_above k c.key p ds e (first_below c ds h) in
+        grind (arith, one.adds k p, rest.adds k p, none);
+    at_most = omega (arith, one.at_most, rest.at_most, total_of-cons c ds, total_of-cons c []);
+    fewer = omega (arith, one.fewer, rest.fewer);
+  };
+  mine = one.children;
+  theirs = others c ds h;
+  fewer = omega (arith, one.fewer);
+  fewer_rows = omega (arith, length-append (rows_of_child c) (rows_of ds));
+  fits = omega (arith, one.at_most, total_of-cons c ds, total_of-cons c []);
 }
 
 -- ---- what is taken off the front

@@ -84,34 +84,14 @@ rows_law = record {
 }
 
 -- All laws, as the functions cite them.
-pub ruleset laws = (
-  same_sums_of,
-  same_reached,
-  agree_back,
-  reaches_exactly,
-  all_is_meaning,
-  whole_following,
-  graphs_add,
-  text_tells,
-  exact_is,
-  read_law,
-  get-sums_of,
-  below-sums_of,
-  plus-nothing,
-  plus-following,
-  takes_following,
-  inside_entry,
-  takes_entry,
-  inside_first,
-  takes_shared,
-  held_again,
-  counted_again,
-  path_order_law,
-  graph_sums_law,
-  graph_law,
-  owned-following,
-  owned-reordered,
-  owned-total,
-  direct-owned,
-  rows_law,
-)
+pub ruleset showings = (same_sums_of, same_reached, agree_back, reaches_exactly, all_is_meaning, whole_following)
+
+pub ruleset graphs = (graphs_add, text_tells, exact_is, read_law, path_order_law, graph_sums_law, graph_law, rows_law)
+
+pub ruleset collectors = (plus-nothing, plus-following, takes_following, inside_entry, takes_entry)
+
+pub ruleset shared = (inside_first, takes_shared, held_again, counted_again)
+
+pub ruleset bytes = (get-sums_of, below-sums_of, owned-following, owned-reordered, owned-total, direct-owned)
+
+pub ruleset laws = (showings, graphs, collectors, shared, bytes)

@@ -2,23 +2,23 @@
 -- their own sizes and their children do; the number of their paths; what a node has after bytes are added at one path.
 use Rattle.std.proofs.Common.{◌≡◌, ℕ, ◌+◌, ◌<◌, ◌^◌, Bool, true, List, [], ◌∷◌, ◌++◌, length, length-append, Some, refl}
 use Rattle.std.proofs.Common.{get_or, unwrap_or, sym, ap, subst, subst₂, ◌∙◌, arith, ◌≤◌, set, zero-add, add-zero, take}
-use Rattle.std.proofs.Common.{sum_by, ◌&&◌, zero, suc, false, cond, Option, None, IfNone, ⊎_elim, Ordering, map}
+use Rattle.std.proofs.Common.{sum_by, ◌&&◌, cond, Option, None, IfNone, ⊎_elim, map}
 use Rattle.std.proofs.Common.{append_assoc, append-nil, flat_map}
 use Rattle.allocative_graph.proofs.Common.{sum_by-cons, key_cmp, keys_of, AllByRecursion, is_some, contains_key}
 use Rattle.allocative_graph.proofs.Common.{entries, len, len-entries, Child, Key, Path, Graph, IsTree, size_at, sum_of}
 use Rattle.allocative_graph.proofs.Common.{total, under, node, rows_of, rows_of_child, AreChildren, IsNode, total_of}
 use Rattle.allocative_graph.proofs.Common.{size_under, Adds, Added, Merged, entries-node, len-child}
 use Rattle.allocative_graph.proofs.Common.{All-from_recursion, insert, default, add_self, IsFound, get, graph_of_path}
-use Rattle.allocative_graph.proofs.Common.{child_of_path, eq_by_cmp, is_eq, Less, nat_list_cmp_total, IsBehind}
-use Rattle.allocative_graph.proofs.Common.{HasNothing, begins, total_at, InOrder, IsChildGap, AllAbove, tied_itself}
-use Rattle.allocative_graph.proofs.Common.{Figures, figures_behind, under_rows, map-append, eq_by_cmp_equiv}
+use Rattle.allocative_graph.proofs.Common.{child_of_path, eq_by_cmp, IsBehind}
+use Rattle.allocative_graph.proofs.Common.{HasNothing, begins, total_at, InOrder, IsChildGap}
+use Rattle.allocative_graph.proofs.Common.{Figures, figures_behind, under_rows, map-append}
 use Rattle.allocative_graph.proofs.Common.{flat_map-append, take_more}
 use Rattle.std.proofs.lemmas.List.Sums.{sum_by_more_le}
 use Rattle.std.specs.List.Sorted.{IsStrictlySortedBy}
 use Rattle.allocative_graph.specs.Rows.{ComesLast}
 use Rattle.allocative_graph.proofs.Children.{put_at_gap, merged_same, put_at_found, with_graph, get-root, get-under}
 use Rattle.allocative_graph.proofs.Children.{node_each, node_of_one, one_child, total-node, no_children}
-use Rattle.allocative_graph.proofs.Children.{insert_root, node_nil, rises, rows-cons, Lacks, lacks_equal}
+use Rattle.allocative_graph.proofs.Children.{insert_root, node_nil, rows-cons, Lacks, lacks_equal}
 use Rattle.allocative_graph.proofs.Children.{size_under-lacks, read-lacks, read-found, other_than}
 use Rattle.allocative_graph.proofs.Basics.{on_test}
 use Rattle.std.proofs.lemmas.List.{take_all, drop_all, set-get_or}
@@ -249,13 +249,18 @@ paths_of_node n cs h = omega (
   ap length (entries-node n cs h),
 )
 
+-- The graph g of a node has the path of its root, and those of its children.
+pub paths_in : {n s : ℕ} {cs ds : List Child} {g : Graph} → node n cs ≡ g → IsNode cs s n → ds ≡ cs →
+    len g ≡ 1 + paths_of ds
+paths_in {n = n} {cs = cs} view h same =
+    ap (λ (x : Graph). len x) (sym view) ∙ paths_of_node n cs h.children.sorted ∙ ap (λ l. 1 + paths_of l) (sym same)
+
 -- The root, the paths of the children before one and those of that one are within the paths of the graph g.
 pub child_within : {n s : ℕ} {cs ds : List Child} {g : Graph} {i : ℕ} {d : Child} → node n cs ≡ g → IsNode cs s n →
     ds ≡ cs → i < length ds → d ≡ get_or ds i d → 1 + paths_of (take i ds) + len d.graph ≤ len g
 child_within {n = n} {cs = cs} {ds = ds} {i = i} {d = d} view h same w at =
     let one = sum_by_more_le (λ (c : Child). len c.graph) ds i d w in
-    let all = paths_of_node n cs h.children.sorted in
-    omega (arith, one, all, ap (λ (h : Graph). len h) view, ap paths_of same, ap (λ (c : Child). len c.graph) at)
+    omega (arith, one, paths_in view h same, ap (λ (c : Child). len c.graph) at)
 
 -- ---- what is known of the graph g of a node
 module _ {n s : ℕ} {cs : List Child} {g : Graph} (view : node n cs ≡ g) (h : IsNode cs s n) where

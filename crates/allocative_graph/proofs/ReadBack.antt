@@ -4,7 +4,7 @@ use Rattle.allocative_graph.specs.declared.read.TheConstants.{LEVELS}
 use Rattle.allocative_graph.specs.declared.read.LineFault.{LineFault}
 use Rattle.std.proofs.Common.{◌≡◌, ◌≢◌, ℕ, suc, ◌+◌, ◌^◌, ◌<◌, ◌≤◌, ◌==◌, true, false, List, [], ◌∷◌, ◌++◌, length}
 use Rattle.std.proofs.Common.{get_or, take, drop, None, Some, refl, ap, sym, ◌∙◌, subst, arith, Bor, eqb-true}
-use Rattle.std.proofs.Common.{take-append-drop, Bool, map, subst₂, append-nil, drop-cons, ◌-◌, cond, not, flat_map}
+use Rattle.std.proofs.Common.{take-append-drop, Bool, map, append-nil, drop-cons, ◌-◌, cond, not, flat_map}
 use Rattle.std.proofs.Common.{length-append, true≢false, decimal, ne_eqb, eq-eqb, if◌then◌else◌, filter, append_assoc}
 use Rattle.std.proofs.Common.{◌||◌, ◌&&◌, Option, is_some, sum_by, zero-add}
 use Rattle.allocative_graph.proofs.Common.{All, All-from_recursion, AllByRecursion, AreStacks, Graph, IsCut, IsRead}
@@ -14,7 +14,7 @@ use Rattle.allocative_graph.proofs.Common.{key_cmp, length-map, line_stack, line
 use Rattle.allocative_graph.proofs.Common.{nil_from_length, size_at, slice_split, sum_by-cons, sum_by-filter_both, text}
 use Rattle.allocative_graph.proofs.Common.{IsPermutation, is_eq, contains_key, get-insert, path_cmp, total, is_root}
 use Rattle.allocative_graph.proofs.Common.{default, sum_of, graph_of_path, one_stack, sum_of_stacks}
-use Rattle.allocative_graph.proofs.Common.{sum_by-IsPermutation, fold-append, tied_then}
+use Rattle.allocative_graph.proofs.Common.{sum_by-IsPermutation, fold-append, tied_then, map-append}
 use Rattle.std.specs.Str.Pattern.{RFindsChar}
 use Rattle.std.proofs.lemmas.Bool.{eqb-false}
 use Rattle.std.proofs.lemmas.List.Elements.{All-from_get_or, recursion_from_All, All-weaker, All-filter}
@@ -61,19 +61,14 @@ root_begins (k ∷ p) q = refl
 abbrev one_at : Path → ℕ → Path → Option ℕ
 one_at ks n p = cond (is_root p || begins p ks) (Some (cond (is_same_path p ks) n 0)) None
 
--- What a path has below a key is what the path with that key has.
-below_key : (k : Key) (ks : Path) (n : ℕ) (l : Key) (p : Path) →
-    cond (is_eq (key_cmp l k)) (one_at ks n p) None ≡ one_at (k ∷ ks) n (l ∷ p)
-below_key k ks n l p =
-    grind (arith, root_begins p ks, tied_then (key_cmp l k) (path_cmp p ks))
-
 -- What a path has in the graph of one path.
 get-path : (ks : Path) (n : ℕ) (p : Path) → get (graph_of_path ks n) p ≡ one_at ks n p
 get-path [] n [] = get-insert path_total default [] (size_at default [] + n) []
     ∙ ap (λ m. Some (m + n)) (size_at-default []) ∙ ap Some (zero-add n)
 get-path [] n (k ∷ p) = get-insert path_total default [] (size_at default [] + n) (k ∷ p) ∙ get-default (k ∷ p)
 get-path (k ∷ ks) n [] = get-under-root k (graph_of_path ks n)
-get-path (k ∷ ks) n (l ∷ p) = rw (get-under k (graph_of_path ks n) l p, get-path ks n p) (below_key k ks n l p)
+get-path (k ∷ ks) n (l ∷ p) = rw (get-under k (graph_of_path ks n) l p, get-path ks n p)
+    (grind (arith, root_begins p ks, tied_then (key_cmp l k) (path_cmp p ks)))
 
 -- The graph of a path has its bytes at that path alone.
 pub size_at-path : (ks : Path) (n : ℕ) (p : Path) → size_at (graph_of_path ks n) p ≡ cond (is_same_path p ks) n 0
@@ -303,22 +298,13 @@ stacks-append ([] ∷ ls) ss ks ts h g = stacks-append ls ss ks ts h g
 stacks-append ((b ∷ bs) ∷ ls) ss ks ts (s, others, e, is, rest) g =
     (s, others ++ ts, ap (λ l. l ++ ts) e, is, stacks-append ls others ks ts rest g)
 
--- One line more was read.
-pub read-more : (xs : List (Bor (List ℕ))) (x : Bor (List ℕ)) (now later : List Line) (line : Line) →
-    AreStacks (texts xs) (map line_stack now) → IsStack x.now (line_stack line) → later ≡ now ++ line ∷ []
-    → AreStacks (texts (xs ++ x ∷ [])) (map line_stack later)
-read-more xs x now later line h is e =
-    rw (e, map_push (λ (x : Bor (List ℕ)). x.now) xs x, map_push line_stack now line)
-    (stacks-append (texts xs) (map line_stack now) (x.now ∷ []) (line_stack line ∷ []) h
-    (stacks-cons x.now [] (line_stack line) [] is refl))
-
--- A blank line was passed over.
-pub read-blank : (xs : List (Bor (List ℕ))) (x : Bor (List ℕ)) (now : List Line) →
-    AreStacks (texts xs) (map line_stack now) → length x.now ≡ 0 → AreStacks (texts (xs ++ x ∷ [])) (map line_stack now)
-read-blank xs x now h e =
-    let blank : AreStacks (x.now ∷ []) [] = subst (λ l. AreStacks (l ∷ []) []) (sym (nil_from_length x.now e)) refl in
-    subst₂ AreStacks (sym (map_push (λ (x : Bor (List ℕ)). x.now) xs x)) (append-nil (map line_stack now))
-    (stacks-append (texts xs) (map line_stack now) (x.now ∷ []) [] h blank)
+-- One line more was passed, with or without a stack.
+pub read-more : (xs : List (Bor (List ℕ))) (x : Bor (List ℕ)) (now more later : List Line) →
+    AreStacks (texts xs) (map line_stack now) → AreStacks (x.now ∷ []) (map line_stack more) → later ≡ now ++ more →
+    AreStacks (texts (xs ++ x ∷ [])) (map line_stack later)
+read-more xs x now more later h is e =
+    rw (e, map_push (λ (x : Bor (List ℕ)). x.now) xs x, map-append line_stack now more)
+    (stacks-append (texts xs) (map line_stack now) (x.now ∷ []) (map line_stack more) h is)
 
 -- The line behind those that were read is the first that is none.
 pub fault_at : (text : List ℕ) (xs : List (Bor (List ℕ))) (x : Bor (List ℕ)) (n : ℕ) (w : LineFault) (ls : List Line) →

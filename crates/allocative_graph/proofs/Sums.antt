@@ -8,7 +8,7 @@ use Rattle.allocative_graph.proofs.Common.{Sums, bytes_in, is_unique_in, is_ente
 use Rattle.allocative_graph.proofs.Common.{sums_of, sum_by-cons, list_any, option_map, eq_by_cmp, is_eq, is_lt}
 use Rattle.allocative_graph.proofs.Common.{IsAntisymmetric, get-entries, insert, entries-insert, entries}
 use Rattle.allocative_graph.proofs.Common.{entries_sorted, put, find, is_sorted, below_all, is_one_below, below, both}
-use Rattle.allocative_graph.proofs.Common.{first, second, AllByRecursion, list_any-append, tied_then, Key, key_cmp}
+use Rattle.allocative_graph.proofs.Common.{first, second, flat_map-append, list_any-append, tied_then, Key, key_cmp}
 use Rattle.allocative_graph.proofs.Common.{Identity, Forest, Empty, Inline, Unique, First, Again, AsInline, AsUnique}
 use Rattle.allocative_graph.proofs.Common.{AsShared, own, own_behind, contents, content_entries, all, IsTotalOrder}
 use Rattle.allocative_graph.proofs.Common.{Mark, nil_from_length, keys, from_entries, len-entries, Graph, graph, sizes}
@@ -16,7 +16,7 @@ use Rattle.allocative_graph.proofs.Common.{sum_of, text, text_of_entries, is_roo
 use Rattle.std.proofs.lemmas.Bool.Decides.{nat_tests}
 use Rattle.std.specs.FinMap.{empty, get-empty, FinMap, len-empty}
 use Rattle.allocative_graph.specs.Sums.{is_unique_mark, bytes_entered}
-use Rattle.allocative_graph.proofs.Basics.{path_total, path_antisymmetric, same_path, is_eq-Equal, each-append}
+use Rattle.allocative_graph.proofs.Basics.{path_total, path_antisymmetric, same_path, is_eq-Equal}
 use Rattle.allocative_graph.proofs.Basics.{same_path_itself}
 pub use Rattle.allocative_graph.specs.Sums.{below_in}
 use Rattle.allocative_graph.specs.Graph.{warning_line}
@@ -308,28 +308,25 @@ closed_behind r (First k n j f after) = closed_entry r k n (AsShared j) [] (own_
 closed_behind r (Again k n j after) = closed_entry r k n (AsShared j) [] (own_behind r after)
     (closed_none (r ++ k ∷ [])) (closed_behind r after)
 
--- Each content of a forest is closed at the root.
-closed_each : (f : Forest) → AllByRecursion (λ c. Closed [] c.1) (contents f)
-closed_each Empty = tt
-closed_each (Inline k n f after) = each-append (λ c. Closed [] c.1) (contents f) (contents after) (closed_each f)
-    (closed_each after)
-closed_each (Unique k n f after) = each-append (λ c. Closed [] c.1) (contents f) (contents after) (closed_each f)
-    (closed_each after)
-closed_each (First k n j f after) = (
-  closed_behind [] f,
-  each-append (λ c. Closed [] c.1) (contents f) (contents after) (closed_each f) (closed_each after),
-)
-closed_each (Again k n j after) = closed_each after
+-- If two lists of contents are closed at the root, so are both one after another.
+closed_both : (cs ds : List (Identity × Bag)) → Closed [] (flat_map (λ c. c.1) cs) →
+    Closed [] (flat_map (λ c. c.1) ds) → Closed [] (flat_map (λ c. c.1) (cs ++ ds))
+closed_both cs ds x y = rw (flat_map-append (λ (c : Identity × Bag). c.1) cs ds) (closed_append [] _ _ x y)
 
--- If each of some contents is closed at the root, so are all of them one after another.
-closed_flat : (cs : List (Identity × Bag)) → AllByRecursion (λ c. Closed [] c.1) cs → Closed [] (flat_map (λ c. c.1) cs)
-closed_flat [] h = closed_none []
-closed_flat (c ∷ cs) h = closed_append [] c.1 (flat_map (λ c. c.1) cs) h.0 (closed_flat cs h.1)
+-- The entries of all contents are closed at the root.
+closed_contents : (f : Forest) → Closed [] (content_entries f)
+closed_contents Empty = closed_none []
+closed_contents (Inline k n f after) = closed_both (contents f) (contents after) (closed_contents f)
+    (closed_contents after)
+closed_contents (Unique k n f after) = closed_both (contents f) (contents after) (closed_contents f)
+    (closed_contents after)
+closed_contents (First k n j f after) = closed_append [] (own f) _ (closed_behind [] f)
+    (closed_both (contents f) (contents after) (closed_contents f) (closed_contents after))
+closed_contents (Again k n j after) = closed_contents after
 
 -- All entries of a forest are closed at the root.
 pub closed_all : (f : Forest) → Closed [] (all f)
-closed_all f = closed_append [] (own f) (content_entries f) (closed_behind [] f)
-    (closed_flat (contents f) (closed_each f))
+closed_all f = closed_append [] (own f) (content_entries f) (closed_behind [] f) (closed_contents f)
 
 -- If a bag has an entry at p with one more key, it has an entry one key below p.
 pub below_entered : (p : Path) (k : Key) (b : Bag) → IsTrue (is_entered_in b (p ++ k ∷ [])) → IsTrue (has_below b p)

@@ -6,7 +6,7 @@ use Rattle.std.specs.Prelude.{Bool}
 use Rattle.std.specs.FinMap.{contains_key, get}
 use Rattle.allocative_graph.specs.Path.{Path, Key, key_cmp}
 use Rattle.allocative_graph.specs.Format.{space, newline}
-use Rattle.allocative_graph.specs.Graph.{Graph, size_at, default, sum_of, under, add_self, IsTree, total, IsPartOfSum}
+use Rattle.allocative_graph.specs.Graph.{Graph, size_at, default, sum_of, under, add_self, IsTree, total}
 use Rattle.allocative_graph.specs.Graph.{is_root, joined}
 use Rattle.allocative_graph.specs.Read.{Stack}
 use Rattle.allocative_graph.specs.declared.flamegraph.Child.{Child}
@@ -112,6 +112,7 @@ pub record Merged (all : Bool) (cs ds es : List Child) : Type 0 where
   pub above : (k : Key) → AllAbove cs k → AllAbove ds k → AllAbove es k
   pub adds : (k : Key) (p : Path) → Adds all (size_under cs k p) (size_under ds k p) (size_under es k p)
   pub at_most : total_of es ≤ total_of cs + total_of ds
+  pub fewer : length es ≤ length cs + length ds
 
 -- Of cs and ds, cs' and ds' remain, and out is the merge of what comes before them.
 pub record MergesFirst (all : Bool) (cs ds out cs' ds' : List Child) : Type 0 where

@@ -1,9 +1,9 @@
 -- of merge, interleave, take_next, put_each and put_child: what they merge, and that sizes fit
-use Rattle.std.proofs.Common.{◌≡◌, [], Some, refl, sym, ap, ◌∙◌, arith, is_ok, subst, List, length}
-use Rattle.std.proofs.Common.{length-append, ◌&&◌, true}
-use Rattle.allocative_graph.proofs.Common.{Child, nil_from_length, total, total_of, sum_by_push, AreChildren, Merged, rows_of, rows_of_child}
-use Rattle.allocative_graph.proofs.Basics.{and_assoc, and-true}
-use Rattle.allocative_graph.proofs.Children.{merges_then, merges_all, is_ok-and, merged_same, merged_more, others, next_less, next_greater, total_of-cons}
+use Rattle.std.proofs.Common.{◌≡◌, [], Some, refl, sym, ap, ◌∙◌, arith, is_ok, subst, List}
+use Rattle.std.proofs.Common.{true}
+use Rattle.allocative_graph.proofs.Common.{Child, nil_from_length, total, total_of, sum_by_push, AreChildren, Merged, MergesFirst}
+use Rattle.allocative_graph.proofs.Basics.{and-true}
+use Rattle.allocative_graph.proofs.Children.{merges_then, merges_all, is_ok-and, merged_same, next_put, next_less, next_greater}
 use Rattle.allocative_graph.proofs.Children.{next_equal, front_is, front_total, front_rows, one_of_length, put_at_found, put_at_gap}
 use Rattle.allocative_graph.proofs.Nodes.{merged_graph, child_of_one}
 use Rattle.allocative_graph.proofs.flamegraph.+merge.Goals as goal
@@ -95,56 +95,32 @@ FlameGraph::merge-returns-then-len t c =
 
 pub put_each-put_child-requires : goal.put_each-put_child-requires
 put_each-put_child-requires t c =
-    let before = c.loop-theirs.invariant in
+    let before = c.loop-theirs.invariant.merged in
     let items = c.pop_front.ensures.items in
     let rows = front_rows _ items c.in-Some.is in
-    let fits = front_total _ items c.in-Some.is in (
-      omega (arith, c.decreases, rows, before.rows),
-      (
-        before.mine,
-        (
-          before.size,
-          ((subst AreChildren (front_is items c.in-Some.is) before.theirs).trees.0, omega (arith, before.fits, fits)),
-        ),
-      ),
+    let fits = front_total _ items c.in-Some.is in
+    let tree = (subst AreChildren (front_is items c.in-Some.is) before.theirs).trees.0 in
+    let size = c.loop-theirs.invariant.size in (
+      omega (arith, c.decreases, rows, before.fewer_rows),
+      (before.mine, (size, (tree, omega (arith, before.fits, c.requires.fits, c.requires.size, size, fits)))),
     )
 
 pub put_each-loop-theirs-preserved : goal.put_each-loop-theirs-preserved
 put_each-loop-theirs-preserved t c =
-    let before = c.loop-theirs.invariant in
+    let before = c.loop-theirs.invariant.merged in
     let items = front_is c.pop_front.ensures.items c.in-Some.is in
-    let all = subst AreChildren items before.theirs in
-    let merged = c.put_child.ensures.merged in
     record {
-      goes_on = λ b es m. subst (λ v. Merged v c.args.children.now.items c.args.theirs.items es)
-          (sym (ap (λ v. v && b) (ap (λ r. is_ok r) c.and-result.ensures ∙ is_ok-and _ _) ∙ and_assoc _ _ b))
-          (before.goes_on (is_ok c.put_child.result && b) es
-          (subst (λ (l : List Child). Merged (is_ok c.put_child.result && b) c.loop-theirs.children.items l es)
-          (sym items)
-          (merged_more all merged m)));
-      mine = merged.children;
-      theirs = others _ _ all;
-      rows = omega (
-        arith,
-        before.rows,
-        ap (λ (l : List Child). length
-            (rows_of l)) items ∙ length-append (rows_of_child c.in-Some.child) (rows_of c.pop_front.new.self.items),
-      );
+      merged = merges_then before
+          (subst (λ (l : List Child). MergesFirst (is_ok c.put_child.result) c.loop-theirs.children.items l []
+          c.put_child.new.children.items c.pop_front.new.self.items) (sym items)
+          (next_put (subst AreChildren items before.theirs) c.put_child.ensures.merged))
+          (ap (λ r. is_ok r) c.and-result.ensures ∙ is_ok-and _ _) refl;
       size = c.put_child.ensures.size;
-      fits = omega (
-        arith,
-        before.fits,
-        before.size,
-        c.put_child.ensures.size,
-        merged.at_most,
-        total_of-cons c.in-Some.child [],
-        ap total_of items ∙ total_of-cons c.in-Some.child c.pop_front.new.self.items,
-      );
     }
 
 pub put_each-returns-in_default-clause-merged : goal.put_each-returns-in_default-clause-merged
 put_each-returns-in_default-clause-merged t c =
-    let before = c.loop-theirs.invariant in
+    let before = c.loop-theirs.invariant.merged in
     let none = sym (nil_from_length _ (sym c.loop-theirs.theirs.ok.0 ∙ c.in_default.ensures.cases.0)) in
     subst (λ v. Merged v c.args.children.now.items c.args.theirs.items c.loop-theirs.children.items) (and-true _)
     (before.goes_on true c.loop-theirs.children.items
@@ -156,6 +132,6 @@ put_each-returns-clause-merged t c =
     let es = c.interleave.new.children.items in
     subst (λ v. Merged v c.args.children.now.items c.args.theirs.items es)
     (sym (ap (λ r. is_ok r) c.and.ensures ∙ is_ok-and _ _))
-    (c.loop-theirs.invariant.goes_on (is_ok c.interleave.result) es
+    (c.loop-theirs.invariant.merged.goes_on (is_ok c.interleave.result) es
     (subst (λ (l : List Child). Merged (is_ok c.interleave.result) c.loop-theirs.children.items l es) c.from.ensures.0
     c.interleave.ensures.merged))

@@ -1,6 +1,6 @@
 -- of merge, interleave, take_next, put_each and put_child: how far they still have to go, and what the loops keep
-use Rattle.std.proofs.Common.{◌≡◌, ◌+◌, ◌*◌, ◌≤◌, ◌<◌, ◌^◌, ◌&&◌, Bool, List, length, is_ok}
-use Rattle.allocative_graph.proofs.Common.{vec_capacity, len, rows_of, total_of, MergesFirst, Merged, AreChildren, Child}
+use Rattle.std.proofs.Common.{◌≡◌, ◌+◌, ◌*◌, ◌≤◌, [], length, is_ok}
+use Rattle.allocative_graph.proofs.Common.{vec_capacity, len, rows_of, total_of, MergesFirst}
 use Rattle.allocative_graph.proofs.flamegraph.+merge.Given as goal
 
 -- A graph has more rows than its children.
@@ -37,11 +37,6 @@ decreases-put_each-loop-theirs l = length l.theirs.items
 -- Whatever merges the children that remain merges all.
 abbrev pub invariant-put_each-loop-theirs : goal.invariant-put_each-loop-theirs
 invariant-put_each-loop-theirs l = record {
-  goes_on : (b : Bool) (es : List Child) → Merged b l.children.items l.theirs.items es
-      → Merged (is_ok l.result && b) l.fn.children.items l.fn.theirs.items es;
-  mine : AreChildren l.children.items;
-  theirs : AreChildren l.theirs.items;
-  rows : length (rows_of l.theirs.items) ≤ length (rows_of l.fn.theirs.items);
+  merged : MergesFirst (is_ok l.result) l.fn.children.items l.fn.theirs.items [] l.children.items l.theirs.items;
   size : l.size ≡ total_of l.children.items;
-  fits : l.size + total_of l.theirs.items < 2 ^ 64;
 }

@@ -1,9 +1,10 @@
 -- of read_lines: the steps of its loop, line and ok
-use Rattle.std.proofs.Common.{◌≡◌, ◌+◌, length, sym, ◌∙◌, arith, rules, eqb-true}
+use Rattle.std.proofs.Common.{◌≡◌, ℕ, ◌+◌, ◌∷◌, [], List, length, sym, ◌∙◌, arith, rules, eqb-true, refl, subst, append-nil}
+use Rattle.allocative_graph.proofs.Common.{AreStacks, nil_from_length}
 use Rattle.std.proofs.lemmas.Iterator.Splits.{YieldsList-from_lines}
 use Rattle.std.proofs.lemmas.Iterator.Consumers.{YieldsList-so_far, YieldsList-turn, YieldsList-end}
 use Rattle.std.proofs.lemmas.List.{length_push}
-use Rattle.allocative_graph.proofs.ReadBack.{lines_fit, read-more, read-blank, fault_at, not_zero}
+use Rattle.allocative_graph.proofs.ReadBack.{lines_fit, read-more, stacks-cons, fault_at, not_zero}
 use Rattle.allocative_graph.proofs.read.read_lines.Goals as goal
 
 pub returns-in-Err-clause-line : goal.returns-in-Err-clause-line
@@ -25,8 +26,9 @@ loop-line-preserved c =
     _ _ c.in-Some.line c.in-Some.is c.next.ensures.steps in
     record {
       number = omega (arith, t.0, lines_fit c.args.text.now, length_push c.loop-line.yielded c.in-Some.line);
-      came = read-more c.loop-line.yielded c.in-Some.line c.loop-line.lines.items c.push.new.self.items c.in-Ok.read
-          c.loop-line.invariant.came c.in-Ok.ensures.ok (search rules);
+      came = read-more c.loop-line.yielded c.in-Some.line c.loop-line.lines.items (c.in-Ok.read ∷ [])
+          c.push.new.self.items c.loop-line.invariant.came
+          (stacks-cons _ [] _ [] c.in-Ok.ensures.ok refl) (search rules);
     }
 
 pub loop-line-preserved-then-is_empty : goal.loop-line-preserved-then-is_empty
@@ -35,8 +37,10 @@ loop-line-preserved-then-is_empty c =
     _ _ c.in-Some.line c.in-Some.is c.next.ensures.steps in
     record {
       number = omega (arith, t.0, lines_fit c.args.text.now, length_push c.loop-line.yielded c.in-Some.line);
-      came = read-blank c.loop-line.yielded c.in-Some.line c.loop-line.lines.items c.loop-line.invariant.came
-          (eqb-true _ 0 (sym c.is_empty.ensures ∙ c.if-is_empty.true));
+      came = read-more c.loop-line.yielded c.in-Some.line c.loop-line.lines.items [] c.loop-line.lines.items
+          c.loop-line.invariant.came (subst (λ (l : List ℕ). AreStacks (l ∷ []) [])
+          (sym (nil_from_length _ (eqb-true _ 0 (sym c.is_empty.ensures ∙ c.if-is_empty.true)))) refl)
+          (sym (append-nil _));
     }
 
 pub returns-clause-ok : goal.returns-clause-ok
