@@ -389,12 +389,18 @@ merges_then {a = a} {b = b} {cs = cs} {ds = ds} {out = out}
       fits = omega (arith, m.fits, n.fits, sum_by-append (λ (c : Child). total c.graph) out more);
     })
 
+-- When no child of the second list remains, what was merged first and the rest of the first list are the merge of both.
+pub merges_rest : {all : Bool} {cs ds out cs' ds' : List Child} → MergesFirst all cs ds out cs' ds' → ds' ≡ [] →
+    Merged all cs ds (out ++ cs')
+merges_rest {all = all} {cs = cs} {ds = ds} {out = out} {cs' = cs'} m d =
+    subst (λ v. Merged v cs ds (out ++ cs')) (and-true all)
+    (m.goes_on true cs' (subst (λ l. Merged true cs' l cs') (sym d) (merged_same cs' m.mine)))
+
 -- When no child of either list remains, what was merged first is the merge of both.
 pub merges_all : {all : Bool} {cs ds out cs' ds' : List Child} → MergesFirst all cs ds out cs' ds' → cs' ≡ [] →
     ds' ≡ [] → Merged all cs ds out
 merges_all {all = all} {cs = cs} {ds = ds} {out = out} m c d =
-    subst₂ (λ v r. Merged v cs ds r) (and-true all) (append-nil out)
-    (m.goes_on true [] (subst₂ (λ x y. Merged true x y []) (sym c) (sym d) (merged_same [] no_children)))
+    subst (Merged all cs ds) (ap (λ l. out ++ l) c ∙ append-nil out) (merges_rest m d)
 
 -- Two results one after another are Ok exactly if each of them is.
 pub is_ok-and : {E : Type 0} (r s : Result (Unit {0}) E) → is_ok (result_and r s) ≡ (is_ok r && is_ok s)

@@ -39,7 +39,7 @@ pub use Rattle.allocative_graph.specs.Read.{AreStacks, IsCut, IsRead, SaysStacks
 pub use Rattle.allocative_graph.specs.Read.{is_path_of, line_stack}
 pub use Rattle.allocative_graph.specs.Representation.Children.{Adds, AllAbove, InOrder, IsChildGap}
 pub use Rattle.allocative_graph.specs.Representation.Children.{IsFound, size_under, Added, Merged, child_of_path}
-pub use Rattle.allocative_graph.specs.Representation.Children.{IsNode, IsSumByPath, line_after, graph_of_path}
+pub use Rattle.allocative_graph.specs.Representation.Children.{IsNode, AddsUp, line_after, graph_of_path}
 pub use Rattle.allocative_graph.specs.Representation.Children.{one_stack, sum_of_stacks, MergesFirst}
 pub use Rattle.allocative_graph.specs.Representation.NodeRows.{both, entries-node, first, len-child, second}
 pub use Rattle.allocative_graph.specs.Sums.{Node, Sums, add, add_all, below, bytes_in, is_entered_in, is_unique_in}

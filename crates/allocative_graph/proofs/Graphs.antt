@@ -3,7 +3,7 @@ use Rattle.std.proofs.Common.{◌≡◌, ℕ, ◌+◌, Bool, cond, ◌||◌, T, 
 use Rattle.std.proofs.Common.{is_some, ap, sym, ◌∙◌, arith, unwrap_or, sum_by, refl}
 use Rattle.allocative_graph.proofs.Common.{eq_by_cmp, get, entries, get-entries, get-insert, get-from_entries}
 use Rattle.allocative_graph.proofs.Common.{entries_sorted, contains_key, same_map, find, is_sorted, below_all, first}
-use Rattle.allocative_graph.proofs.Common.{second, Key, Child, node, IsSumByPath, Path, key_cmp, path_cmp, is_same_path}
+use Rattle.allocative_graph.proofs.Common.{second, Key, Child, node, AddsUp, Path, key_cmp, path_cmp, is_same_path}
 use Rattle.allocative_graph.proofs.Common.{Forest, all, Bag, is_entered_in, sums_of, Graph, graph, size_at, total_at}
 use Rattle.allocative_graph.proofs.Common.{begins, total, sum_of, under, default, IsTree, sum_by-cons, insert, list_any}
 use Rattle.allocative_graph.proofs.Common.{IsPermutation, sum_of_all, total_of, sum_by-IsPermutation}
@@ -88,7 +88,7 @@ pub same_graph : (g h : Graph) → ((p : Path) → size_at g p ≡ size_at h p) 
 same_graph g h sizes paths = same_map path_total path_antisymmetric g h (λ p. grind (arith, sizes p, paths p))
 
 -- A graph that has the sums path by path is the sum.
-pub is_sum_of : (g h r : Graph) → IsSumByPath g h r → r ≡ sum_of g h
+pub is_sum_of : (g h r : Graph) → ((p : Path) → AddsUp (get g p) (get h p) (get r p)) → r ≡ sum_of g h
 is_sum_of g h r s = same_graph r (sum_of g h) (λ p. (s p).0 ∙ sym (size_at-sum_of g h p))
     (λ p. (s p).1 ∙ sym (has-sum_of g h p))
 

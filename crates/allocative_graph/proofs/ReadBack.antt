@@ -119,12 +119,12 @@ is_read t ls sorted g means moved e =
 total-lines : (ls : List Line) → total (sum_of_stacks default (map line_stack ls)) ≡ sum_by (λ l. l.size) ls
 total-lines ls = omega (arith, total-stacks (map line_stack ls), fold-map (λ n (s : Stack). n + s.size) line_stack 0 ls)
 
--- The bytes of the next line fit, where those of all lines do.
-pub line_fits : (ls : List Line) (i : ℕ) (d : Line) (g : Graph) → i < length ls →
-    g ≡ sum_of_stacks default (map line_stack (take i ls)) → sum_by (λ l. l.size) ls < 2 ^ 64 →
-    total g + (get_or ls i d).size < 2 ^ 64
-line_fits ls i d g within is fits =
-    omega (arith, fits, ap total is, total-lines (take i ls), sum_by_more_le (λ (l : Line). l.size) ls i d within)
+-- The bytes of all lines exceed a word if those of some, with the next one, do.
+pub lines_exceed : (ls : List Line) (i : ℕ) (d : Line) (g : Graph) → i < length ls →
+    g ≡ sum_of_stacks default (map line_stack (take i ls)) → 2 ^ 64 ≤ total g + (get_or ls i d).size →
+    2 ^ 64 ≤ sum_by (λ l. l.size) ls
+lines_exceed ls i d g within is more =
+    omega (arith, more, ap total is, total-lines (take i ls), sum_by_more_le (λ (l : Line). l.size) ls i d within)
 
 -- One line more is added.
 pub line_more : (ls : List Line) (i : ℕ) (l : Line) (g h : Graph) → take (i + 1) ls ≡ take i ls ++ l ∷ [] →
@@ -136,23 +136,20 @@ line_more ls i l g h more was is =
     ∙ ap (sum_of_stacks default) (map_push line_stack (take i ls) l)
     ∙ fold-append (λ h s. sum_of h (one_stack s)) default (map line_stack (take i ls)) (line_stack l ∷ []))
 
--- If the bytes of lines were added up in vain, they exceed a word.
-pub sum_exceeds : (t : List ℕ) (ls given : List Line) → SaysStacks t (map line_stack ls) → given ≡ ls →
-    ¬ (sum_by (λ l. l.size) given < 2 ^ 64) → Exceeds t
-sum_exceeds t ls given means e h =
-    record {
-      stacks = map line_stack ls;
-      means = means;
-      exceeds = omega (
-        arith,
-        h,
-        ap (λ (xs : List Line). sum_by (λ l. l.size) xs) e,
-        fold-map (λ n (s : Stack). n + s.size) line_stack 0 ls,
-      );
-    }
-
--- The bytes of lines do not depend on their order.
-pub ruleset of_lines = (sum_by-IsPermutation)
+-- If the bytes of lines exceed a word in some order, those of their text do.
+pub text_exceeds : (t : List ℕ) (ls sorted given : List Line) → SaysStacks t (map line_stack ls) →
+    IsPermutation ls sorted → given ≡ sorted → 2 ^ 64 ≤ sum_by (λ l. l.size) given → Exceeds t
+text_exceeds t ls sorted given means moved e h = record {
+  stacks = map line_stack ls;
+  means = means;
+  exceeds = omega (
+    arith,
+    h,
+    ap (λ (xs : List Line). sum_by (λ l. l.size) xs) e,
+    sum_by-IsPermutation (λ (l : Line). l.size) ls sorted moved,
+    fold-map (λ n (s : Stack). n + s.size) line_stack 0 ls,
+  );
+}
 
 -- ---- the parts of a line
 -- If no place in a list has a byte, the list lacks it.

@@ -1,6 +1,5 @@
 //! Reading the text of a flame graph: collapsed stacks, of this library or of any other profiler.
-ghost use Rattle.std.specs.Prelude.{◌≡◌, ◌^◌, ◌<◌, ◌↔◌, IsTrue, IfOk, IfErr, IsErrOf, map, sum_by};
-ghost use Rattle.std.specs.Option.{SomeIff};
+ghost use Rattle.std.specs.Prelude.{◌≡◌, ℕ, ◌^◌, ◌≤◌, ◌↔◌, IsTrue, IfOk, IfErr, IsErrOf, map, sum_by};
 ghost use Rattle.std.specs.Str.Parse.{IsNumeral};
 ghost use Rattle.allocative_graph.specs.Graph.{default};
 ghost use Rattle.allocative_graph.specs.declared.read.ReadFault.TheVariants.{Memory};
@@ -75,7 +74,6 @@ impl FlameGraph {
     /// may be empty, and may have spaces, but a path has at least one byte. Blank lines are skipped. It returns `Line`
     /// for any other line that is not of this form, or whose path has more than [`LEVELS`] keys, and `TooLarge` only if
     /// the bytes of all lines together exceed `usize::MAX`. The only other error is that memory runs out.
-    #[tactic(auto, using(crate::proofs::ReadBack::of_lines))]
     pub fn read(alloc: Global, text: &'static str) -> Result<FlameGraph, ReadFault>
         ensures graph { IfOk result (λ graph. IsRead text.now graph) }
         ensures line { TellsFault text.now result }
@@ -83,12 +81,9 @@ impl FlameGraph {
         ensures reads_back { IfOk result (λ graph. ReadsBack text.now graph) }
     {
         let mut lines = read_lines(alloc, text)?;
-        let Some(_total) = total_of(lines.as_slice()) else {
-            return Err(ReadFault::TooLarge);
-        };
         // Almost every key is then added behind those that are there. The result of a sum does not depend on it.
         lines.sort_unstable_by(|a: &Line, b: &Line| a.path.cmp(b.path));
-        Ok(add_up(alloc, lines.as_slice())?)
+        add_up(alloc, lines.as_slice())
     }
 }
 
@@ -153,28 +148,19 @@ fn read_lines(alloc: Global, text: &'static str) -> Result<Vec<Line>, ReadFault>
     Ok(lines)
 }
 
-// The bytes of all lines together, or `None` if they do not fit.
+// The sum of the graphs of some lines.
 #[tactic(auto, using(std::proofs::Common::take_all))]
-fn total_of(lines: &[Line]) -> Option<usize>
-    ensures { SomeIff result
-        (sum_by (λ l. l.size) lines.now < 2 ^ 64) (sum_by (λ l. l.size) lines.now) }
-{
-    let mut sum: usize = 0;
-    for line in lines {
-        sum = sum.checked_add(line.size)?;
-    }
-    Some(sum)
-}
-
-// The sum of the graphs of some lines, whose bytes fit together.
-#[tactic(auto, using(std::proofs::Common::take_all))]
-fn add_up(alloc: Global, lines: &[Line]) -> Result<FlameGraph, AllocError>
-    requires { sum_by (λ l. l.size) lines.now < 2 ^ 64 }
-    ensures { IfOk result (λ graph. graph ≡ sum_of_stacks default (map line_stack lines.now)) }
+fn add_up(alloc: Global, lines: &[Line]) -> Result<FlameGraph, ReadFault>
+    ensures graph { IfOk result (λ graph. graph ≡ sum_of_stacks default (map line_stack lines.now)) }
+    ensures too_large { IsErrOf result ReadFault.TooLarge → 2 ^ 64 ≤ sum_by (λ l. l.size) lines.now }
+    ensures no_fault { (n : ℕ) (w : LineFault) → ¬ (IsErrOf result (ReadFault.Line n w)) }
 {
     let mut graph = FlameGraph::default(alloc);
     let mut keys: Vec<&'static str> = Vec::new(alloc);
     for line in lines {
+        if line.size > usize::MAX - graph.total_size() {
+            return Err(ReadFault::TooLarge);
+        }
         keys.clear();
         keys.extend(line.path.split(';'))?;
         add_at(&mut graph, keys.as_slice(), line.size)?;

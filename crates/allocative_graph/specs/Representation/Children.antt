@@ -3,10 +3,10 @@
 use Rattle.std.specs.Prelude.{◌≡◌, ℕ, ◌+◌, ◌||◌, ◌==◌, List, [], ◌∷◌, ◌++◌, decimal, fold, ◌^◌}
 use Rattle.std.specs.Prelude.{◌<◌, ◌≤◌, ◌⊎◌, true, cond, Option, Some, None, is_some, length, slice_index_or, ◌&&◌}
 use Rattle.std.specs.Prelude.{Bool}
-use Rattle.std.specs.FinMap.{contains_key, get}
+use Rattle.std.specs.FinMap.{get}
 use Rattle.allocative_graph.specs.Path.{Path, Key, key_cmp}
 use Rattle.allocative_graph.specs.Format.{space, newline}
-use Rattle.allocative_graph.specs.Graph.{Graph, size_at, default, sum_of, under, add_self, IsTree, total}
+use Rattle.allocative_graph.specs.Graph.{Graph, default, sum_of, under, add_self, IsTree, total}
 use Rattle.allocative_graph.specs.Graph.{is_root, joined}
 use Rattle.allocative_graph.specs.Read.{Stack}
 use Rattle.allocative_graph.specs.declared.flamegraph.Child.{Child}
@@ -21,11 +21,6 @@ use Rattle.std.specs.Ordering.{eq_by_cmp}
 -- The line of a path, with t before its keys. The root has none.
 abbrev pub line_after : List ℕ → Path × ℕ → List ℕ
 line_after t e = cond (is_root e.0 || (e.1 == 0)) [] (t ++ (joined e.0 ++ space ∷ decimal e.1 ++ newline ∷ []))
-
--- Path by path r is the sum of g and h, and it has the paths of both.
-abbrev pub IsSumByPath : Graph → Graph → Graph → Type 0
-IsSumByPath g h r = (p : Path)
-    → (size_at r p ≡ size_at g p + size_at h p) × (contains_key r p ≡ (contains_key g p || contains_key h p))
 
 -- ---- the graphs of paths and of stacks
 -- The graph that has n bytes at a path, each prefix of the path, and nothing else.

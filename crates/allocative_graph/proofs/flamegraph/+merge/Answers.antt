@@ -1,9 +1,7 @@
 -- of merge, interleave, take_next, put_each and put_child: what they merge, and that sizes fit
 use Rattle.std.proofs.Common.{◌≡◌, [], Some, refl, sym, ap, ◌∙◌, arith, is_ok, subst, List}
-use Rattle.std.proofs.Common.{true}
-use Rattle.allocative_graph.proofs.Common.{Child, nil_from_length, total, total_of, sum_by_push, AreChildren, Merged, MergesFirst}
-use Rattle.allocative_graph.proofs.Basics.{and-true}
-use Rattle.allocative_graph.proofs.Children.{merges_then, merges_all, is_ok-and, merged_same, next_put, next_less, next_greater}
+use Rattle.allocative_graph.proofs.Common.{Child, nil_from_length, total, total_of, sum_by_push, AreChildren, MergesFirst}
+use Rattle.allocative_graph.proofs.Children.{merges_then, merges_rest, merges_all, is_ok-and, merged_same, next_put, next_less, next_greater}
 use Rattle.allocative_graph.proofs.Children.{next_equal, front_is, front_total, front_rows, one_of_length, put_at_found, put_at_gap}
 use Rattle.allocative_graph.proofs.Nodes.{merged_graph, child_of_one}
 use Rattle.allocative_graph.proofs.flamegraph.+merge.Goals as goal
@@ -119,19 +117,9 @@ put_each-loop-theirs-preserved t c =
     }
 
 pub put_each-returns-in_default-clause-merged : goal.put_each-returns-in_default-clause-merged
-put_each-returns-in_default-clause-merged t c =
-    let before = c.loop-theirs.invariant.merged in
-    let none = sym (nil_from_length _ (sym c.loop-theirs.theirs.ok.0 ∙ c.in_default.ensures.cases.0)) in
-    subst (λ v. Merged v c.args.children.now.items c.args.theirs.items c.loop-theirs.children.items) (and-true _)
-    (before.goes_on true c.loop-theirs.children.items
-    (subst (λ (l : List Child). Merged true c.loop-theirs.children.items l c.loop-theirs.children.items) none
-    (merged_same _ before.mine)))
+put_each-returns-in_default-clause-merged t c = merges_rest c.loop-theirs.invariant.merged
+    (nil_from_length _ (sym c.loop-theirs.theirs.ok.0 ∙ c.in_default.ensures.cases.0))
 
 pub put_each-returns-clause-merged : goal.put_each-returns-clause-merged
-put_each-returns-clause-merged t c =
-    let es = c.interleave.new.children.items in
-    subst (λ v. Merged v c.args.children.now.items c.args.theirs.items es)
-    (sym (ap (λ r. is_ok r) c.and.ensures ∙ is_ok-and _ _))
-    (c.loop-theirs.invariant.merged.goes_on (is_ok c.interleave.result) es
-    (subst (λ (l : List Child). Merged (is_ok c.interleave.result) c.loop-theirs.children.items l es) c.from.ensures.0
-    c.interleave.ensures.merged))
+put_each-returns-clause-merged t c = rw (c.and.ensures, is_ok-and c.loop-theirs.result c.interleave.result)
+    (c.loop-theirs.invariant.merged.goes_on _ _ (rw c.from.ensures.0 at c.interleave.ensures.merged))

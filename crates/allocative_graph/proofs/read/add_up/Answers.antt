@@ -1,22 +1,21 @@
--- of add_up: the bytes of a line fit, and the step of its loop
-use Rattle.std.proofs.Common.{◌≡◌, ◌++◌, [], List, Bor, ℕ, get_or, ap, ◌∙◌, lit<, Ok}
+-- of add_up: that the bytes of all lines exceed a word, and the step of its loop
+use Rattle.std.proofs.Common.{◌≡◌, ◌++◌, [], List, Bor, ℕ, get_or, ap, ◌∙◌, lit<, Ok, arith}
 use Rattle.std.proofs.lemmas.Iterator.Adapters.{fact_from_extend}
 use Rattle.std.proofs.lemmas.Iterator.Consumers.{YieldsList-at}
 use Rattle.allocative_graph.proofs.Common.{YieldsList-from_str_split, Line, Path, sum_of, graph_of_path, take_more}
 use Rattle.allocative_graph.specs.Read.{keys_of}
 use Rattle.allocative_graph.proofs.Text.{texts}
-use Rattle.allocative_graph.proofs.ReadBack.{line_fits, line_more}
+use Rattle.allocative_graph.proofs.ReadBack.{lines_exceed, line_more}
 use Rattle.allocative_graph.proofs.read.add_up.Goals as goal
 
 -- What the code reads behind the last line.
 abbrev no_line : Line
 no_line = record { path = record { ref_ptr = (0, 0); now = [] }; size = 0 }
 
-pub add_at-requires : goal.add_at-requires
-add_at-requires c = record {
-  fits = line_fits c.args.lines.now c.loop-line.line-index no_line c.loop-line.graph c.loop-line-test.true
-      c.loop-line.invariant c.requires;
-}
+pub returns-then-line-total_size-clause-too_large : goal.returns-then-line-total_size-clause-too_large
+returns-then-line-total_size-clause-too_large c = λ _.
+    lines_exceed c.args.lines.now c.loop-line.line-index no_line c.loop-line.graph c.loop-line-test.true
+    c.loop-line.invariant (omega (arith, c.total_size.ensures.total, c.if-line-total_size.true))
 
 pub loop-line-preserved : goal.loop-line-preserved
 loop-line-preserved c =
