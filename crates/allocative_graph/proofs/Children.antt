@@ -14,7 +14,7 @@ use Rattle.allocative_graph.proofs.Common.{find, under, under_rows, node, path_c
 use Rattle.allocative_graph.proofs.Common.{entries-from_sorted, put, insert, len, len-child, Graph, Added, Merged}
 use Rattle.allocative_graph.proofs.Common.{sum_by-append, All, Equal-is, tied_then, exact_bytes, MergesFirst}
 use Rattle.allocative_graph.proofs.Common.{eq_by_cmp_equiv, tied_itself}
-use Rattle.std.specs.List.Sorted.{IsStrictlySortedBy, IsSearchInRange, IsBinarySearchResult, IsNonDecreasingBy}
+use Rattle.std.specs.List.Sorted.{IsStrictlySortedBy, IsSearchInRange, IsBinarySearchResult}
 use Rattle.std.proofs.lemmas.List.Sums.{sum_by-set, sum_by-insert, get_or-le-sum_by}
 use Rattle.std.specs.List.{insert as insert_at}
 use Rattle.std.proofs.lemmas.List.Recursion.{found_at, found_nowhere}
@@ -24,7 +24,6 @@ use Rattle.std.proofs.lemmas.List.{get_or-map, get_or_default}
 use Rattle.std.proofs.lemmas.Map.Keys.{Less-from_sorted}
 use Rattle.std.specs.declared.cmp.Ordering.{Ordering}
 use Rattle.std.proofs.lemmas.List.Sorted.{searchable_from_sorted}
-use Rattle.std.specs.Ordering.{ordering_index}
 use Rattle.std.proofs.lemmas.Bool.{cases_lt}
 use Rattle.std.specs.Option.{option_or, option_to_list}
 use Rattle.std.specs.Result.{result_and}
@@ -143,11 +142,6 @@ above_all k c cs less h =
 
 -- ---- a search for a key
 module _ (cs : List Child) (o : InOrder cs) (k : Key) where
-  comparisons_rise : IsNonDecreasingBy (λ (c : Child). ordering_index (key_cmp c.key k)) cs
-  comparisons_rise = searchable_from_sorted nat_list_cmp_total (λ (c : Child). c.key) cs k
-      (λ i d low high. ap is_lt (nat_list_cmp_total.antisymm (get_or cs (i + 1) d).key (get_or cs i d).key
-      ∙ ap ordering_reverse (rises cs i (i + 1) d o (omega arith) high)))
-
   -- A binary search finds the child with the key, or the gap where it belongs.
   pub searched : (r : Result ℕ ℕ) → IsSearchInRange r (length cs) →
       IsBinarySearchResult (λ (c : Child). key_cmp c.key k) cs r →
@@ -155,7 +149,10 @@ module _ (cs : List Child) (o : InOrder cs) (k : Key) where
   searched (Ok i) in_range equal =
       record { found = record { within = in_range; same = λ d. exact_bytes _ _ (equal d) }; missing = tt }
   searched (Err i) in_range parted =
-      record { found = tt; missing = record { within = in_range; between = parted comparisons_rise } }
+      let rise = searchable_from_sorted nat_list_cmp_total (λ (c : Child). c.key) cs k
+      (λ i d low high. ap is_lt (nat_list_cmp_total.antisymm (get_or cs (i + 1) d).key (get_or cs i d).key
+      ∙ ap ordering_reverse (rises cs i (i + 1) d o (omega arith) high))) in
+      record { found = tt; missing = record { within = in_range; between = parted rise } }
 
   -- If the last key is below k, all keys are.
   pub below_last : (d e : Child) (j : ℕ) → d ≡ get_or cs (length cs - 1) d → key_cmp d.key k ≡ Less → j < length cs →

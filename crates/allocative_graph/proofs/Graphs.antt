@@ -55,15 +55,13 @@ get-add_list g (e ∷ es) h q =
     let none = find-below_all path_cmp e.0 es (first (below_all path_cmp e.0 es) (is_sorted path_cmp es) h) in
     grind (arith, rest, none, get-insert path_total g e.0 (size_at g e.0 + e.1) q, same_path q e.0)
 
--- The sum of two graphs is the first one with the entries of the second added one after another.
-sum_of-list : (g h : Graph) → sum_of g h ≡ add_list g (entries h)
-sum_of-list g h = same_map path_total path_antisymmetric
-    _ _ (λ q. get-sum_of g h q ∙ sym (get-add_list g (entries h) (entries_sorted h) q
-    ∙ ap (sizes_together (get g q)) (sym (get-entries h q))))
-
 -- In the sum of two graphs, the bytes of a path and of all below it add up.
 pub total_at-sum_of : (g h : Graph) (q : Path) → total_at (sum_of g h) q ≡ total_at g q + total_at h q
-total_at-sum_of g h q = ap (λ s. total_at s q) (sum_of-list g h) ∙ total_at-add_list q g (entries h)
+total_at-sum_of g h q =
+    let listed : sum_of g h ≡ add_list g (entries h) = same_map path_total path_antisymmetric _ _ (λ p.
+    get-sum_of g h p ∙ ap (sizes_together (get g p)) (get-entries h p)
+    ∙ sym (get-add_list g (entries h) (entries_sorted h) p)) in
+    ap (λ s. total_at s q) listed ∙ total_at-add_list q g (entries h)
 
 -- The total of the sum of two graphs is the sum of their totals.
 pub total-sum_of : (g h : Graph) → total (sum_of g h) ≡ total g + total h
@@ -152,7 +150,7 @@ graph-tree f = record { root = ap is_some (get-graph-root (sums_of (all f))); cl
         IsTrue (contains_key (graph (sums_of (all f))) p)
     closed [] k h = ap is_some (get-graph-root (sums_of (all f)))
     closed (l ∷ p) k h = in_graph (all f) l p
-        ∙ closed_all f (l ∷ p) (below_entered (l ∷ p) k (all f) (sym (in_graph (all f) l (p ++ k ∷ [])) ∙ h))
+        ∙ (closed_all f).has (l ∷ p) (below_entered (l ∷ p) k (all f) (sym (in_graph (all f) l (p ++ k ∷ [])) ∙ h))
 
 -- ---- graphs added one after another, each made from an item, in any order of the items
 -- The graph that has only the root, with 0, has a total of 0.

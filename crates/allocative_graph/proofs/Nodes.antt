@@ -4,7 +4,7 @@ use Rattle.std.proofs.Common.{◌≡◌, ℕ, ◌+◌, ◌<◌, ◌^◌, Bool, t
 use Rattle.std.proofs.Common.{get_or, unwrap_or, sym, ap, subst, subst₂, ◌∙◌, arith, ◌≤◌, set, zero-add, add-zero, take}
 use Rattle.std.proofs.Common.{sum_by, ◌&&◌, cond, Option, None, IfNone, ⊎_elim, map}
 use Rattle.std.proofs.Common.{append_assoc, append-nil, flat_map}
-use Rattle.allocative_graph.proofs.Common.{sum_by-cons, key_cmp, keys_of, AllByRecursion, is_some, contains_key}
+use Rattle.allocative_graph.proofs.Common.{sum_by-cons, key_cmp, AllByRecursion, is_some, contains_key}
 use Rattle.allocative_graph.proofs.Common.{entries, len, len-entries, Child, Key, Path, Graph, IsTree, size_at, sum_of}
 use Rattle.allocative_graph.proofs.Common.{total, under, node, rows_of, rows_of_child, AreChildren, IsNode, total_of}
 use Rattle.allocative_graph.proofs.Common.{size_under, Adds, Added, Merged, entries-node, len-child}
@@ -28,11 +28,6 @@ use Rattle.std.proofs.lemmas.List.Folds.{fold_stays, length-flat_map-take}
 use Rattle.std.proofs.lemmas.Bool.{cases_lt}
 use Rattle.std.proofs.lemmas.List.Elements.{recursion_from_All}
 use Rattle.std.proofs.lemmas.List.Concat.{length-flat_map}
-
--- A key that was not found is none of theirs.
-gap-lacks : (cs : List Child) (i : ℕ) (k : Key) → IsChildGap cs k i → Lacks k cs
-gap-lacks cs i k g = λ j d w. ⊎_elim (λ low. other_than _ k (g.between.0 j d (omega arith) low))
-    (λ high. other_than _ k (g.between.1 j d high w)) (cases_lt j i)
 
 -- ---- what a node has below a key
 -- The sum of the sizes of the rows whose paths begin with q.
@@ -125,7 +120,9 @@ module _ {n s : ℕ} {cs ds : List Child} {g : Graph} {path : Path} {k : Key} {p
   -- If a key was not found, the node has nothing at the path and below it.
   pub missing_key : {i : ℕ} → IsChildGap ds k i → HasNothing g path
   missing_key {i = i} gap =
-      let none = gap-lacks ds i k gap in
+      let none = λ (j : ℕ) (d : Child) (w : j < length ds). ⊎_elim
+      (λ low. other_than (get_or ds j d).key k (gap.between.0 j d (omega arith) low))
+      (λ high. other_than (get_or ds j d).key k (gap.between.1 j d high w)) (cases_lt j i) in
       let missing = λ (q : Path). ap is_some (get-under n ds k q in_order ∙ size_under-lacks ds k q none) in
       subst₂ HasNothing (ap (node n) same ∙ view) (sym is) (record {
         missing = missing p;
@@ -239,21 +236,17 @@ rows_of_node n cs h = omega (arith, len-entries (node n cs), ap length (entries-
 abbrev pub paths_of : List Child → ℕ
 paths_of cs = sum_by (λ c. len c.graph) cs
 
--- A node has the path of its root, and those of its children.
-pub paths_of_node : (n : ℕ) (cs : List Child) → IsStrictlySortedBy key_cmp (keys_of cs) →
-    len (node n cs) ≡ 1 + paths_of cs
-paths_of_node n cs h = omega (
-  arith,
-  length-flat_map rows_of_child cs ∙ (λ i. sum_by (λ c. len-child c i) cs),
-  len-entries (node n cs),
-  ap length (entries-node n cs h),
-)
-
 -- The graph g of a node has the path of its root, and those of its children.
 pub paths_in : {n s : ℕ} {cs ds : List Child} {g : Graph} → node n cs ≡ g → IsNode cs s n → ds ≡ cs →
     len g ≡ 1 + paths_of ds
-paths_in {n = n} {cs = cs} view h same =
-    ap (λ (x : Graph). len x) (sym view) ∙ paths_of_node n cs h.children.sorted ∙ ap (λ l. 1 + paths_of l) (sym same)
+paths_in {n = n} {cs = cs} view h same = omega (
+  arith,
+  ap (λ (x : Graph). len x) view,
+  ap paths_of same,
+  length-flat_map rows_of_child cs ∙ (λ i. sum_by (λ c. len-child c i) cs),
+  len-entries (node n cs),
+  ap length (entries-node n cs h.children.sorted),
+)
 
 -- The root, the paths of the children before one and those of that one are within the paths of the graph g.
 pub child_within : {n s : ℕ} {cs ds : List Child} {g : Graph} {i : ℕ} {d : Child} → node n cs ≡ g → IsNode cs s n →

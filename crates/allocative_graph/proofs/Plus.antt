@@ -1,5 +1,5 @@
 -- What a collector has after forests, entries and leaving.
-use Rattle.std.proofs.Common.{◌≡◌, ◌↔◌, ◌≤◌, suc, ℕ, ◌+◌, Bool, true, false, cond, [], ◌∷◌, ◌++◌, ap, sym, subst, ◌∙◌}
+use Rattle.std.proofs.Common.{◌≡◌, ◌↔◌, ◌≤◌, suc, ℕ, ◌+◌, Bool, true, false, cond, [], ◌∷◌, ◌++◌, sym, subst}
 use Rattle.std.proofs.Common.{arith, append-nil}
 use Rattle.allocative_graph.proofs.Common.{contains, Key, Identity, Forest, Empty, Inline, Unique, First, Again}
 use Rattle.allocative_graph.proofs.Common.{own_behind, contents, followed_by}
@@ -38,10 +38,6 @@ pub forest_bytes-entry : (r : Restore) (u : Bool) (k : Key) (n : ℕ) (f : Fores
     forest_bytes r (entry_of u k n f) ≡ entry_bytes r u n + forest_bytes (figure_inside r u n) f
 forest_bytes-entry r u k n f = grind (arith, direct-owned f)
 
--- The bytes directly inside an entry take spare bytes one after another.
-figure_after-add : (r : Restore) (m n : ℕ) → figure_after r (m + n) ≡ figure_after (figure_after r m) n
-figure_after-add r m n = grind arith
-
 -- With no bytes inside it, an entry keeps its figure.
 pub figure_after-zero : (r : Restore) → figure_after r 0 ≡ r
 figure_after-zero r = grind arith
@@ -68,7 +64,8 @@ plus-following (OfSum s) f g =
     let sum : s.sum + forest_bytes r (followed_by f g)
     ≡ (s.sum + forest_bytes r f) + forest_bytes (figure_after r (direct f)) g =
     omega (arith, forest_bytes-following r f g) in
-    let after = ap (figure_after r) (direct-following f g) ∙ figure_after-add r (direct f) (direct g) in
+    let after : figure_after r (direct (followed_by f g)) ≡ figure_after (figure_after r (direct f)) (direct g) =
+    grind (arith, direct-following f g) in
     λ i. OfSum (record s { sum = sum i; figure = after i })
 
 -- A collector takes the empty forest.
@@ -86,10 +83,6 @@ takes_following (OfSum s) f g = rw (contents-following f g)
 pub takes_both : (c : Kind) (f g : Forest) → Takes c f → Takes (plus c f) g → Takes c (followed_by f g)
 takes_both c f g v w = (takes_following c f g).1 (v, w)
 
--- An entry has its own bytes at the top.
-direct-entry : (u : Bool) (k : Key) (n : ℕ) (f : Forest) → n ≡ direct (entry_of u k n f)
-direct-entry u k n f = grind arith
-
 -- An entry with f inside it is entering, adding f and one step back.
 pub inside_entry : (u : Bool) (k : Key) (n : ℕ) (c : Kind) (f : Forest) →
     leave (outer_of n c) (plus (enter u k n c) f) ≡ plus c (entry_of u k n f)
@@ -98,7 +91,8 @@ inside_entry false k n (OfGraph c) f = rw (append-nil (own_behind (c.here ++ k �
 inside_entry u k n (OfSum s) f =
     let sum : (s.sum + entry_bytes s.figure u n) + forest_bytes (figure_inside s.figure u n) f
     ≡ s.sum + forest_bytes s.figure (entry_of u k n f) = omega (arith, forest_bytes-entry s.figure u k n f) in
-    λ i. OfSum (record s { sum = sum i; figure = figure_after s.figure (direct-entry u k n f i) })
+    let top : n ≡ direct (entry_of u k n f) = grind arith in
+    λ i. OfSum (record s { sum = sum i; figure = figure_after s.figure (top i) })
 
 -- A collector takes an entry with a forest inside it if, once the entry is entered, it takes that forest.
 pub takes_entry : (u : Bool) (k : Key) (n : ℕ) (c : Kind) (f : Forest) → Takes (enter u k n c) f →

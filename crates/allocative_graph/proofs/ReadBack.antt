@@ -115,16 +115,14 @@ is_read t ls sorted g means moved e =
     })
 
 -- ---- the steps of the code
--- The bytes of some lines, added up.
-total-lines : (ls : List Line) → total (sum_of_stacks default (map line_stack ls)) ≡ sum_by (λ l. l.size) ls
-total-lines ls = omega (arith, total-stacks (map line_stack ls), fold-map (λ n (s : Stack). n + s.size) line_stack 0 ls)
-
 -- The bytes of all lines exceed a word if those of some, with the next one, do.
 pub lines_exceed : (ls : List Line) (i : ℕ) (d : Line) (g : Graph) → i < length ls →
     g ≡ sum_of_stacks default (map line_stack (take i ls)) → 2 ^ 64 ≤ total g + (get_or ls i d).size →
     2 ^ 64 ≤ sum_by (λ l. l.size) ls
 lines_exceed ls i d g within is more =
-    omega (arith, more, ap total is, total-lines (take i ls), sum_by_more_le (λ (l : Line). l.size) ls i d within)
+    let bytes = fold-map (λ n (s : Stack). n + s.size) line_stack 0 (take i ls) in
+    let all = sum_by_more_le (λ (l : Line). l.size) ls i d within in
+    omega (arith, more, ap total is, total-stacks (map line_stack (take i ls)), bytes, all)
 
 -- One line more is added.
 pub line_more : (ls : List Line) (i : ℕ) (l : Line) (g h : Graph) → take (i + 1) ls ≡ take i ls ++ l ∷ [] →
@@ -173,10 +171,6 @@ cut_of {bs = bs} x (i, j, finds, front, back, ordered, one, other) =
           32 (drop j bs) (λ k. NoCharPasses-char 32 (drop j bs) k finds.0 (omega arith)));
     }
 
--- No space stands in a number.
-number_lacks : (bs : List ℕ) → IsNumber bs → Lacks 32 bs
-number_lacks bs h = lacks_from 32 bs (λ i within e. omega (arith, digit_at bs i h.0.1 within, e))
-
 -- Digits alone have no plus.
 pub unsigned : (bs : List ℕ) → IsNumeral 10 bs → without_leading_plus bs ≡ bs
 unsigned bs h = without_leading_plus_none bs (λ e. omega (arith, digit_at bs 0 h.1 h.0, e))
@@ -219,7 +213,10 @@ cut_at {a = a} {x = x} cut = (
 
 -- A stack is cut at its last space.
 stack_cut : {line : List ℕ} {s : Stack} (is : IsStack line s) → IsCut line is.path is.number
-stack_cut is = record { parts = is.parts; last = number_lacks is.number is.reads }
+stack_cut is = record {
+  parts = is.parts;
+  last = lacks_from 32 is.number (λ i within e. omega (arith, digit_at is.number i is.reads.0.1 within, e));
+}
 
 -- A line is cut at its last space in one way.
 pub one_cut : {line a b x y : List ℕ} → IsCut line a x → IsCut line b y → (a ≡ b) × (x ≡ y)
@@ -447,24 +444,21 @@ reads_back g h plain fits read k p =
     found ∙ ap (λ ss. bytes_at ss (k ∷ p)) (stacks_of_text g plain fits read.stacks read.means) ∙ sym (size_said g k p)
 
 -- ---- nothing in the text of a graph is refused
--- The line of a good entry is a stack with its path and its size.
-said_stack : (e : Sized) → Good e → (length e.0 ≤ LEVELS) × (0 < length (joined e.0)) → IsStack (body e) (said e)
-said_stack e good h = record {
-  path = joined e.0;
-  number = decimal e.1;
-  parts = refl;
-  some = h.1;
-  reads = (number-decimal e.1 good.word).0;
-  fits = omega (arith, h.0, ap (λ (s : Stack). length s.path) (saying e good));
-  is = sym (saying e good);
-}
-
 -- If good entries have at most `LEVELS` keys and not one empty key alone, their lines are stacks that say the same.
 said_stacks : (es : List Sized) → AllByRecursion Good es →
     AllByRecursion (λ e. (length e.0 ≤ LEVELS) × (0 < length (joined e.0))) es → AreStacks (map body es) (map said es)
 said_stacks [] good h = refl
-said_stacks (e ∷ es) good h = stacks-cons (body e) (map body es) (said e) (map said es) (said_stack e good.0 h.0)
-    (said_stacks es good.1 h.1)
+said_stacks (e ∷ es) good h =
+    let is = saying e good.0 in
+    stacks-cons (body e) (map body es) (said e) (map said es) (record {
+      path = joined e.0;
+      number = decimal e.1;
+      parts = refl;
+      some = h.0.1;
+      reads = (number-decimal e.1 good.0.word).0;
+      fits = omega (arith, h.0.0, ap (λ (s : Stack). length s.path) is);
+      is = sym is;
+    }) (said_stacks es good.1 h.1)
 
 -- If lines are stacks, each of them that is not blank is a stack.
 no_fault : (before : List (List ℕ)) (line : List ℕ) (rest : List (List ℕ)) (ss : List Stack) →
@@ -516,12 +510,6 @@ last_of : (key k : Key) (p : Path) → AllByRecursion Plain (k ∷ p) →
 last_of key k [] h = ap (eq_by_cmp key_cmp key) (after_lacking 59 [] k h.0.0)
 last_of key k (l ∷ p) h = ap (eq_by_cmp key_cmp key) (after_skip 59 [] k (joined (l ∷ p))) ∙ last_of key l p h.1
 
--- A path with plain keys ends in a key exactly if its line has that last key.
-last_key_of : (key k : Key) (p : Path) (n : ℕ) → AllByRecursion Plain (k ∷ p) →
-    eq_by_cmp key_cmp key (last_key (body (k ∷ p, n))) ≡ ends_in key (k ∷ p)
-last_key_of key k p n h = ap (λ l. eq_by_cmp key_cmp key (after_last 59 [] l))
-    (before_read 32 [] [] (joined (k ∷ p)) (decimal n) (decimal_lacks 32 n (omega arith))) ∙ last_of key k p h
-
 -- ---- all lines
 -- If all keys are plain, leaving out the paths that end in a key leaves out the lines with that last key.
 drop_each : (key : Key) (es : List Sized) → AllByRecursion (λ e. AllByRecursion Plain e.0) es →
@@ -529,7 +517,11 @@ drop_each : (key : Key) (es : List Sized) → AllByRecursion (λ e. AllByRecursi
     ≡ flat_map (λ l. cond (eq_by_cmp key_cmp key (last_key l)) [] (l ++ 10 ∷ [])) (map body (filter is_shown es))
 drop_each key [] h = refl
 drop_each key (([], n) ∷ es) h = drop_each key es h.1
-drop_each key ((k ∷ p, n) ∷ es) h = grind (arith, drop_each key es h.1, last_key_of key k p n h.0)
+drop_each key ((k ∷ p, n) ∷ es) h =
+    let last : eq_by_cmp key_cmp key (last_key (body (k ∷ p, n))) ≡ ends_in key (k ∷ p) =
+    ap (λ l. eq_by_cmp key_cmp key (after_last 59 [] l))
+    (before_read 32 [] [] (joined (k ∷ p)) (decimal n) (decimal_lacks 32 n (omega arith))) ∙ last_of key k p h.0 in
+    grind (arith, drop_each key es h.1, last)
 
 -- If all keys are plain, the exact text is the text without the lines whose last key is `unused_capacity`.
 pub exact_is : (g : Graph) → HasPlainKeys g → exact_text g ≡ without_lines (codes "unused_capacity") (text g)

@@ -367,26 +367,26 @@ module _ (more : Identity → Bool) where
   more-insert_all : (s t : Identities) (is : List Identity) → HasMore s t → HasMore (insert_all s is) (insert_all t is)
   more-insert_all s t is h i = grind (arith, contains-insert_all s is i, contains-insert_all t is i, h i)
 
-  pub fits_more : (s t : Identities) (f : Forest) → HasMore s t → AllByRecursion (λ c. more c.0 ≡ false) (contents f) →
-      Fits s f → Fits t f
-  fits_more s t Empty h a w = tt
-  fits_more s t (Inline k n f after) h a w =
-      let xs = each-parts (λ c. more c.0 ≡ false) (contents f) (contents after) a in (
-        fits_more s t f h xs.0 w.0,
-        fits_more (met_after s f) (met_after t f) after (more-insert_all s t (content_identities f) h) xs.1 w.1,
-      )
-  fits_more s t (Unique k n f after) h a w =
-      let xs = each-parts (λ c. more c.0 ≡ false) (contents f) (contents after) a in (
-        fits_more s t f h xs.0 w.0,
-        fits_more (met_after s f) (met_after t f) after (more-insert_all s t (content_identities f) h) xs.1 w.1,
-      )
-  fits_more s t (First k n j f after) h a w =
-      let xs = each-parts (λ c. more c.0 ≡ false) (contents f) (contents after) a.1 in
+  -- What fits the identities met also fits them and more.
+  abbrev FitsMore : Forest → Type 0
+  FitsMore f = (s t : Identities) → HasMore s t → AllByRecursion (λ c. more c.0 ≡ false) (contents f) → Fits s f →
+      Fits t f
+
+  more_both : (f g : Forest) → FitsMore f → FitsMore g → (s t : Identities) → HasMore s t →
+      AllByRecursion (λ c. more c.0 ≡ false) (contents f ++ contents g) → Fits s f × Fits (met_after s f) g →
+      Fits t f × Fits (met_after t f) g
+  more_both f g x y s t h a w = let each = each-parts (λ c. more c.0 ≡ false) (contents f) (contents g) a in
+      (x s t h each.0 w.0, y _ _ (more-insert_all s t (content_identities f) h) each.1 w.1)
+
+  pub fits_more : (f : Forest) → FitsMore f
+  fits_more Empty s t h a w = tt
+  fits_more (Inline k n f after) s t h a w = more_both f after (fits_more f) (fits_more after) s t h a w
+  fits_more (Unique k n f after) s t h a w = more_both f after (fits_more f) (fits_more after) s t h a w
+  fits_more (First k n j f after) s t h a w =
       let up = more-insert_all s t (j ∷ []) h in
-      let rest = fits_more (met_after (insert s j) f) (met_after (insert t j) f) after
-      (more-insert_all (insert s j) (insert t j) (content_identities f) up) xs.1 w.2 in
-      (h j ∙ ap (λ c. c || more j) w.0 ∙ a.0, fits_more (insert s j) (insert t j) f up xs.0 w.1, rest)
-  fits_more s t (Again k n j after) h a w = (h j ∙ or_left _ (more j) w.0, fits_more s t after h a w.1)
+      let rest = more_both f after (fits_more f) (fits_more after) (insert s j) (insert t j) up a.1 (w.1, w.2) in
+      (h j ∙ ap (λ c. c || more j) w.0 ∙ a.0, rest.0, rest.1)
+  fits_more (Again k n j after) s t h a w = (h j ∙ or_left _ (more j) w.0, fits_more after s t h a w.1)
 
 -- ---- what a graph has at a path
 -- A lookup in a list of entries whose values were changed by path gives the changed value.
@@ -452,6 +452,6 @@ whole_following f g v w apart =
     ((reaches_exactly g w i).0 h))) in
     (fits-following set.empty f g).1 (
       v,
-      fits_more (λ i. is_among i (content_identities f)) set.empty (met_after
-          set.empty f) g (contains-insert_all set.empty (content_identities f)) away w,
+      fits_more (λ i. is_among i (content_identities f)) g set.empty (met_after set.empty f)
+          (contains-insert_all set.empty (content_identities f)) away w,
     )

@@ -10,8 +10,8 @@ use Rattle.allocative_graph.proofs.Common.{IsAntisymmetric, get-entries, insert,
 use Rattle.allocative_graph.proofs.Common.{entries_sorted, put, find, is_sorted, below_all, is_one_below, below, both}
 use Rattle.allocative_graph.proofs.Common.{first, second, flat_map-append, list_any-append, tied_then, Key, key_cmp}
 use Rattle.allocative_graph.proofs.Common.{Identity, Forest, Empty, Inline, Unique, First, Again, AsInline, AsUnique}
-use Rattle.allocative_graph.proofs.Common.{AsShared, own, own_behind, contents, content_entries, all, IsTotalOrder}
-use Rattle.allocative_graph.proofs.Common.{Mark, nil_from_length, keys, from_entries, len-entries, Graph, graph, sizes}
+use Rattle.allocative_graph.proofs.Common.{AsShared, own_behind, contents, content_entries, all, IsTotalOrder}
+use Rattle.allocative_graph.proofs.Common.{Mark, nil_from_length, keys, from_entries, len-entries, graph, sizes}
 use Rattle.allocative_graph.proofs.Common.{sum_of, text, text_of_entries, is_root}
 use Rattle.std.proofs.lemmas.Bool.Decides.{nat_tests}
 use Rattle.std.specs.FinMap.{empty, get-empty, FinMap, len-empty}
@@ -81,16 +81,14 @@ abbrev pub added_list : List (Path × ℕ) → List (Path × ℕ) → List (Path
 added_list es fs = put_all (map (λ p. (p, unwrap_or (find path_cmp p es) 0 + unwrap_or (find path_cmp p fs) 0))
     (map (λ e. e.0) es ++ map (λ e. e.0) fs))
 
--- The entries of the sum of two graphs are those that `added_list` computes from theirs.
-entries-sum_of : (g h : Graph) → entries (sum_of g h) ≡ added_list (entries g) (entries h)
-entries-sum_of g h = entries-from_entries
-    _ ∙ (λ i. put_all (map (λ p. (p, unwrap_or (get-entries g p i) 0 + unwrap_or (get-entries h p i) 0))
-    (keys g ++ keys h)))
-
 -- The text of the sum of two bags' graphs is the text of the list that `added_list` computes.
 pub text_added : (b c : Bag) → text (sum_of (graph (sums_of b)) (graph (sums_of c)))
     ≡ text_of_entries (added_list (sizes_list (nodes_of b)) (sizes_list (nodes_of c)))
-text_added b c = ap text_of_entries (entries-sum_of (graph (sums_of b)) (graph (sums_of c))
+text_added b c =
+    let g = graph (sums_of b) in
+    let h = graph (sums_of c) in
+    ap text_of_entries (entries-from_entries _ ∙ (λ i. put_all (map
+    (λ p. (p, unwrap_or (get-entries g p i) 0 + unwrap_or (get-entries h p i) 0)) (keys g ++ keys h)))
     ∙ (λ i. added_list (entries-graph b i) (entries-graph c i)))
 
 -- ---- path by path
@@ -276,57 +274,53 @@ abbrev has_below : Bag → Path → Bool
 has_below b p = list_any (λ e. is_one_below p e.path) b
 
 -- A path with an entry one key below it is r, or is entered.
-abbrev Closed : Path → Bag → Type 0
-Closed r b = (p : Path) → IsTrue (has_below b p) → IsTrue (is_same_path p r || is_entered_in b p)
+pub record Closed (r : Path) (b : Bag) : Type 0 where
+  pub has : (p : Path) → IsTrue (has_below b p) → IsTrue (is_same_path p r || is_entered_in b p)
 
 -- If two bags are closed at r, so are both one after another.
-closed_append : (r : Path) (b c : Bag) → Closed r b → Closed r c → Closed r (b ++ c)
-closed_append r b c x y p =
-    rw (list_any-append (λ e. is_one_below p e.path) b c, list_any-append (λ e. is_same_path p e.path) b c)
-    (λ h. grind (arith, x p, y p))
+closed_append : {r : Path} {b c : Bag} → Closed r b → Closed r c → Closed r (b ++ c)
+closed_append {b = b} {c = c} x y = record {
+  has = λ p. rw (list_any-append (λ e. is_one_below p e.path) b c, list_any-append (λ e. is_same_path p e.path) b c)
+      (λ h. grind (arith, x.has p, y.has p));
+}
 
 -- An entry at r ++ k ∷ [], with others inside it and after it.
-closed_entry : (r : Path) (k : Key) (n : ℕ) (m : Mark) (b c : Bag) → Closed (r ++ k ∷ []) b → Closed r c →
+closed_entry : (r : Path) (k : Key) (n : ℕ) (m : Mark) {b c : Bag} → Closed (r ++ k ∷ []) b → Closed r c →
     Closed r (record { path = r ++ k ∷ []; size = n; mark = m } ∷ (b ++ c))
-closed_entry r k n m b c x y p =
-    rw (list_any-append (λ e. is_one_below p e.path) b c, list_any-append (λ e. is_same_path p e.path) b c)
-    (λ h. grind (arith, x p, y p, one_below_is p r k))
+closed_entry r k n m {b = b} {c = c} x y = record {
+  has = λ p. rw (list_any-append (λ e. is_one_below p e.path) b c, list_any-append (λ e. is_same_path p e.path) b c)
+      (λ h. grind (arith, x.has p, y.has p, one_below_is p r k));
+}
 
 -- A bag without entries is closed at each path.
 closed_none : (r : Path) → Closed r []
-closed_none r p h = absurd (true≢false (sym h))
+closed_none r = record { has = λ p h. absurd (true≢false (sym h)) }
 
 -- The own entries of a forest with the path r before theirs are closed at r.
 closed_behind : (r : Path) (f : Forest) → Closed r (own_behind r f)
 closed_behind r Empty = closed_none r
-closed_behind r (Inline k n f after) = closed_entry r k n AsInline (own_behind (r ++ k ∷ []) f) (own_behind r after)
-    (closed_behind (r ++ k ∷ []) f) (closed_behind r after)
-closed_behind r (Unique k n f after) = closed_entry r k n AsUnique (own_behind (r ++ k ∷ []) f) (own_behind r after)
-    (closed_behind (r ++ k ∷ []) f) (closed_behind r after)
-closed_behind r (First k n j f after) = closed_entry r k n (AsShared j) [] (own_behind r after)
-    (closed_none (r ++ k ∷ [])) (closed_behind r after)
-closed_behind r (Again k n j after) = closed_entry r k n (AsShared j) [] (own_behind r after)
-    (closed_none (r ++ k ∷ [])) (closed_behind r after)
+closed_behind r (Inline k n f after) = closed_entry r k n AsInline (closed_behind (r ++ k ∷ []) f) (closed_behind r after)
+closed_behind r (Unique k n f after) = closed_entry r k n AsUnique (closed_behind (r ++ k ∷ []) f) (closed_behind r after)
+closed_behind r (First k n j f after) = closed_entry r k n (AsShared j) (closed_none _) (closed_behind r after)
+closed_behind r (Again k n j after) = closed_entry r k n (AsShared j) (closed_none _) (closed_behind r after)
 
--- If two lists of contents are closed at the root, so are both one after another.
-closed_both : (cs ds : List (Identity × Bag)) → Closed [] (flat_map (λ c. c.1) cs) →
-    Closed [] (flat_map (λ c. c.1) ds) → Closed [] (flat_map (λ c. c.1) (cs ++ ds))
-closed_both cs ds x y = rw (flat_map-append (λ (c : Identity × Bag). c.1) cs ds) (closed_append [] _ _ x y)
+-- If the contents of two forests are closed at the root, so are all of them.
+closed_both : (f g : Forest) → Closed [] (content_entries f) → Closed [] (content_entries g) →
+    Closed [] (flat_map (λ c. c.1) (contents f ++ contents g))
+closed_both f g x y = rw (flat_map-append (λ (c : Identity × Bag). c.1) (contents f) (contents g)) (closed_append x y)
 
 -- The entries of all contents are closed at the root.
 closed_contents : (f : Forest) → Closed [] (content_entries f)
 closed_contents Empty = closed_none []
-closed_contents (Inline k n f after) = closed_both (contents f) (contents after) (closed_contents f)
-    (closed_contents after)
-closed_contents (Unique k n f after) = closed_both (contents f) (contents after) (closed_contents f)
-    (closed_contents after)
-closed_contents (First k n j f after) = closed_append [] (own f) _ (closed_behind [] f)
-    (closed_both (contents f) (contents after) (closed_contents f) (closed_contents after))
+closed_contents (Inline k n f after) = closed_both f after (closed_contents f) (closed_contents after)
+closed_contents (Unique k n f after) = closed_both f after (closed_contents f) (closed_contents after)
+closed_contents (First k n j f after) =
+    closed_append (closed_behind [] f) (closed_both f after (closed_contents f) (closed_contents after))
 closed_contents (Again k n j after) = closed_contents after
 
 -- All entries of a forest are closed at the root.
 pub closed_all : (f : Forest) → Closed [] (all f)
-closed_all f = closed_append [] (own f) (content_entries f) (closed_behind [] f) (closed_contents f)
+closed_all f = closed_append (closed_behind [] f) (closed_contents f)
 
 -- If a bag has an entry at p with one more key, it has an entry one key below p.
 pub below_entered : (p : Path) (k : Key) (b : Bag) → IsTrue (is_entered_in b (p ++ k ∷ [])) → IsTrue (has_below b p)
@@ -349,5 +343,5 @@ absent_below f k p h = grind (
   get-sums_of (all f) (k ∷ p),
   below-sums_of (all f) (k ∷ p),
   below_none (all f) (k ∷ p),
-  closed_all f (k ∷ p),
+  (closed_all f).has (k ∷ p),
 )
