@@ -189,14 +189,7 @@ unfolding IsStrictlySortedBy
 find-rows [] k p h = refl
 find-rows (c ∷ cs) k p h =
     let none = λ (e : IsTrue (eq_by_cmp key_cmp k c.key)). none_above k c.key p cs e h.0 in
-    grind (
-      arith,
-      none,
-      find-both (k ∷ p) (rows_of_child c) (rows_of cs),
-      find-under k c.key p (entries c.graph),
-      find-rows cs k p h.1,
-      get-entries c.graph p,
-    )
+    grind (arith, none, find-both, find-under, find-rows cs k p h.1, get-entries c.graph p)
 
 -- At the root, a node with children in order has its own size.
 pub get-root : (n : ℕ) (cs : List Child) → InOrder cs → get (node n cs) [] ≡ Some n
@@ -244,12 +237,8 @@ insert_root n m cs h =
 -- The total of a node is its own size and the totals of its children.
 pub total-node : (n : ℕ) (cs : List Child) → IsStrictlySortedBy key_cmp (keys_of cs) →
     total (node n cs) ≡ n + total_of cs
-total-node n cs h = omega (
-  arith,
-  ap (sum_by (λ (r : Path × ℕ). r.1)) (entries-node n cs h),
-  sum_by-cons (λ (r : Path × ℕ). r.1) ([], n) (rows_of cs),
-  total_of-rows cs,
-)
+total-node n cs h = omega
+    (arith, ap (sum_by (λ (r : Path × ℕ). r.1)) (entries-node n cs h), sum_by-cons {X = Path × ℕ}, total_of-rows)
 
 -- ---- merging children
 -- A child with another graph.

@@ -18,6 +18,11 @@ use Rattle.allocative_graph.proofs.Children.{get-root, get-under as get-below, n
 abbrev pub add_at : Graph → Path × ℕ → Graph
 add_at g e = insert g e.0 (size_at g e.0 + e.1)
 
+-- At its path a graph with a size added has both together.
+pub get-add_at : (g : Graph) (e : Path × ℕ) (q : Path) →
+    get (add_at g e) q ≡ cond (is_same_path q e.0) (Some (size_at g e.0 + e.1)) (get g q)
+get-add_at g e q = get-insert path_total g e.0 (size_at g e.0 + e.1) q
+
 -- A size added at a path counts in the total at that path and at each of its prefixes, and nowhere else.
 total_at-add_at : (q : Path) (g : Graph) (e : Path × ℕ) →
     total_at (add_at g e) q ≡ total_at g q + cond (begins q e.0) e.1 0
@@ -35,12 +40,8 @@ add_list g es = fold add_at g es
 total_at-add_list : (q : Path) (g : Graph) (es : List (Path × ℕ)) →
     total_at (add_list g es) q ≡ total_at g q + sum_by (λ r. cond (begins q r.0) r.1 0) es
 total_at-add_list q g [] = omega arith
-total_at-add_list q g (e ∷ es) = omega (
-  arith,
-  total_at-add_list q (add_at g e) es,
-  total_at-add_at q g e,
-  sum_by-cons (λ r. cond (begins q r.0) r.1 0) e es,
-)
+total_at-add_list q g (e ∷ es) =
+    omega (arith, total_at-add_list q (add_at g e) es, total_at-add_at, sum_by-cons {X = Path × ℕ})
 
 -- Two sizes of a path together, if one of them is there.
 abbrev pub sizes_together : Option ℕ → Option ℕ → Option ℕ
@@ -53,7 +54,7 @@ get-add_list g [] h q = grind arith
 get-add_list g (e ∷ es) h q =
     let rest = get-add_list (add_at g e) es (second (below_all path_cmp e.0 es) _ h) q in
     let none = find-below_all path_cmp e.0 es (first (below_all path_cmp e.0 es) (is_sorted path_cmp es) h) in
-    grind (arith, rest, none, get-insert path_total g e.0 (size_at g e.0 + e.1) q, same_path q e.0)
+    grind (arith, rest, none, get-add_at, same_path q e.0)
 
 -- In the sum of two graphs, the bytes of a path and of all below it add up.
 pub total_at-sum_of : (g h : Graph) (q : Path) → total_at (sum_of g h) q ≡ total_at g q + total_at h q
@@ -166,12 +167,8 @@ module _ {X : Type 0} (made : X → Graph) where
   pub size_at-added_up : (g : Graph) (xs : List X) (p : Path) →
       size_at (added_up g xs) p ≡ size_at g p + sum_by (λ x. size_at (made x) p) xs
   size_at-added_up g [] p = omega arith
-  size_at-added_up g (x ∷ xs) p = omega (
-    arith,
-    size_at-added_up (sum_of g (made x)) xs p,
-    size_at-sum_of g (made x) p,
-    sum_by-cons (λ x. size_at (made x) p) x xs,
-  )
+  size_at-added_up g (x ∷ xs) p =
+      omega (arith, size_at-added_up (sum_of g (made x)) xs p, size_at-sum_of, sum_by-cons {X = X})
 
   -- Graphs that are added up have the paths of each.
   pub has-added_up : (g : Graph) (xs : List X) (p : Path) →
@@ -188,18 +185,8 @@ module _ {X : Type 0} (made : X → Graph) where
   -- The order of the items does not matter.
   pub added_up-permuted : (g : Graph) (xs ys : List X) → IsPermutation xs ys → added_up g ys ≡ added_up g xs
   added_up-permuted g xs ys h = same_graph _ _
-      (λ p. omega (
-        arith,
-        size_at-added_up g ys p,
-        size_at-added_up g xs p,
-        sum_by-IsPermutation (λ x. size_at (made x) p) xs ys h,
-      ))
-      (λ p. grind (
-        arith,
-        has-added_up g ys p,
-        has-added_up g xs p,
-        list_any-IsPermutation (λ x. contains_key (made x) p) xs ys h,
-      ))
+      (λ p. omega (arith, size_at-added_up, sum_by-IsPermutation (λ x. size_at (made x) p) xs ys h))
+      (λ p. grind (arith, has-added_up, list_any-IsPermutation (λ x. contains_key (made x) p) xs ys h))
 
   -- A graph may be added before the others or to their sum.
   pub added_up-onto : (g h : Graph) (xs : List X) → sum_of g (added_up h xs) ≡ added_up (sum_of g h) xs

@@ -65,12 +65,8 @@ module _ (k : Key) (p : Path) where
 
   -- The bytes of a node below a key are those of its children.
   whole-node : (n : ℕ) (cs : List Child) → InOrder cs → total_at (node n cs) (k ∷ p) ≡ whole_under cs
-  whole-node n cs o = omega (
-    arith,
-    ap (λ rs. whole_in rs (k ∷ p)) (entries-node n cs o),
-    sum_by-cons (λ (e : Path × ℕ). cond (begins (k ∷ p) e.0) e.1 0) ([], n) (rows_of cs),
-    whole-rows cs o,
-  )
+  whole-node n cs o = omega
+      (arith, ap (λ rs. whole_in rs (k ∷ p)) (entries-node n cs o), sum_by-cons {X = Path × ℕ}, whole-rows cs o)
 
 -- The bytes at a path below a child's key, and below that path, are those of the child.
 pub total_at-child : (n : ℕ) (cs : List Child) (i : ℕ) (d : Child) (p : Path) → InOrder cs → i < length cs →
@@ -139,13 +135,9 @@ none_implies P Q f (Some x) h = h
 -- A child has fewer paths than its node.
 pub smaller_child : (n : ℕ) (cs : List Child) (i : ℕ) (d : Child) → InOrder cs → i < length cs →
     len (get_or cs i d).graph < len (node n cs)
-smaller_child n cs i d o h = omega (
-  arith,
-  ap length (entries-node n cs o),
-  len-entries (node n cs),
-  length-flat_map-take rows_of_child cs i d h,
-  len-child (get_or cs i d),
-)
+smaller_child n cs i d o h =
+    let rows = length-flat_map-take rows_of_child cs i d h in
+    omega (arith, ap length (entries-node n cs o), len-entries (node n cs), rows, len-child)
 
 -- ---- the figures of a node: its own, and then those of its children, one child after another
 -- The figures of some paths with their sizes, with some keys before them. The bytes of each path and of all below it
@@ -353,13 +345,7 @@ module _ {g h : Graph} {m n s t : ℕ} {cs ds : List Child} (mine : node m cs �
   pub child_of_one : {c : Child} → c ∷ [] ≡ ds → total g + total h < 2 ^ 64 →
       (len c.graph < len h) × IsTree c.graph × (s + total c.graph < 2 ^ 64)
   child_of_one {c = c} one fits = (
-    omega (
-      arith,
-      len_of_node theirs b,
-      ap (λ l. length (rows_of l)) one,
-      length-append (rows_of_child c) [],
-      len-child c,
-    ),
+    omega (arith, len_of_node theirs b, ap (λ l. length (rows_of l)) one, length-append (rows_of_child c) [], len-child),
     (subst AreChildren (sym one) b.children).trees.0,
     omega (arith, total_of_both, ap total_of one, a.size, fits),
   )

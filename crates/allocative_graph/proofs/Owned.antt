@@ -11,7 +11,7 @@ use Rattle.allocative_graph.specs.Owned.{exchanged, within, beside, in_turn}
 use Rattle.allocative_graph.proofs.Basics.{path_total, same_path}
 use Rattle.allocative_graph.proofs.Sums.{one_below_is, below_in, below-sums_of, bytes-cons, get-sums_of, bytes_none}
 use Rattle.allocative_graph.proofs.Showings.{get-graph, get-graph-root}
-use Rattle.allocative_graph.proofs.Graphs.{add_at, total-add_at, same_graph, in_graph, get-default, size_at-default}
+use Rattle.allocative_graph.proofs.Graphs.{add_at, get-add_at, total-add_at, same_graph, in_graph, get-default, size_at-default}
 use Rattle.allocative_graph.proofs.Graphs.{total-default}
 
 -- ---- one after another
@@ -77,7 +77,7 @@ inside_at q xs = at (λ x. x.inside) q xs
 -- A sum over an entry, those inside it and those after it.
 sum-entry : {X : Type 0} (w : X → ℕ) (x : X) (xs ys : List X) →
     sum_by w (x ∷ (xs ++ ys)) ≡ w x + (sum_by w xs + sum_by w ys)
-sum-entry w x xs ys = omega (arith, sum_by-cons w x (xs ++ ys), sum_by-append w xs ys)
+sum-entry {X = X} w x xs ys = omega (arith, sum_by-cons {X = X}, sum_by-append {X = X})
 
 -- The same of the entries at q.
 at-entry : (w : Owner → ℕ) (q : Path) (x : Owner) (xs ys : List Owner) →
@@ -112,14 +112,9 @@ lists_entry : (q p : Path) (k : Key) (n : ℕ) (m : Mark) {b c : Bag} {xs ys : L
 lists_entry q p k n m {b = b} {c = c} {xs = xs} {ys = ys} {t = t} x y is = let o = owner p k n m t in record {
   entries = rw (map-append {B = Entry} (λ x. x.entry) xs ys, x.entries, y.entries);
   keep = omega (arith, sum-entry kept o xs ys, x.keep, y.keep, is);
-  below = grind (
-    arith,
-    one_below_is q p k,
-    sum-entry (λ e. cond (is_one_below q e.path) e.size 0) o.entry b c,
-    at-entry (λ x. x.inside) q o xs ys,
-    x.below,
-    y.below,
-  );
+  below =
+      let more = sum-entry (λ e. cond (is_one_below q e.path) e.size 0) o.entry b c in
+      grind (arith, one_below_is q p k, more, at-entry (λ x. x.inside) q o xs ys, x.below, y.below);
   no_root = grind (arith, not_root p k, at-entry kept [] o xs ys, x.no_root, y.no_root);
 }
 
@@ -147,14 +142,7 @@ module _ (q : Path) where
       (at kept q xs + inside_at q xs ≡ bytes_in (entries_of xs) q) × (is_unique_in (entries_of xs) q ≡ false)
   each_least [] h = (refl, refl)
   each_least (x ∷ xs) h = let r = each_least xs h.1 in (
-    grind (
-      arith,
-      h.0,
-      r.0,
-      at-entry kept q x [] xs,
-      at-entry (λ x. x.inside) q x [] xs,
-      bytes-cons x.entry (entries_of xs) q,
-    ),
+    grind (arith, h.0, r.0, at-entry kept q x [] xs, at-entry (λ x. x.inside) q x [] xs, bytes-cons),
     grind (arith, h.0, r.1),
   )
 
@@ -182,34 +170,24 @@ with_kept g xs = fold (λ h x. add_at h (x.entry.path, kept x)) g xs
 -- What entries keep, added to a graph, raises its total by their sum.
 total-with_kept : (g : Graph) (xs : List Owner) → total (with_kept g xs) ≡ total g + sum_by kept xs
 total-with_kept g [] = omega arith
-total-with_kept g (x ∷ xs) = omega (
-  arith,
-  total-with_kept (add_at g (x.entry.path, kept x)) xs,
-  total-add_at g (x.entry.path, kept x),
-  sum_by-cons kept x xs,
-)
+total-with_kept g (x ∷ xs) =
+    omega (arith, total-with_kept (add_at g (x.entry.path, kept x)) xs, total-add_at, sum_by-cons {X = Owner})
 
 -- What entries keep, added to a graph, raises the size at each path by what the entries there keep.
 size-with_kept : (g : Graph) (xs : List Owner) (q : Path) → size_at (with_kept g xs) q ≡ size_at g q + at kept q xs
 size-with_kept g [] q = omega arith
-size-with_kept g (x ∷ xs) q = grind (
-  arith,
-  size-with_kept (add_at g (x.entry.path, kept x)) xs q,
-  get-insert path_total g x.entry.path (size_at
-      g x.entry.path + kept x) q,
-  same_path q x.entry.path,
-  at-entry kept q x [] xs,
-)
+size-with_kept g (x ∷ xs) q =
+    let rest = size-with_kept (add_at g (x.entry.path, kept x)) xs q in
+    let added = get-add_at g (x.entry.path, kept x) q in
+    grind (arith, rest, added, same_path q x.entry.path, at-entry kept q x [] xs)
 
 -- A graph to which entries were added has its own paths and theirs.
 has-with_kept : (g : Graph) (xs : List Owner) (q : Path) →
     contains_key (with_kept g xs) q ≡ (contains_key g q || is_entered_in (entries_of xs) q)
 has-with_kept g [] q = grind arith
-has-with_kept g (x ∷ xs) q = grind (
-  arith,
-  has-with_kept (add_at g (x.entry.path, kept x)) xs q,
-  get-insert path_total g x.entry.path (size_at g x.entry.path + kept x) q,
-)
+has-with_kept g (x ∷ xs) q =
+    let added = get-add_at g (x.entry.path, kept x) q in
+    grind (arith, has-with_kept (add_at g (x.entry.path, kept x)) xs q, added)
 
 -- If the entries at each path are alike, the graph of the own entries has what they keep.
 module _ (f : Forest) (alike : (p : Path) → AreAlike p (owners_behind [] f)) where
@@ -225,12 +203,8 @@ module _ (f : Forest) (alike : (p : Path) → AreAlike p (owners_behind [] f)) w
   sizes (k ∷ p) =
       let q = k ∷ p in
       let s = sums_of (entries_of xs) in
-      let inside : below s q ≡ inside_at q xs = omega (
-        arith,
-        below-sums_of (entries_of xs) q,
-        ap (λ b. below_in b q) (lists q [] f).entries,
-        (lists q [] f).below,
-      ) in
+      let inside : below s q ≡ inside_at q xs =
+      omega (arith, below-sums_of, ap (λ b. below_in b q) (lists q [] f).entries, (lists q [] f).below) in
       rw (get-graph s k p, get-sums_of (entries_of xs) q)
       (grind (arith, inside, remains q xs (alike q), size-with_kept default xs q, size_at-default q))
 
@@ -241,11 +215,7 @@ module _ (f : Forest) (alike : (p : Path) → AreAlike p (owners_behind [] f)) w
       ∙ sym (grind (arith, has-with_kept default xs (k ∷ p), get-default (k ∷ p)))
 
   pub owned-total : owned f ≡ total (graph (sums_of (own f)))
-  owned-total = omega (
-    arith,
-    (lists [] [] f).keep,
-    total-with_kept default xs,
-    total-default,
-    ap total (same_graph made (with_kept default xs) sizes paths),
-    ap (λ (b : Bag). total (graph (sums_of b))) (lists [] [] f).entries,
-  )
+  owned-total =
+      let same = ap total (same_graph made (with_kept default xs) sizes paths) in
+      let listed = ap (λ (b : Bag). total (graph (sums_of b))) (lists [] [] f).entries in
+      omega (arith, (lists [] [] f).keep, total-with_kept, total-default, same, listed)

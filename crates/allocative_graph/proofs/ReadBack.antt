@@ -427,13 +427,9 @@ stacks_of_text g plain fits ss h = entries_read (written_entries g) (good_entrie
 -- Stacks none of which begins with a path have no bytes there.
 bytes-absent : (ss : List Stack) (q : Path) → list_any (λ s. begins q s.path) ss ≡ false → bytes_at ss q ≡ 0
 bytes-absent [] q h = refl
-bytes-absent (s ∷ ss) q h = grind (
-  arith,
-  h,
-  bytes-absent ss q,
-  same_begins q s.path,
-  sum_by-cons (λ (t : Stack). cond (is_same_path q t.path) t.size 0) s ss,
-)
+bytes-absent (s ∷ ss) q h =
+    let more = sum_by-cons (λ (t : Stack). cond (is_same_path q t.path) t.size 0) s ss in
+    grind (arith, h, bytes-absent ss q, same_begins q s.path, more)
 
 -- What is read of the text of a graph has its sizes, but for the root.
 pub reads_back : (g h : Graph) → HasPlainKeys g → HasWords g → IsRead (text g) h → (k : Key) (p : Path) →

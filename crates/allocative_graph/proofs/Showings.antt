@@ -124,16 +124,7 @@ both_met : (s : Identities) (a b : Bag) (cs ds : Contents) → AllMet s a cs →
     AllMet s (a ++ b) (cs ++ ds)
 both_met s a b cs ds x y = (
   fresh-append s cs ds x.0 y.0,
-  λ i h. grind (
-    arith,
-    x.1 i,
-    y.1 i,
-    h,
-    list_any-append (marks i) a b,
-    list_any-append (λ c. has_mark i c.1) cs ds,
-    among-append i cs ds,
-    contains-insert_all s (ids cs) i,
-  ),
+  λ i h. grind (arith, x.1 i, y.1 i, h, list_any-append, among-append, contains-insert_all),
 )
 
 -- It holds of a forest that fits the identities met.
@@ -147,13 +138,7 @@ fits_met p s (First k n j f after) w =
     let rest = both_met (insert s j) (own f) (own_behind p after) (contents f) (contents after)
     (fits_met [] (insert s j) f w.1) (fits_met p (met_after (insert s j) f) after w.2) in (
       (w.0, rest.0),
-      λ i h. grind (
-        arith,
-        rest.1 i,
-        h,
-        contains-insert identity_total s j i,
-        list_any-append (marks i) (own f) (own_behind p after),
-      ),
+      λ i h. grind (arith, rest.1 i, h, contains-insert identity_total s j i, list_any-append),
     )
 fits_met p s (Again k n j after) w =
     let rest = fits_met p s after w.1 in
@@ -329,11 +314,7 @@ met-following s f g = rw (contents-following f g) (met-append s (contents f) (co
 pub entries_at-following : (s : Sums) (p : Path) (f g : Forest) →
     add_all s (entries_at p (followed_by f g)) ≡ add_all (add_all s (entries_at p f)) (entries_at p g)
 entries_at-following s p f g = add_all-same s (entries_at p (followed_by f g)) (entries_at p f ++ entries_at p g)
-    (λ w. rw (
-      own-following p f g,
-      contents-following f g,
-      flat_map-append (λ (c : Identity × Bag). c.1) (contents f) (contents g),
-    ) (simp sum_by-append (omega arith)))
+    (λ w. simp (own-following, contents-following, flat_map-append, sum_by-append) (omega arith))
     ∙ fold-append add s (entries_at p f) (entries_at p g)
 
 -- ---- fitting
@@ -422,25 +403,15 @@ graphs_add f g can = same_map path_total path_antisymmetric _ _ each
   where
     each : (q : Path) → get (sum_of (graph (sums_of (all f))) (graph (sums_of (all g)))) q
         ≡ get (graph (sums_of (all (followed_by f g)))) q
-    each [] = rw (
-      get-sum_of (graph (sums_of (all f))) (graph (sums_of (all g))) [],
-      get-graph-root (sums_of (all f)),
-      get-graph-root (sums_of (all g)),
-      get-graph-root (sums_of (all (followed_by f g))),
-    )
+    each [] = simp (get-sum_of, get-graph-root)
     each (k ∷ p) =
         let s = sums_of (all f) in
         let t = sums_of (all g) in
         let q = k ∷ p in
         let below_both : below s q + below t q ≡ below (add_all s (all g)) q =
         omega (arith, below-sums_of (all g) q, below-add_all s (all g) q) in
-        rw (
-          get-sum_of (graph s) (graph t) q,
-          get-graph s k p,
-          get-graph t k p,
-          ap (λ x. get (graph x) q) (entries_at-following empty [] f g),
-          get-graph (add_all s (all g)) k p,
-        )
+        let both = ap (λ x. get (graph x) q) (entries_at-following empty [] f g) in
+        rw (get-sum_of, get-graph s k p, get-graph t k p, both, get-graph (add_all s (all g)) k p)
         (rw (get-add_all s (all g) q, ← get-sums_of (all g) q)
         (grind (arith, below_both, absent_below f k p, absent_below g k p, can q)))
 

@@ -123,15 +123,8 @@ get-add s e q = get-insert path_total s e.path _ q
 -- Sums with a bag added have at each path what they had there, together with what the bag has there.
 pub get-add_all : (s : Sums) (b : Bag) (q : Path) → get (add_all s b) q ≡ merge (get s q) (node_in b q)
 get-add_all s [] q = refl
-get-add_all s (e ∷ b) q = grind (
-  arith,
-  get-add_all (add s e) b q,
-  get-add s e q,
-  bytes-cons e b q,
-  same_path q e.path,
-  bytes_none b q,
-  unique_none b q,
-)
+get-add_all s (e ∷ b) q = grind
+    (arith, get-add_all (add s e) b q, get-add, bytes-cons, same_path q e.path, bytes_none b q, unique_none b q)
 
 -- The sums of a bag have at each path what the bag has there.
 pub get-sums_of : (b : Bag) (q : Path) → get (sums_of b) q ≡ node_in b q
@@ -280,16 +273,14 @@ pub record Closed (r : Path) (b : Bag) : Type 0 where
 -- If two bags are closed at r, so are both one after another.
 closed_append : {r : Path} {b c : Bag} → Closed r b → Closed r c → Closed r (b ++ c)
 closed_append {b = b} {c = c} x y = record {
-  has = λ p. rw (list_any-append (λ e. is_one_below p e.path) b c, list_any-append (λ e. is_same_path p e.path) b c)
-      (λ h. grind (arith, x.has p, y.has p));
+  has = λ p. simp list_any-append (λ h. grind (arith, x.has p, y.has p));
 }
 
 -- An entry at r ++ k ∷ [], with others inside it and after it.
 closed_entry : (r : Path) (k : Key) (n : ℕ) (m : Mark) {b c : Bag} → Closed (r ++ k ∷ []) b → Closed r c →
     Closed r (record { path = r ++ k ∷ []; size = n; mark = m } ∷ (b ++ c))
 closed_entry r k n m {b = b} {c = c} x y = record {
-  has = λ p. rw (list_any-append (λ e. is_one_below p e.path) b c, list_any-append (λ e. is_same_path p e.path) b c)
-      (λ h. grind (arith, x.has p, y.has p, one_below_is p r k));
+  has = λ p. simp list_any-append (λ h. grind (arith, x.has p, y.has p, one_below_is p r k));
 }
 
 -- A bag without entries is closed at each path.
@@ -337,11 +328,5 @@ below_none (e ∷ b) p h =
 -- If a path other than the root was not entered, it has no bytes below it.
 pub absent_below : (f : Forest) (k : Key) (p : Path) → get (sums_of (all f)) (k ∷ p) ≡ None →
     below (sums_of (all f)) (k ∷ p) ≡ 0
-absent_below f k p h = grind (
-  arith,
-  h,
-  get-sums_of (all f) (k ∷ p),
-  below-sums_of (all f) (k ∷ p),
-  below_none (all f) (k ∷ p),
-  (closed_all f).has (k ∷ p),
-)
+absent_below f k p h =
+    grind (arith, h, get-sums_of, below-sums_of, below_none (all f) (k ∷ p), (closed_all f).has (k ∷ p))
