@@ -307,9 +307,8 @@ pub next_less : {cs ds cs' : List Child} {c : Child} → cs ≡ c ∷ cs' → Ar
     front_order cs ds ≡ Some Less → MergesFirst true cs ds (c ∷ []) cs' ds
 next_less {cs = cs} {ds = ds} {cs' = cs'} {c = c} e mine theirs front =
     let all : AreChildren (c ∷ cs') = subst AreChildren e mine in
-    subst (λ (l : List Child). MergesFirst true l ds (c ∷ []) cs' ds) (sym e) (record {
-      goes_on = λ b es m. merged_first b c cs' ds es m all
-          (above ds theirs (subst (λ (l : List Child). front_order l ds ≡ Some Less) e front));
+    rw e (record {
+      goes_on = λ b es m. merged_first b c cs' ds es m all (above ds theirs (rw e at front));
       mine = others c cs' all;
       theirs = theirs;
       fewer = omega arith;
@@ -326,9 +325,8 @@ pub next_greater : {cs ds ds' : List Child} {d : Child} → ds ≡ d ∷ ds' →
     front_order cs ds ≡ Some Greater → MergesFirst true cs ds (d ∷ []) cs ds'
 next_greater {cs = cs} {ds = ds} {ds' = ds'} {d = d} e mine theirs front =
     let all : AreChildren (d ∷ ds') = subst AreChildren e theirs in
-    subst (λ (l : List Child). MergesFirst true cs l (d ∷ []) cs ds') (sym e) (record {
-      goes_on = λ b es m. merged_second b d cs ds' es m
-          (above cs mine (subst (λ (l : List Child). front_order cs l ≡ Some Greater) e front)) all;
+    rw e (record {
+      goes_on = λ b es m. merged_second b d cs ds' es m (above cs mine (rw e at front)) all;
       mine = mine;
       theirs = others d ds' all;
       fewer = omega arith;
@@ -345,10 +343,9 @@ pub next_equal : {cs ds cs' ds' : List Child} {c d : Child} {a : Bool} {g : Grap
     AreChildren cs → AreChildren ds → front_order cs ds ≡ Some Equal → Added a c.graph d.graph g →
     MergesFirst a cs ds (with_graph c g ∷ []) cs' ds'
 next_equal {cs' = cs'} {ds' = ds'} {c = c} {d = d} {a = a} {g = g} e f mine theirs front added =
-    let both : front_order (c ∷ cs') (d ∷ ds') ≡ Some Equal =
-    subst₂ (λ x y. front_order x y ≡ Some Equal) e f front in
+    let both : front_order (c ∷ cs') (d ∷ ds') ≡ Some Equal = rw (e, f) at front in
     let my_all : AreChildren (c ∷ cs') = subst AreChildren e mine in
-    subst₂ (λ x y. MergesFirst a x y (with_graph c g ∷ []) cs' ds') (sym e) (sym f) (record {
+    rw (e, f) (record {
       goes_on = λ b es m. merged_both a b c d g cs' ds' es m (sym (exact_bytes c.key d.key (cc))) added my_all
           (first_below d ds' (subst AreChildren f theirs));
       mine = others c cs' my_all;
@@ -365,8 +362,8 @@ pub merges_then : {all a b : Bool} {cs ds out cs' ds' more cs'' ds'' made : List
     MergesFirst all cs ds made cs'' ds''
 merges_then {a = a} {b = b} {cs = cs} {ds = ds} {out = out}
     {more = more} {cs'' = cs''} {ds'' = ds''} m n all_is made_is =
-    subst₂ (λ v r. MergesFirst v cs ds r cs'' ds'') (sym all_is) (sym made_is) (record {
-      goes_on = λ c es k. subst₂ (λ v r. Merged v cs ds r) (sym (and_assoc a b c)) (sym (append_assoc out more es))
+    rw (all_is, made_is) (record {
+      goes_on = λ c es k. rw (and_assoc a b c, append_assoc out more es)
           (m.goes_on (b && c) (more ++ es) (n.goes_on c es k));
       mine = n.mine;
       theirs = n.theirs;
@@ -436,11 +433,8 @@ module _ {cs : List Child} {o : Option Child} {c : Child} (rest : List Child) (e
 
   -- The first child has at most as many paths as all children.
   pub front_rows : len c.graph ≤ length (rows_of cs)
-  front_rows = omega (
-    arith,
-    ap (λ l. length (rows_of l)) (front_is e h) ∙ length-append (rows_of_child c) (rows_of rest),
-    len-child c,
-  )
+  front_rows = omega
+      (arith, ap (λ l. length (rows_of l)) (front_is e h), length-append (rows_of_child c) (rows_of rest), len-child)
 
 -- A list of fewer than two items that ends in x has x alone.
 pub one_of_length : {X : Type 0} (xs rest : List X) (x : X) → xs ≡ rest ++ x ∷ [] → length xs < 2 → xs ≡ x ∷ []
@@ -449,8 +443,7 @@ one_of_length xs (y ∷ rest) x e h = absurd (omega (arith, ap length e, length-
 
 -- The last child has at most the bytes of all.
 pub last_total : (cs rest : List Child) (c : Child) → cs ≡ rest ++ c ∷ [] → total c.graph ≤ total_of cs
-last_total cs rest c e = omega
-    (arith, ap total_of e, sum_by-append (λ (d : Child). total d.graph) rest (c ∷ []), total_of-cons c [])
+last_total cs rest c e = omega (arith, ap total_of e, sum_by-append {X = Child}, total_of-cons c [])
 
 -- ---- one child put among others: added to the one that has its key, or in its place
 -- A child whose key belongs at a place is merged by putting it there.

@@ -161,13 +161,7 @@ figured-rows : (t : Path → ℕ) (ks : Path) (cs : List Child)
     figured t ks (rows_of cs) ≡ flat_map (child_figures ks) cs
 figured-rows t ks [] h = refl
 figured-rows t ks (c ∷ cs) h =
-    rw (
-      map-append {B = Figures} (λ (e : Path × ℕ).
-          record { path = ks ++ e.0; self_size = e.1; total_size = t e.0 }) (rows_of_child c) (rows_of cs),
-      ← figured-under t (total_at c.graph) ks c.key (entries c.graph) h.0,
-      figured-rows t ks cs h.1,
-    )
-    refl
+    rw (map-append, ← figured-under t (total_at c.graph) ks c.key (entries c.graph) h.0, figured-rows t ks cs h.1)
 
 -- What F makes of the items before a place and of the one there.
 pub flat_map_more : {X A : Type 0} (F : X → List A) (xs : List X) (i : ℕ) (d : X) → i < length xs → d ≡ get_or xs i d →
@@ -215,8 +209,8 @@ pub added_under : {all : Bool} {m s : ℕ} {cs es : List Child} {g : Graph} (c :
     IsTree c.graph → Merged all cs (c ∷ []) es → Added all g (under c.key c.graph) (node m es)
 added_under {all = all} {m = m} {cs = cs} {es = es} {g = g} c view a t h =
     let no_more : m + 0 ≡ m = omega arith in
-    subst (λ f. Added all f (under c.key c.graph) (node m es)) view
-    (subst₂ (λ f n. Added all (node m cs) f (node n es)) (node_of_one c) no_more
+    subst₂ (λ f x. Added all f x (node m es)) view (node_of_one c)
+    (subst (λ n. Added all (node m cs) (node 0 (c ∷ [])) (node n es)) no_more
     (added_node all m 0 cs (c ∷ []) es a.children (one_child c t) h))
 
 -- A node has one path more than its children have rows.
@@ -231,14 +225,10 @@ paths_of cs = sum_by (λ c. len c.graph) cs
 -- The graph g of a node has the path of its root, and those of its children.
 pub paths_in : {n s : ℕ} {cs ds : List Child} {g : Graph} → node n cs ≡ g → IsNode cs s n → ds ≡ cs →
     len g ≡ 1 + paths_of ds
-paths_in {n = n} {cs = cs} view h same = omega (
-  arith,
-  ap (λ (x : Graph). len x) view,
-  ap paths_of same,
-  length-flat_map rows_of_child cs ∙ (λ i. sum_by (λ c. len-child c i) cs),
-  len-entries (node n cs),
-  ap length (entries-node n cs h.children.sorted),
-)
+paths_in {n = n} {cs = cs} view h same =
+    let rows = length-flat_map rows_of_child cs ∙ (λ i. sum_by (λ c. len-child c i) cs) in
+    let all = ap length (entries-node n cs h.children.sorted) in
+    omega (arith, ap (λ (x : Graph). len x) view, ap paths_of same, rows, len-entries (node n cs), all)
 
 -- The root, the paths of the children before one and those of that one are within the paths of the graph g.
 pub child_within : {n s : ℕ} {cs ds : List Child} {g : Graph} {i : ℕ} {d : Child} → node n cs ≡ g → IsNode cs s n →

@@ -137,17 +137,11 @@ line_more ls i l g h more was is =
 -- If the bytes of lines exceed a word in some order, those of their text do.
 pub text_exceeds : (t : List ℕ) (ls sorted given : List Line) → SaysStacks t (map line_stack ls) →
     IsPermutation ls sorted → given ≡ sorted → 2 ^ 64 ≤ sum_by (λ l. l.size) given → Exceeds t
-text_exceeds t ls sorted given means moved e h = record {
-  stacks = map line_stack ls;
-  means = means;
-  exceeds = omega (
-    arith,
-    h,
-    ap (λ (xs : List Line). sum_by (λ l. l.size) xs) e,
-    sum_by-IsPermutation (λ (l : Line). l.size) ls sorted moved,
-    fold-map (λ n (s : Stack). n + s.size) line_stack 0 ls,
-  );
-}
+text_exceeds t ls sorted given means moved e h =
+    let same = ap (λ (xs : List Line). sum_by (λ l. l.size) xs) e
+    ∙ sum_by-IsPermutation (λ (l : Line). l.size) ls sorted moved in
+    let bytes = fold-map (λ n (s : Stack). n + s.size) line_stack 0 ls in
+    record { stacks = map line_stack ls; means = means; exceeds = omega (arith, h, same, bytes) }
 
 -- ---- the parts of a line
 -- If no place in a list has a byte, the list lacks it.
@@ -477,15 +471,10 @@ never_refused g plain fits can n w fault =
 -- The bytes in the text of a graph whose sizes are words never exceed a word.
 pub never_exceeds : (g : Graph) → HasPlainKeys g → HasWords g → Exceeds (text g) → ⊥
 never_exceeds g plain fits e =
-    let is = ap all_bytes (stacks_of_text g plain fits e.stacks e.means) in
-    omega (
-      arith,
-      is,
-      fold-map (λ n (s : Stack). n + s.size) said 0 (written_entries g),
-      sum_by-filter_both is_shown (λ x. not (is_shown x)) (λ x. refl) (λ x. x.1) (entries g),
-      e.exceeds,
-      fits,
-    )
+    let is = ap all_bytes (stacks_of_text g plain fits e.stacks e.means)
+    ∙ fold-map (λ n (s : Stack). n + s.size) said 0 (written_entries g) in
+    let all = sum_by-filter_both is_shown (λ x. not (is_shown x)) (λ x. refl) (λ x. x.1) (entries g) in
+    omega (arith, is, all, e.exceeds, fits)
 
 -- ---- lines dropped from a text are paths left out of it
 -- What was read and what comes before the next line feed is one line. The rest is read as further lines.

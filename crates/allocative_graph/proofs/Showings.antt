@@ -232,19 +232,14 @@ module _ (v : Identity → ℕ) where
   sum-listed (i ∷ is) d =
       let new : v i ≡ unwrap_or (option_map (λ n. n) (get (Listed is) i)) 0 + v i =
       rw (get-listed is i, list_any_none (is_same_identity i) is (All-from_recursion _ is d.0)) (omega arith) in
-      omega (
-        arith,
-        weights-insert identity_total identity_antisymmetric (λ i n. n) (Listed is) i (v i) (v i) new,
-        sum-listed is d.1,
-        sum_by-cons v i is,
-      )
+      let more = weights-insert identity_total identity_antisymmetric (λ i n. n) (Listed is) i (v i) (v i) new in
+      omega (arith, more, sum-listed is d.1, sum_by-cons v i is)
 
 -- The sum over the entries of several contents is what the sums over each content add up to.
 sum-flat : (w : Entry → ℕ) (T : Identity → Bag) (is : List Identity) →
     sum_by w (flat_map T is) ≡ sum_by (λ i. sum_by w (T i)) is
 sum-flat w T [] = refl
-sum-flat w T (i ∷ is) = omega
-    (arith, sum_by-append w (T i) (flat_map T is), sum-flat w T is, sum_by-cons (λ i. sum_by w (T i)) i is)
+sum-flat w T (i ∷ is) = omega (arith, sum-flat w T is, sum_by-append {X = Entry}, sum_by-cons {X = Identity})
 
 -- Over lists of the same identities, each of which is listed once, sums are the same.
 module _ (is js : List Identity) (d : IsDistinct is_same_identity is) (e : IsDistinct is_same_identity js)
@@ -268,15 +263,8 @@ meanings {b = b} {c = c} {m = m} {n = n} {S = S} {T = T} x y moved both each = a
     let flat = same_flat x.identities y.identities x.once y.once
     (λ k. both_ways _ _ (λ h. (y.reached k).1 ((both k).0 ((x.reached k).0 h)))
     (λ h. (x.reached k).1 ((both k).1 ((y.reached k).0 h)))) S T (λ k h. each k ((y.reached k).0 h)) w in
-    omega (
-      arith,
-      sum_by-IsPermutation w _ _ x.is,
-      sum_by-IsPermutation w _ _ y.is,
-      sum_by-IsPermutation w _ _ moved,
-      sum_by-append w b (flat_map S x.identities),
-      sum_by-append w c (flat_map T y.identities),
-      flat,
-    ))
+    let same = sum_by-IsPermutation w in
+    omega (arith, same _ _ x.is, same _ _ y.is, same _ _ moved, sum_by-append {X = Entry}, flat))
 
 -- The sums of all entries are equal in two whole showings that agree.
 pub same_sums_of : (f g : Forest) → IsWhole f → IsWhole g → Agree f g → sums_of (all f) ≡ sums_of (all g)

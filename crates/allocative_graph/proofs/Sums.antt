@@ -204,17 +204,8 @@ module _ {K X : Type 0} {R : K → K → Ordering} (total : IsTotalOrder R) (sam
         let none = λ (q : R k x.0 ≡ Less). find-below_all R k es
         (below_all-less k x.0 es q (first (below_all R x.0 es) (is_sorted R es) h)) in
         let rest = weights-put k v d es (second (below_all R x.0 es) _ h) in
-        grind (
-          arith,
-          none,
-          rest,
-          same k x.0,
-          e,
-          sum_by-cons weigh (k, v) (x ∷ es),
-          sum_by-cons weigh (x.0, v) es,
-          sum_by-cons weigh x es,
-          sum_by-cons weigh x (put R k v es),
-        )
+        let w = sum_by-cons weigh in
+        grind (arith, none, rest, same k x.0, e, w (k, v) (x ∷ es), w (x.0, v) es, w x es, w x (put R k v es))
 
     -- If a key gets d more of what is weighed, so does the sum.
     pub weights-insert : (m : FinMap R X) (k : K) (v : X) (d : ℕ) → Changes k v d (get m k) →

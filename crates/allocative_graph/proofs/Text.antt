@@ -116,15 +116,8 @@ shown-find k p (([], n) ∷ es) h = shown-find k p es (second (below_all path_cm
 shown-find k p ((l ∷ q, n) ∷ es) h =
     let rest = shown-find k p es (second (below_all path_cmp (l ∷ q) es) _ h) in
     let none = find-below_all path_cmp (l ∷ q) es (first (below_all path_cmp (l ∷ q) es) (is_sorted path_cmp es) h) in
-    grind (
-      arith,
-      nat_tests,
-      rest,
-      none,
-      same_path (k ∷ p) (l ∷ q),
-      sum_by-cons (λ (s : Stack). cond
-          (is_same_path (k ∷ p) s.path) s.size 0) (said (l ∷ q, n)) (map said (filter is_shown es)),
-    )
+    let more = sum_by-cons (λ (s : Stack). cond (is_same_path (k ∷ p) s.path) s.size 0) (said (l ∷ q, n)) in
+    grind (arith, nat_tests, rest, none, same_path (k ∷ p) (l ∷ q), more (map said (filter is_shown es)))
 
 -- A size of a graph, but for the root's, is that of the stacks that its lines say.
 pub size_said : (g : Graph) (k : Key) (p : Path) → size_at g (k ∷ p) ≡ bytes_at (map said (written_entries g)) (k ∷ p)

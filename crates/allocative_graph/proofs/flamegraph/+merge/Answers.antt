@@ -37,13 +37,7 @@ interleave-loop-child-preserved t c =
       merged = merges_then c.loop-child.invariant.merged c.in-Some.ensures.next
           (ap (λ r. is_ok r) c.and-result.ensures
           ∙ is_ok-and c.loop-child.result c.in-Some.added) c.in-Ok.ensures.items;
-      size = omega (
-        arith,
-        c.loop-child.invariant.size,
-        c.total_size.ensures.total,
-        ap total_of c.in-Ok.ensures.items,
-        sum_by_push (λ (d : Child). total d.graph) c.loop-child.children.items c.in-Some.child,
-      );
+      size = omega (arith, c.total_size.ensures.total, ap total_of c.in-Ok.ensures.items, sum_by_push {X = Child});
       capacity = omega (arith, c.loop-child.invariant.capacity, c.in-Ok.ensures.capacity);
     }
 

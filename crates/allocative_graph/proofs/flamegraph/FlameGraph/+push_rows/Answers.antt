@@ -35,13 +35,7 @@ returns-clause-rows t c =
     take_all _ _ (omega arith) ∙ c.deref-child-items.ensures.value in
     let copied : c.in_ok-clone.field-0.items ≡ c.args.path.now.items =
     same_from_all_zip _ _ _ c.in_ok-clone.ensures.cases.0 (λ x y e. e) in
-    rw (
-      c.in_ok-push.ensures.items,
-      map_push row_figures c.args.rows.now.items row,
-      all,
-      copied,
-      c.total_size.ensures.total,
-    ) at c.loop-child.invariant.1
+    rw (c.in_ok-push.ensures.items, map_push, all, copied, c.total_size.ensures.total) at c.loop-child.invariant.1
     ∙ append_assoc (map row_figures c.args.rows.now.items) (_ ∷ []) _
     ∙ ap (λ (fs : List Figures). map row_figures c.args.rows.now.items ++ fs)
     (sym (figures_of_node c.self.view_is c.self.invariant ks))
