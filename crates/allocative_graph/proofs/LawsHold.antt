@@ -22,7 +22,11 @@ use Rattle.allocative_graph.proofs.Owned.{owned-following, owned-reordered, owne
 
 -- The lines of the text are those of the entries, and each is read as its entry.
 pub read_law : ReadLaw
-read_law = record { same_sizes = reads_back; no_fault = never_refused; fits = never_exceeds }
+read_law = record {
+  same_sizes = λ g h plain fits. reads_back g plain fits h;
+  no_fault = never_refused;
+  fits = never_exceeds;
+}
 
 -- The law holds element by element.
 pub path_order_law : PathOrderLaw

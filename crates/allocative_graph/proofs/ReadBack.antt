@@ -107,12 +107,8 @@ pub is_read : (t : List ℕ) (ls sorted : List Line) (g : Graph) →
 is_read t ls sorted g means moved e =
     let ss = map line_stack ls in
     subst (IsRead t) (sym (e ∙ added_up-permuted one_stack default ss (map line_stack sorted)
-    (IsPermutation-map line_stack ls sorted moved))) (record {
-      stacks = ss;
-      means = means;
-      graph = graph-stacks ss;
-      bytes = total-stacks ss;
-    })
+    (IsPermutation-map line_stack ls sorted moved)))
+    (record { stacks = ss; means = means; graph = graph-stacks ss; bytes = total-stacks ss })
 
 -- ---- the steps of the code
 -- The bytes of all lines exceed a word if those of some, with the next one, do.
@@ -128,11 +124,8 @@ lines_exceed ls i d g within is more =
 pub line_more : (ls : List Line) (i : ℕ) (l : Line) (g h : Graph) → take (i + 1) ls ≡ take i ls ++ l ∷ [] →
     g ≡ sum_of_stacks default (map line_stack (take i ls)) → h ≡ sum_of g (one_stack (line_stack l))
     → h ≡ sum_of_stacks default (map line_stack (take (i + 1) ls))
-line_more ls i l g h more was is =
-    is ∙ ap (λ (f : Graph). sum_of f (one_stack (line_stack l))) was
-    ∙ sym (ap (λ xs. sum_of_stacks default (map line_stack xs)) more
-    ∙ ap (sum_of_stacks default) (map_push line_stack (take i ls) l)
-    ∙ fold-append (λ h s. sum_of h (one_stack s)) default (map line_stack (take i ls)) (line_stack l ∷ []))
+line_more ls i l g h more was is = rw (is, was, more, map_push line_stack (take i ls) l)
+    (sym (fold-append (λ h s. sum_of h (one_stack s)) default (map line_stack (take i ls)) (line_stack l ∷ [])))
 
 -- If the bytes of lines exceed a word in some order, those of their text do.
 pub text_exceeds : (t : List ℕ) (ls sorted given : List Line) → SaysStacks t (map line_stack ls) →
@@ -396,28 +389,6 @@ entries_read (e ∷ es) good ss h =
     f.2 ∙ (λ i. (f.3.is ∙ sym (cut_says (stack_cut f.3)) ∙ cut_says (body_cut e) ∙ saying e good.0) i
     ∷ entries_read es good.1 f.1 f.4 i)
 
--- If the keys of a graph are plain and its total fits a word, its text has the lines of the entries shown.
-lines-text : (g : Graph) → HasPlainKeys g → HasWords g → lines (text g) ≡ map body (written_entries g)
-lines-text g plain fits = ap lines (shown_lines (entries g))
-    ∙ lines-full (written_entries g) (each-implies Good _ (λ e good. good.plain)
-    (written_entries g) (good_entries (entries g) plain fits))
-
--- Graphs with plain keys, totals that fit a word and one text have equal sizes at each path but the root.
-pub text_tells : (g h : Graph) → HasPlainKeys g → HasPlainKeys h → HasWords g → HasWords h → text g ≡ text h →
-    (k : Key) (p : Path) → size_at g (k ∷ p) ≡ size_at h (k ∷ p)
-text_tells g h a b v w e k p =
-    let same = sym (said_all (written_entries g) (good_entries (entries g) a v))
-    ∙ ap (map line_says) (sym (lines-text g a v) ∙ ap lines e ∙ lines-text h b w)
-    ∙ said_all (written_entries h) (good_entries (entries h) b w) in
-    size_said g k p ∙ ap (λ ss. bytes_at ss (k ∷ p)) same ∙ sym (size_said h k p)
-
--- The stacks of the text of a graph are its entries that have a line.
-stacks_of_text : (g : Graph) → HasPlainKeys g → HasWords g → (ss : List Stack) → SaysStacks (text g) ss →
-    ss ≡ map said (written_entries g)
-stacks_of_text g plain fits ss h = entries_read (written_entries g) (good_entries (entries g) plain fits) ss
-    (subst (λ (ls : List (List ℕ)). AreStacks ls ss) (lines-text g plain fits) h)
-
--- ---- what is read
 -- Stacks none of which begins with a path have no bytes there.
 bytes-absent : (ss : List Stack) (q : Path) → list_any (λ s. begins q s.path) ss ≡ false → bytes_at ss q ≡ 0
 bytes-absent [] q h = refl
@@ -425,15 +396,6 @@ bytes-absent (s ∷ ss) q h =
     let more = sum_by-cons (λ (t : Stack). cond (is_same_path q t.path) t.size 0) s ss in
     grind (arith, h, bytes-absent ss q, same_begins q s.path, more)
 
--- What is read of the text of a graph has its sizes, but for the root.
-pub reads_back : (g h : Graph) → HasPlainKeys g → HasWords g → IsRead (text g) h → (k : Key) (p : Path) →
-    size_at h (k ∷ p) ≡ size_at g (k ∷ p)
-reads_back g h plain fits read k p =
-    let found : size_at h (k ∷ p) ≡ bytes_at read.stacks (k ∷ p) =
-    rw (read.graph (k ∷ p)) (grind (arith, bytes-absent read.stacks (k ∷ p))) in
-    found ∙ ap (λ ss. bytes_at ss (k ∷ p)) (stacks_of_text g plain fits read.stacks read.means) ∙ sym (size_said g k p)
-
--- ---- nothing in the text of a graph is refused
 -- If good entries have at most `LEVELS` keys and not one empty key alone, their lines are stacks that say the same.
 said_stacks : (es : List Sized) → AllByRecursion Good es →
     AllByRecursion (λ e. (length e.0 ≤ LEVELS) × (0 < length (joined e.0))) es → AreStacks (map body es) (map said es)
@@ -457,24 +419,50 @@ no_fault [] line rest ss h some none = let f = stacks-first line rest ss some h 
 no_fault ([] ∷ before) line rest ss h some none = no_fault before line rest ss h some none
 no_fault ((b ∷ bs) ∷ before) line rest ss h some none = no_fault before line rest h.1 h.4 some none
 
--- If the keys of a graph are plain, its total fits a word and it can be read, no line of its text is refused.
-pub never_refused : (g : Graph) → HasPlainKeys g → HasWords g → CanBeRead g → (n : ℕ) (w : LineFault) →
-    IsFault (text g) n w → ⊥
-never_refused g plain fits can n w fault =
-    no_fault fault.before fault.line fault.rest (map said (written_entries g))
-    (subst (λ (ls : List (List ℕ)). AreStacks ls (map said (written_entries g)))
-    (sym (lines-text g plain fits) ∙ fault.parts)
-    (said_stacks (written_entries g) (good_entries (entries g) plain fits) can))
-    fault.some fault.none
+-- ---- a graph with plain keys, whose total fits a word
+module _ (g : Graph) (plain : HasPlainKeys g) (fits : HasWords g) where
+  -- Its text has the lines of the entries shown.
+  lines-text : lines (text g) ≡ map body (written_entries g)
+  lines-text = ap lines (shown_lines (entries g)) ∙ lines-full (written_entries g)
+      (each-implies Good _ (λ e good. good.plain) (written_entries g) (good_entries (entries g) plain fits))
 
--- ---- its bytes fit
--- The bytes in the text of a graph whose sizes are words never exceed a word.
-pub never_exceeds : (g : Graph) → HasPlainKeys g → HasWords g → Exceeds (text g) → ⊥
-never_exceeds g plain fits e =
-    let is = ap all_bytes (stacks_of_text g plain fits e.stacks e.means)
-    ∙ fold-map (λ n (s : Stack). n + s.size) said 0 (written_entries g) in
-    let all = sum_by-filter_both is_shown (λ x. not (is_shown x)) (λ x. refl) (λ x. x.1) (entries g) in
-    omega (arith, is, all, e.exceeds, fits)
+  -- Its lines say these entries.
+  text_says : map line_says (lines (text g)) ≡ map said (written_entries g)
+  text_says = ap (map line_says) lines-text ∙ said_all (written_entries g) (good_entries (entries g) plain fits)
+
+  -- The stacks of its text are its entries that have a line.
+  stacks_of_text : (ss : List Stack) → SaysStacks (text g) ss → ss ≡ map said (written_entries g)
+  stacks_of_text ss h = entries_read (written_entries g) (good_entries (entries g) plain fits) ss
+      (subst (λ (ls : List (List ℕ)). AreStacks ls ss) lines-text h)
+
+  -- What is read of its text has its sizes, but for the root.
+  pub reads_back : (h : Graph) → IsRead (text g) h → (k : Key) (p : Path) → size_at h (k ∷ p) ≡ size_at g (k ∷ p)
+  reads_back h read k p =
+      let found : size_at h (k ∷ p) ≡ bytes_at read.stacks (k ∷ p) =
+      rw (read.graph (k ∷ p)) (grind (arith, bytes-absent read.stacks (k ∷ p))) in
+      found ∙ ap (λ ss. bytes_at ss (k ∷ p)) (stacks_of_text read.stacks read.means) ∙ sym (size_said g k p)
+
+  -- If it can be read, no line of its text is refused.
+  pub never_refused : CanBeRead g → (n : ℕ) (w : LineFault) → IsFault (text g) n w → ⊥
+  never_refused can n w fault =
+      no_fault fault.before fault.line fault.rest (map said (written_entries g))
+      (subst (λ (ls : List (List ℕ)). AreStacks ls (map said (written_entries g))) (sym lines-text ∙ fault.parts)
+      (said_stacks (written_entries g) (good_entries (entries g) plain fits) can)) fault.some fault.none
+
+  -- The bytes in its text never exceed a word.
+  pub never_exceeds : Exceeds (text g) → ⊥
+  never_exceeds e =
+      let is = ap all_bytes (stacks_of_text e.stacks e.means)
+      ∙ fold-map (λ n (s : Stack). n + s.size) said 0 (written_entries g) in
+      let all = sum_by-filter_both is_shown (λ x. not (is_shown x)) (λ x. refl) (λ x. x.1) (entries g) in
+      omega (arith, is, all, e.exceeds, fits)
+
+-- Graphs with plain keys, totals that fit a word and one text have equal sizes at each path but the root.
+pub text_tells : (g h : Graph) → HasPlainKeys g → HasPlainKeys h → HasWords g → HasWords h → text g ≡ text h →
+    (k : Key) (p : Path) → size_at g (k ∷ p) ≡ size_at h (k ∷ p)
+text_tells g h a b v w e k p =
+    let same = sym (text_says g a v) ∙ ap (λ t. map line_says (lines t)) e ∙ text_says h b w in
+    size_said g k p ∙ ap (λ ss. bytes_at ss (k ∷ p)) same ∙ sym (size_said h k p)
 
 -- ---- lines dropped from a text are paths left out of it
 -- What was read and what comes before the next line feed is one line. The rest is read as further lines.

@@ -74,25 +74,27 @@ module _ (b : Bag) (content : Identity → Bag) where
   Reaches es cs = ((i : Identity) → IsTrue (has_mark i es) → Reached b content i)
       → AllByRecursion (λ c. content c.0 ≡ c.1) cs → (i : Identity) → IsTrue (is_among i (ids cs)) → Reached b content i
 
-  reaches_both : (xs ys : Bag) (cs ds : Contents) → Reaches xs cs → Reaches ys ds → Reaches (xs ++ ys) (cs ++ ds)
-  reaches_both xs ys cs ds f g m gs i h =
-      let parts = each-parts (λ c. content c.0 ≡ c.1) cs ds gs in
-      elim (or_cases _ _ (sym (among-append i cs ds) ∙ h)) [
-        | inl w ↦ f (λ j v. m j (list_any-append (marks j) xs ys ∙ or_left _ (has_mark j ys) v)) parts.0 i w
-        | inr w ↦ g (λ j v. m j (list_any-append (marks j) xs ys ∙ or_right (has_mark j xs) _ v)) parts.1 i w
+  reaches_both : (p q : Path) (f g : Forest) → Reaches (own_behind p f) (contents f) →
+      Reaches (own_behind q g) (contents g) → Reaches (own_behind p f ++ own_behind q g) (contents f ++ contents g)
+  reaches_both p q f g x y m gs i h =
+      let parts = each-parts (λ c. content c.0 ≡ c.1) (contents f) (contents g) gs in
+      let both = λ (j : Identity). list_any-append (marks j) (own_behind p f) (own_behind q g) in
+      elim (or_cases _ _ (sym (among-append i (contents f) (contents g)) ∙ h)) [
+        | inl w ↦ x (λ j v. m j (both j ∙ or_left _ (has_mark j (own_behind q g)) v)) parts.0 i w
+        | inr w ↦ y (λ j v. m j (both j ∙ or_right (has_mark j (own_behind p f)) _ v)) parts.1 i w
       ]
 
   reach : (p : Path) (f : Forest) → Reaches (own_behind p f) (contents f)
   reach p Empty m g i h = absurd (true≢false (sym h))
-  reach p (Inline k n f after) m g i h = reaches_both (own_behind (p ++ k ∷ []) f) (own_behind p after) (contents f)
-      (contents after) (reach (p ++ k ∷ []) f) (reach p after) m g i h
-  reach p (Unique k n f after) m g i h = reaches_both (own_behind (p ++ k ∷ []) f) (own_behind p after) (contents f)
-      (contents after) (reach (p ++ k ∷ []) f) (reach p after) m g i h
+  reach p (Inline k n f after) m g i h =
+      reaches_both (p ++ k ∷ []) p f after (reach (p ++ k ∷ []) f) (reach p after) m g i h
+  reach p (Unique k n f after) m g i h =
+      reaches_both (p ++ k ∷ []) p f after (reach (p ++ k ∷ []) f) (reach p after) m g i h
   reach p (First k n j f after) m g i h =
       let here : Reached b content j = m j (or_left _ (has_mark j (own_behind p after)) (same_identity_itself j)) in
       elim (or_cases (is_same_identity i j) _ h) [
         | inl a ↦ subst (Reached b content) (sym (same_identity i j a)) here
-        | inr a ↦ reaches_both (own f) (own_behind p after) (contents f) (contents after) (reach [] f) (reach p after)
+        | inr a ↦ reaches_both [] p f after (reach [] f) (reach p after)
             (λ l w. elim (or_cases _ _ (sym (list_any-append (marks l) (own f) (own_behind p after)) ∙ w)) [
               | inl v ↦ inside j here (ap (has_mark l) g.0 ∙ v)
               | inr v ↦ m l (or_right (is_same_identity l j) _ v)
@@ -120,26 +122,25 @@ AllMet s b cs = Fresh s cs
     × ((i : Identity) → IsTrue (marked_in i b cs) → IsTrue (contains s i || is_among i (ids cs)))
 
 -- If this holds of two parts, of the second once the first was met, it holds of both in one.
-both_met : (s : Identities) (a b : Bag) (cs ds : Contents) → AllMet s a cs → AllMet (insert_all s (ids cs)) b ds →
-    AllMet s (a ++ b) (cs ++ ds)
-both_met s a b cs ds x y = (
-  fresh-append s cs ds x.0 y.0,
+both_met : (s : Identities) (p q : Path) (f g : Forest) → AllMet s (own_behind p f) (contents f) →
+    AllMet (met_after s f) (own_behind q g) (contents g) →
+    AllMet s (own_behind p f ++ own_behind q g) (contents f ++ contents g)
+both_met s p q f g x y = (
+  fresh-append s (contents f) (contents g) x.0 y.0,
   λ i h. grind (arith, x.1 i, y.1 i, h, list_any-append, among-append, contains-insert_all),
 )
 
 -- It holds of a forest that fits the identities met.
 fits_met : (p : Path) (s : Identities) (f : Forest) → Fits s f → AllMet s (own_behind p f) (contents f)
 fits_met p s Empty w = (tt, λ i h. absurd (true≢false (sym h)))
-fits_met p s (Inline k n f after) w = both_met s (own_behind (p ++ k ∷ []) f) (own_behind p after) (contents f)
-    (contents after) (fits_met (p ++ k ∷ []) s f w.0) (fits_met p (met_after s f) after w.1)
-fits_met p s (Unique k n f after) w = both_met s (own_behind (p ++ k ∷ []) f) (own_behind p after) (contents f)
-    (contents after) (fits_met (p ++ k ∷ []) s f w.0) (fits_met p (met_after s f) after w.1)
+fits_met p s (Inline k n f after) w =
+    both_met s (p ++ k ∷ []) p f after (fits_met (p ++ k ∷ []) s f w.0) (fits_met p (met_after s f) after w.1)
+fits_met p s (Unique k n f after) w =
+    both_met s (p ++ k ∷ []) p f after (fits_met (p ++ k ∷ []) s f w.0) (fits_met p (met_after s f) after w.1)
 fits_met p s (First k n j f after) w =
-    let rest = both_met (insert s j) (own f) (own_behind p after) (contents f) (contents after)
-    (fits_met [] (insert s j) f w.1) (fits_met p (met_after (insert s j) f) after w.2) in (
-      (w.0, rest.0),
-      λ i h. grind (arith, rest.1 i, h, contains-insert identity_total s j i, list_any-append),
-    )
+    let up = insert s j in
+    let rest = both_met up [] p f after (fits_met [] up f w.1) (fits_met p (met_after up f) after w.2) in
+    ((w.0, rest.0), λ i h. grind (arith, rest.1 i, h, contains-insert identity_total s j i, list_any-append))
 fits_met p s (Again k n j after) w =
     let rest = fits_met p s after w.1 in
     let met = λ (i : Identity) (a : IsTrue (is_same_identity i j)). ap (contains s) (same_identity i j a) ∙ w.0 in
@@ -379,9 +380,7 @@ pub get-sum_of : (g h : Graph) (q : Path) →
     get (sum_of g h) q ≡ cond (is_some (get g q) || is_some (get h q)) (Some (size_at g q + size_at h q)) None
 get-sum_of g h q = get-from_entries path_total _ q
     ∙ find-keys path_total path_antisymmetric (λ p. size_at g p + size_at h p) (keys g ++ keys h) q
-    ∙ ap (λ b. cond b (Some (size_at g q + size_at h q)) None)
-    (list_any-append (is_same_path q) (keys g) (keys h)
-    ∙ (λ i. sym (contains_key-keys g q) i || sym (contains_key-keys h q) i))
+    ∙ rw (list_any-append (is_same_path q) (keys g) (keys h), ← contains_key-keys g q, ← contains_key-keys h q)
 
 -- ---- if the sums can be added
 -- If the sums of two forests can be added, their graphs add up to the graph of both in one forest.

@@ -24,5 +24,5 @@ returns-clause-graph c =
 pub returns-clause-reads_back : goal.returns-clause-reads_back
 returns-clause-reads_back c =
     IfOk-weaker c.add_up.result (IsRead c.args.text.now) (ReadsBack c.args.text.now)
-    (λ h read g plain fits e. reads_back g h plain fits (subst (λ (t : List ℕ). IsRead t h) e read))
+    (λ h read g plain fits e. reads_back g plain fits h (subst (λ (t : List ℕ). IsRead t h) e read))
     (returns-clause-graph c)
