@@ -8,14 +8,12 @@ use Rattle.allocative_graph.proofs.Common.{slice_cmp, Key, key_cmp, entries, fro
 use Rattle.allocative_graph.proofs.Common.{get-from_entries, entries-from_sorted, same_map, is_sorted, IsTotalOrder}
 use Rattle.allocative_graph.proofs.Common.{Equal-is, tied_itself, nat_cmp, eq_by_cmp_equiv}
 use Rattle.std.proofs.lemmas.List.Elements.{All-append, All-from_recursion, All-weaker, recursion_from_All}
-use Rattle.std.proofs.lemmas.Map.Lookups.{exact_pairs}
-use Rattle.std.specs.Cmp.Lexicographic.{lists_total}
-use Rattle.std.proofs.lemmas.Cmp.{nat_cmp_total, on_total, then_total}
 pub use mathlib.Core.Bool.{or_comm, or-false, and_assoc, and-true}
 pub use Rattle.std.specs.Cmp.{both_ways}
 pub use Rattle.std.proofs.lemmas.Bool.{and_parts, or_cases, or_left, or_right, or_parts, false_from_ne_true}
 use Rattle.allocative_graph.specs.Path.{ComesBefore, longer, parts}
-use Rattle.std.specs.FinMap.{from_sorted}
+use Rattle.std.proofs.lemmas.{Map.Lookups.exact_pairs, Cmp.nat_cmp_total, Cmp.on_total, Cmp.then_total}
+use Rattle.std.specs.{Cmp.Lexicographic.lists_total, FinMap.from_sorted}
 
 -- ---- tests
 -- What holds of both answers of a test holds of the test.

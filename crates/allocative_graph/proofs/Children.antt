@@ -1,34 +1,28 @@
 -- Children in the order of their keys: their totals and rows, the sizes below their keys, what a search finds, the node
 -- that has them, and merging them.
 use Rattle.std.proofs.Common.{◌≡◌, ℕ, ◌+◌, ◌<◌, List, [], ◌∷◌, ◌++◌, length, take, get_or, refl, ap, ◌∙◌, arith, sum_by}
-use Rattle.std.proofs.Common.{append-nil, true, false, Option, None, sym, subst, subst₂, ◌-◌, Result, Ok, Err}
-use Rattle.std.proofs.Common.{IfOk, IfErr, IsTrue, cond, Some, ◌≤◌, ◌&&◌, Bool, length-append, append_assoc, true≢false}
+use Rattle.std.proofs.Common.{append-nil, true, false, Option, None, sym, subst, subst₂, ◌-◌, Result, Ok, Err, IfOk}
+use Rattle.std.proofs.Common.{IfErr, IsTrue, cond, Some, ◌≤◌, ◌&&◌, Bool, length-append, append_assoc, true≢false}
 use Rattle.std.proofs.Common.{is_ok, zero, suc, set, ⊎_elim}
 use Rattle.allocative_graph.proofs.Common.{entries, Child, Path, total, rows_of, rows_of_child, total_of, take_more}
-use Rattle.allocative_graph.proofs.Common.{flat_map-append, fold-map, sum_by-cons, eq_by_cmp, is_eq, get, Key}
-use Rattle.allocative_graph.proofs.Common.{key_cmp, Less, default, size_under, AllAbove}
-use Rattle.allocative_graph.proofs.Common.{All-from_recursion, Equal, Greater, ordering_reverse, nat_list_cmp_total}
-use Rattle.allocative_graph.proofs.Common.{IsTree, AreChildren, InOrder, length-map, keys_of, is_lt, IsFound}
-use Rattle.allocative_graph.proofs.Common.{IsChildGap, from_entries, same_entries_map, get-from_sorted, get-entries}
-use Rattle.allocative_graph.proofs.Common.{find, under, under_rows, node, path_cmp, entries-node, entries-insert}
-use Rattle.allocative_graph.proofs.Common.{entries-from_sorted, put, insert, len, len-child, Graph, Added, Merged}
-use Rattle.allocative_graph.proofs.Common.{sum_by-append, All, Equal-is, tied_then, exact_bytes, MergesFirst}
-use Rattle.allocative_graph.proofs.Common.{eq_by_cmp_equiv, tied_itself}
+use Rattle.allocative_graph.proofs.Common.{flat_map-append, fold-map, sum_by-cons, eq_by_cmp, is_eq, get, Key, key_cmp}
+use Rattle.allocative_graph.proofs.Common.{Less, default, size_under, AllAbove, All-from_recursion, Equal, Greater}
+use Rattle.allocative_graph.proofs.Common.{ordering_reverse, nat_list_cmp_total, IsTree, AreChildren, InOrder}
+use Rattle.allocative_graph.proofs.Common.{length-map, keys_of, is_lt, IsFound, IsChildGap, from_entries}
+use Rattle.allocative_graph.proofs.Common.{same_entries_map, get-from_sorted, get-entries, find, under, under_rows}
+use Rattle.allocative_graph.proofs.Common.{node, path_cmp, entries-node, entries-insert, entries-from_sorted, put}
+use Rattle.allocative_graph.proofs.Common.{insert, len, len-child, Graph, Added, Merged, sum_by-append, All, Equal-is}
+use Rattle.allocative_graph.proofs.Common.{tied_then, exact_bytes, MergesFirst, eq_by_cmp_equiv, tied_itself}
 use Rattle.std.specs.List.Sorted.{IsStrictlySortedBy, IsSearchInRange, IsBinarySearchResult}
 use Rattle.std.proofs.lemmas.List.Sums.{sum_by-set, sum_by-insert, get_or-le-sum_by}
-use Rattle.std.specs.List.{insert as insert_at}
 use Rattle.std.proofs.lemmas.List.Recursion.{found_at, found_nowhere}
-use Rattle.allocative_graph.proofs.Basics.{each-map, each-implies, entries-from_entries-sorted}
-use Rattle.allocative_graph.proofs.Basics.{path_total, and_assoc, and-true}
+use Rattle.allocative_graph.proofs.Basics.{each-map, each-implies, entries-from_entries-sorted, path_total, and_assoc}
+use Rattle.allocative_graph.proofs.Basics.{and-true}
 use Rattle.std.proofs.lemmas.List.{get_or-map, get_or_default}
-use Rattle.std.proofs.lemmas.Map.Keys.{Less-from_sorted}
-use Rattle.std.specs.declared.cmp.Ordering.{Ordering}
-use Rattle.std.proofs.lemmas.List.Sorted.{searchable_from_sorted}
-use Rattle.std.proofs.lemmas.Bool.{cases_lt}
 use Rattle.std.specs.Option.{option_or, option_to_list}
-use Rattle.std.specs.Result.{result_and}
-use Rattle.allocative_graph.specs.Representation.Children.{front_order}
-use Rattle.allocative_graph.specs.Representation.NodeRows.{node_sorted}
+use Rattle.std.proofs.lemmas.{Map.Keys.Less-from_sorted, List.Sorted.searchable_from_sorted, Bool.cases_lt}
+use Rattle.std.specs.{List.insert as insert_at, declared.cmp.Ordering.Ordering, Result.result_and}
+use Rattle.allocative_graph.specs.{Representation.Children.front_order, Representation.NodeRows.node_sorted}
 
 -- ---- totals and rows
 -- One more child in front adds the total of its graph.

@@ -3,9 +3,6 @@ use Rattle.std.proofs.Common.{◌≡◌, ℕ, false, true, List, ◌∷◌, [], 
 use Rattle.allocative_graph.proofs.Common.{contains-insert, contains-empty, identity_cmp, all, codes, Forest}
 use Rattle.allocative_graph.proofs.Common.{text_of_entries, nat_cmp-IsAntisymmetric, slice_cmp-IsAntisymmetric, key_cmp}
 use Rattle.allocative_graph.proofs.Common.{tied_itself, nat_cmp}
-use Rattle.std.specs.Cmp.{nat_cmp_total}
-use Rattle.std.specs.Fmt.{digits}
-use Rattle.std.specs.FinSet.{empty}
 use Rattle.allocative_graph.specs.Laws.{ReadLaw, PathOrderLaw, GraphSumsLaw, GraphLaw}
 use Rattle.allocative_graph.specs.WorkedExamples.{Prints, WorkedExamples, one, part_inline, part_unique}
 use Rattle.allocative_graph.proofs.Basics.{identity_total, order, key_itself}
@@ -19,6 +16,7 @@ use Rattle.allocative_graph.proofs.Plus.{inside_first, takes_shared, held_again,
 use Rattle.allocative_graph.proofs.Graphs.{total-sum_of, sum_of-commutes, sum_of-associates, sum_of-default}
 use Rattle.allocative_graph.proofs.Graphs.{total-under, graph-tree}
 use Rattle.allocative_graph.proofs.Owned.{owned-following, owned-reordered, owned-total, direct-owned}
+use Rattle.std.specs.{Cmp.nat_cmp_total, Fmt.digits, FinSet.empty}
 
 -- The lines of the text are those of the entries, and each is read as its entry.
 pub read_law : ReadLaw

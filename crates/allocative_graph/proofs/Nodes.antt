@@ -2,32 +2,25 @@
 -- their own sizes and their children do; the number of their paths; what a node has after bytes are added at one path.
 use Rattle.std.proofs.Common.{◌≡◌, ℕ, ◌+◌, ◌<◌, ◌^◌, Bool, true, List, [], ◌∷◌, ◌++◌, length, length-append, Some, refl}
 use Rattle.std.proofs.Common.{get_or, unwrap_or, sym, ap, subst, subst₂, ◌∙◌, arith, ◌≤◌, set, zero-add, add-zero, take}
-use Rattle.std.proofs.Common.{sum_by, ◌&&◌, cond, Option, None, IfNone, ⊎_elim, map}
-use Rattle.std.proofs.Common.{append_assoc, append-nil, flat_map}
-use Rattle.allocative_graph.proofs.Common.{sum_by-cons, key_cmp, AllByRecursion, is_some, contains_key}
-use Rattle.allocative_graph.proofs.Common.{entries, len, len-entries, Child, Key, Path, Graph, IsTree, size_at, sum_of}
-use Rattle.allocative_graph.proofs.Common.{total, under, node, rows_of, rows_of_child, AreChildren, IsNode, total_of}
-use Rattle.allocative_graph.proofs.Common.{size_under, Adds, Added, Merged, entries-node, len-child}
-use Rattle.allocative_graph.proofs.Common.{All-from_recursion, insert, default, add_self, IsFound, get, graph_of_path}
-use Rattle.allocative_graph.proofs.Common.{child_of_path, eq_by_cmp, IsBehind}
-use Rattle.allocative_graph.proofs.Common.{HasNothing, begins, total_at, InOrder, IsChildGap}
-use Rattle.allocative_graph.proofs.Common.{Figures, figures_behind, under_rows, map-append}
-use Rattle.allocative_graph.proofs.Common.{flat_map-append, take_more}
-use Rattle.std.proofs.lemmas.List.Sums.{sum_by_more_le}
+use Rattle.std.proofs.Common.{sum_by, ◌&&◌, cond, Option, None, IfNone, ⊎_elim, map, append_assoc, append-nil, flat_map}
+use Rattle.allocative_graph.proofs.Common.{sum_by-cons, key_cmp, AllByRecursion, is_some, contains_key, entries, len}
+use Rattle.allocative_graph.proofs.Common.{len-entries, Child, Key, Path, Graph, IsTree, size_at, sum_of, total, under}
+use Rattle.allocative_graph.proofs.Common.{node, rows_of, rows_of_child, AreChildren, IsNode, total_of, size_under}
+use Rattle.allocative_graph.proofs.Common.{Adds, Added, Merged, entries-node, len-child, All-from_recursion, insert}
+use Rattle.allocative_graph.proofs.Common.{default, add_self, IsFound, get, graph_of_path, child_of_path, eq_by_cmp}
+use Rattle.allocative_graph.proofs.Common.{IsBehind, HasNothing, begins, total_at, InOrder, IsChildGap, Figures}
+use Rattle.allocative_graph.proofs.Common.{figures_behind, under_rows, map-append, flat_map-append, take_more}
 use Rattle.std.specs.List.Sorted.{IsStrictlySortedBy}
 use Rattle.allocative_graph.specs.Rows.{ComesLast}
 use Rattle.allocative_graph.proofs.Children.{put_at_gap, merged_same, put_at_found, with_graph, get-root, get-under}
-use Rattle.allocative_graph.proofs.Children.{node_each, node_of_one, one_child, total-node, no_children}
-use Rattle.allocative_graph.proofs.Children.{insert_root, node_nil, rows-cons, Lacks, lacks_equal}
-use Rattle.allocative_graph.proofs.Children.{size_under-lacks, read-lacks, read-found, other_than}
-use Rattle.allocative_graph.proofs.Basics.{on_test}
-use Rattle.std.proofs.lemmas.List.{take_all, drop_all, set-get_or}
-use Rattle.allocative_graph.proofs.Graphs.{is_sum_of, total-sum_of, total-under, size_at-default, size_at-sum_of}
-use Rattle.allocative_graph.proofs.Graphs.{has-sum_of}
+use Rattle.allocative_graph.proofs.Children.{node_each, node_of_one, one_child, total-node, no_children, insert_root}
+use Rattle.allocative_graph.proofs.Children.{node_nil, rows-cons, Lacks, lacks_equal, size_under-lacks, read-lacks}
+use Rattle.allocative_graph.proofs.Children.{read-found, other_than}
 use Rattle.std.proofs.lemmas.List.Folds.{fold_stays, length-flat_map-take}
-use Rattle.std.proofs.lemmas.Bool.{cases_lt}
-use Rattle.std.proofs.lemmas.List.Elements.{recursion_from_All}
-use Rattle.std.proofs.lemmas.List.Concat.{length-flat_map}
+use Rattle.std.proofs.lemmas.{List.Sums.sum_by_more_le, List.take_all, List.drop_all, List.set-get_or, Bool.cases_lt}
+use Rattle.std.proofs.lemmas.{List.Elements.recursion_from_All, List.Concat.length-flat_map}
+use Rattle.allocative_graph.proofs.{Basics.on_test, Graphs.is_sum_of, Graphs.total-sum_of, Graphs.total-under}
+use Rattle.allocative_graph.proofs.{Graphs.size_at-default, Graphs.size_at-sum_of, Graphs.has-sum_of}
 
 -- ---- what a node has below a key
 -- The sum of the sizes of the rows whose paths begin with q.

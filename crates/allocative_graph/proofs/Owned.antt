@@ -1,18 +1,17 @@
 -- What forests own: it adds up, in any order, and is the total of a graph.
 use Rattle.std.proofs.Common.{◌≡◌, ℕ, ◌+◌, ◌-◌, ◌≤◌, ◌||◌, true, false, cond, List, [], ◌∷◌, ◌++◌, fold, map, inl, inr}
 use Rattle.std.proofs.Common.{is_some, unwrap_or, refl, ap, sym, ◌∙◌, sum_by, arith}
-use Rattle.allocative_graph.proofs.Common.{sum_by-cons, map-append, AsInline, AsUnique, AsShared, Bag}
-use Rattle.allocative_graph.proofs.Common.{contains_key, Key, Path, is_same_path, is_one_below, Forest, Empty, Inline}
-use Rattle.allocative_graph.proofs.Common.{Unique, First, Again, own, own_behind, followed_by, bytes_in, is_entered_in}
-use Rattle.allocative_graph.proofs.Common.{is_unique_in, sums_of, below, Graph, graph, default, size_at, total, Entry}
-use Rattle.allocative_graph.proofs.Common.{sum_by-append, Mark}
+use Rattle.allocative_graph.proofs.Common.{sum_by-cons, map-append, AsInline, AsUnique, AsShared, Bag, contains_key}
+use Rattle.allocative_graph.proofs.Common.{Key, Path, is_same_path, is_one_below, Forest, Empty, Inline, Unique, First}
+use Rattle.allocative_graph.proofs.Common.{Again, own, own_behind, followed_by, bytes_in, is_entered_in, is_unique_in}
+use Rattle.allocative_graph.proofs.Common.{sums_of, below, Graph, graph, default, size_at, total, Entry, sum_by-append}
+use Rattle.allocative_graph.proofs.Common.{Mark}
 use Rattle.allocative_graph.specs.Owned.{direct, owned, Owner, owners_behind, owns_all, EachAt, AreAlike, Reordered}
 use Rattle.allocative_graph.specs.Owned.{exchanged, within, beside, in_turn}
-use Rattle.allocative_graph.proofs.Basics.{same_path}
 use Rattle.allocative_graph.proofs.Sums.{one_below_is, below_in, below-sums_of, bytes-cons, get-sums_of, bytes_none}
-use Rattle.allocative_graph.proofs.Showings.{get-graph, get-graph-root}
-use Rattle.allocative_graph.proofs.Graphs.{add_at, get-add_at, total-add_at, same_graph, in_graph, get-default, size_at-default}
-use Rattle.allocative_graph.proofs.Graphs.{total-default}
+use Rattle.allocative_graph.proofs.Graphs.{add_at, get-add_at, total-add_at, same_graph, in_graph, get-default}
+use Rattle.allocative_graph.proofs.Graphs.{size_at-default, total-default}
+use Rattle.allocative_graph.proofs.{Basics.same_path, Showings.get-graph, Showings.get-graph-root}
 
 -- ---- one after another
 -- The direct bytes of two forests one after another add up.

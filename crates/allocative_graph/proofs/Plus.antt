@@ -1,18 +1,17 @@
 -- What a collector has after forests, entries and leaving.
-use Rattle.std.proofs.Common.{◌≡◌, ◌↔◌, ◌≤◌, suc, ℕ, ◌+◌, Bool, true, false, cond, [], ◌∷◌, ◌++◌, sym, subst}
-use Rattle.std.proofs.Common.{arith, append-nil}
+use Rattle.std.proofs.Common.{◌≡◌, ◌↔◌, ◌≤◌, suc, ℕ, ◌+◌, Bool, true, false, cond, [], ◌∷◌, ◌++◌, sym, subst, arith}
+use Rattle.std.proofs.Common.{append-nil}
 use Rattle.allocative_graph.proofs.Common.{contains, Key, Identity, Forest, Empty, Inline, Unique, First, Again}
 use Rattle.allocative_graph.proofs.Common.{own_behind, contents, followed_by}
-use Rattle.allocative_graph.specs.Forest.{entry_of}
 use Rattle.allocative_graph.specs.Collector.{Live, Summing, Kind, OfGraph, OfSum, entry_bytes, forest_bytes}
 use Rattle.allocative_graph.specs.Collector.{figure_inside, figure_after, HasNoSpare, count_entry, enter_first, plus}
 use Rattle.allocative_graph.specs.Collector.{Takes, enter, leave, begin, is_graph, visitors, Restore, outer_of}
 use Rattle.allocative_graph.specs.Collector.{IsClosed}
 use Rattle.allocative_graph.specs.declared.restore.Restore.TheVariants.{Held, Owned}
 use Rattle.allocative_graph.proofs.Owned.{direct-following, owned-following, direct-owned}
-use Rattle.allocative_graph.specs.Owned.{held, inline_bytes, direct}
 use Rattle.allocative_graph.proofs.Showings.{entries_at-following, contents-following, met-following, fits-following}
 use Rattle.allocative_graph.proofs.Basics.{each-append, each-parts}
+use Rattle.allocative_graph.specs.{Forest.entry_of, Owned.held, Owned.inline_bytes, Owned.direct}
 
 -- ---- a sum of held or of owned bytes
 abbrev held_in : Bool → Forest → ℕ

@@ -1,7 +1,5 @@
 -- The graphs of stacks, which add up in any order. The lines of a text that is read, and what they say of its graph:
 -- the text of a graph that is read is the graph again.
-use Rattle.allocative_graph.specs.declared.read.TheConstants.{LEVELS}
-use Rattle.allocative_graph.specs.declared.read.LineFault.{LineFault}
 use Rattle.std.proofs.Common.{◌≡◌, ◌≢◌, ℕ, suc, ◌+◌, ◌^◌, ◌<◌, ◌≤◌, ◌==◌, true, false, List, [], ◌∷◌, ◌++◌, length}
 use Rattle.std.proofs.Common.{get_or, take, drop, None, Some, refl, ap, sym, ◌∙◌, subst, arith, Bor, eqb-true}
 use Rattle.std.proofs.Common.{take-append-drop, Bool, map, append-nil, drop-cons, ◌-◌, cond, not, flat_map}
@@ -15,31 +13,27 @@ use Rattle.allocative_graph.proofs.Common.{nil_from_length, size_at, slice_split
 use Rattle.allocative_graph.proofs.Common.{IsPermutation, is_eq, contains_key, get-insert, path_cmp, total, is_root}
 use Rattle.allocative_graph.proofs.Common.{default, sum_of, graph_of_path, one_stack, sum_of_stacks}
 use Rattle.allocative_graph.proofs.Common.{sum_by-IsPermutation, fold-append, tied_then, map-append}
-use Rattle.std.specs.Str.Pattern.{RFindsChar}
-use Rattle.std.proofs.lemmas.Bool.{eqb-false}
 use Rattle.std.proofs.lemmas.List.Elements.{All-from_get_or, recursion_from_All, All-weaker, All-filter}
 use Rattle.std.specs.Str.Parse.{IsNumeral, without_leading_plus}
 use Rattle.std.proofs.lemmas.Str.Parse.{digit_at, without_leading_plus_none}
-use Rattle.std.proofs.lemmas.Str.Pattern.{NoCharPasses-char, drop_at_char}
 use Rattle.allocative_graph.specs.declared.read.LineFault.TheVariants.{NoPath, NoNumber, TooLarge, TooDeep, NoSpace}
 use Rattle.allocative_graph.specs.Read.{keys_of, Exceeds, CanBeRead, IsFault, IsNumber, IsStack, IsWrong, number_of}
 use Rattle.allocative_graph.specs.Read.{line_stack, IsGraphOfStacks}
 use Rattle.allocative_graph.proofs.Text.{lacks_not, texts, Plain, Sized, Good, is_shown, full, body, written_entries}
 use Rattle.allocative_graph.proofs.Text.{good_entries, said, size_said, shown_lines, body_lacks, decimal_lacks}
 use Rattle.std.proofs.lemmas.List.Splits.{length-slice_split, slice_split_none, slice_split_at}
-use Rattle.std.proofs.lemmas.List.Sums.{count_by-le-length, sum_by_more_le}
-use Rattle.std.specs.Str.Lines.{strip_carriage_return}
-use Rattle.std.proofs.lemmas.Fmt.{decimal_is_IsNumeral}
-use Rattle.std.proofs.lemmas.List.{get_or-append_right}
 use Rattle.allocative_graph.proofs.Basics.{each-implies, each-map, path_total, same_path, key_itself}
 use Rattle.allocative_graph.specs.Graph.{line, ends_in, exact_text, lines_from, before_last, after_last, last_key}
 use Rattle.allocative_graph.specs.Graph.{without_lines, HasPlainKeys, HasWords}
-use Rattle.std.proofs.Padding.{cond_same}
-use Rattle.std.proofs.lemmas.List.Sorted.{IsPermutation-map}
 use Rattle.allocative_graph.proofs.Graphs.{size_at-default, is_some-cond, get-default, get-under, get-under-root}
 use Rattle.allocative_graph.proofs.Graphs.{size_at-added_up, has-added_up, total-added_up, added_up-permuted}
 use Rattle.allocative_graph.proofs.Graphs.{total-default}
 use Rattle.allocative_graph.proofs.Nodes.{total-path}
+use Rattle.std.proofs.lemmas.{Bool.eqb-false, Str.Pattern.NoCharPasses-char, Str.Pattern.drop_at_char}
+use Rattle.std.proofs.lemmas.{Fmt.decimal_is_IsNumeral, List.get_or-append_right, List.Sorted.IsPermutation-map}
+use Rattle.std.proofs.{lemmas.List.Sums.count_by-le-length, lemmas.List.Sums.sum_by_more_le, Padding.cond_same}
+use Rattle.std.specs.{Str.Pattern.RFindsChar, Str.Lines.strip_carriage_return}
+use Rattle.allocative_graph.specs.{declared.read.TheConstants.LEVELS, declared.read.LineFault.LineFault}
 
 -- ---- the graphs of stacks
 -- A path begins with itself.

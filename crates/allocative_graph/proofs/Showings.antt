@@ -13,9 +13,7 @@ use Rattle.allocative_graph.proofs.Common.{flat_map-append, keys, get-entries, f
 use Rattle.allocative_graph.proofs.Common.{Graph, graph, sizes, remaining, size_at, sum_of, CanBeAdded, list_any-append}
 use Rattle.allocative_graph.proofs.Common.{sum_by-append, fold-append, ⊤, contains-insert, contains-empty, list_any}
 use Rattle.allocative_graph.proofs.Common.{map-append, eq_by_cmp_equiv}
-use Rattle.std.specs.List.{IsDistinct, Contains}
 use Rattle.std.specs.FinMap.{FinMap, empty, contains_key-keys}
-use Rattle.std.proofs.lemmas.List.Folds.{list_any_none}
 use Rattle.allocative_graph.specs.Meaning.{Agree, ReachApart, ReachesExactly, IsMeaning, IsWhole, Reached, content_of}
 use Rattle.allocative_graph.specs.Meaning.{has_mark, inside, is_among, is_mark_of, marked}
 use Rattle.allocative_graph.proofs.Basics.{both_ways, identity_total, identity_antisymmetric, or_left, each-parts}
@@ -24,11 +22,10 @@ use Rattle.allocative_graph.proofs.Basics.{or_right, or_parts, or-false, each-im
 use Rattle.allocative_graph.proofs.Basics.{same_identity_itself, same_identity_turned}
 use Rattle.allocative_graph.proofs.Sums.{find-keys, weights-insert, SameSums, add_all-same, get-add_all, get-sums_of}
 use Rattle.allocative_graph.proofs.Sums.{below-add_all, below-sums_of, absent_below, no_entries}
-use Rattle.std.specs.FinSet.{insert}
-use Rattle.std.specs.Map.{lookup}
 use Rattle.std.proofs.lemmas.List.Elements.{All-contains_itself, All-weaker, recursion_from_All}
-use Rattle.std.proofs.lemmas.Map.Views.{lookup-from_Contains}
 use Rattle.std.proofs.lemmas.List.Sorted.{IsPermutation-refl, IsPermutation-sym}
+use Rattle.std.proofs.lemmas.{List.Folds.list_any_none, Map.Views.lookup-from_Contains}
+use Rattle.std.specs.{List.IsDistinct, List.Contains, FinSet.insert, Map.lookup}
 use Rattle.std.specs.FinSet as set
 
 abbrev pub Contents : Type 0

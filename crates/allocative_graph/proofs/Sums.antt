@@ -10,16 +10,14 @@ use Rattle.allocative_graph.proofs.Common.{IsAntisymmetric, get-entries, insert,
 use Rattle.allocative_graph.proofs.Common.{entries_sorted, put, find, is_sorted, below_all, is_one_below, below, both}
 use Rattle.allocative_graph.proofs.Common.{first, second, flat_map-append, list_any-append, tied_then, Key, key_cmp}
 use Rattle.allocative_graph.proofs.Common.{Identity, Forest, Empty, Inline, Unique, First, Again, AsInline, AsUnique}
-use Rattle.allocative_graph.proofs.Common.{AsShared, own_behind, contents, content_entries, all, IsTotalOrder}
-use Rattle.allocative_graph.proofs.Common.{Mark, nil_from_length, keys, from_entries, len-entries, graph, sizes}
-use Rattle.allocative_graph.proofs.Common.{sum_of, text, text_of_entries, is_root}
+use Rattle.allocative_graph.proofs.Common.{AsShared, own_behind, contents, content_entries, all, IsTotalOrder, Mark}
+use Rattle.allocative_graph.proofs.Common.{nil_from_length, keys, from_entries, len-entries, graph, sizes, sum_of, text}
+use Rattle.allocative_graph.proofs.Common.{text_of_entries, is_root}
 use Rattle.std.proofs.lemmas.Bool.Decides.{nat_tests}
 use Rattle.std.specs.FinMap.{empty, get-empty, FinMap, len-empty}
-use Rattle.allocative_graph.specs.Sums.{is_unique_mark, bytes_entered}
-use Rattle.allocative_graph.proofs.Basics.{path_total, path_antisymmetric, same_path, is_eq-Equal}
-use Rattle.allocative_graph.proofs.Basics.{same_path_itself}
+use Rattle.allocative_graph.proofs.Basics.{path_total, path_antisymmetric, same_path, is_eq-Equal, same_path_itself}
 pub use Rattle.allocative_graph.specs.Sums.{below_in}
-use Rattle.allocative_graph.specs.Graph.{warning_line}
+use Rattle.allocative_graph.specs.{Sums.is_unique_mark, Sums.bytes_entered, Graph.warning_line}
 
 -- ---- the maps of a bag as plain lists, on which texts compute
 abbrev pub nodes_add : List (Path × Node) → Entry → List (Path × Node)

@@ -9,16 +9,13 @@ use Rattle.allocative_graph.proofs.Common.{below_all, first, second, Key, Path, 
 use Rattle.allocative_graph.proofs.Common.{text_of_entries, joined, is_root, size_at, Lacks, sum_by-cons, Child}
 use Rattle.allocative_graph.proofs.Common.{under_rows, rows_of, rows_of_child, line_after, flat_map-append, Stack}
 use Rattle.allocative_graph.proofs.Common.{bytes_at}
-use Rattle.std.specs.Fmt.{digits, digits_onto, digit_glyph}
-use Rattle.std.proofs.lemmas.Bool.Decides.{nat_tests}
-use Rattle.std.proofs.lemmas.Grind.{common_steps}
 use Rattle.allocative_graph.proofs.Basics.{each-append, each-implies, on_test, same_path}
-use Rattle.allocative_graph.proofs.Sums.{find-below_all}
 use Rattle.allocative_graph.specs.Graph.{line}
-use Rattle.std.specs.List.{join_by}
 use Rattle.std.proofs.Math.Seq.{take-append_seam}
 pub use Rattle.allocative_graph.specs.Path.{texts}
-use Rattle.allocative_graph.proofs.Children.{rows-more}
+use Rattle.std.proofs.lemmas.{Bool.Decides.nat_tests, Grind.common_steps}
+use Rattle.std.specs.{Fmt.digits, Fmt.digits_onto, Fmt.digit_glyph, List.join_by}
+use Rattle.allocative_graph.proofs.{Sums.find-below_all, Children.rows-more}
 
 -- ---- lists parted at a byte
 -- A list with a byte in it does not lack that byte.

@@ -1,7 +1,6 @@
 -- of place_by_halving: both clauses, by what the binary search says
 use Rattle.std.proofs.Common.{rules}
-use Rattle.allocative_graph.proofs.Common.{Child, key_cmp, always_returns_same}
-use Rattle.allocative_graph.proofs.Children.{searched}
+use Rattle.allocative_graph.proofs.{Common.Child, Common.key_cmp, Common.always_returns_same, Children.searched}
 use Rattle.allocative_graph.proofs.flamegraph.place_by_halving.Goals as goal
 
 pub returns : goal.returns

@@ -1,7 +1,6 @@
 -- The child is put at the end of a list of children, all of which have smaller keys.
 use Rattle.std.proofs.Common.{ap, ◌∙◌}
-use Rattle.allocative_graph.proofs.Common.{Child, node}
-use Rattle.allocative_graph.proofs.Nodes.{pushed, node_grown, sum_grown}
+use Rattle.allocative_graph.proofs.{Common.Child, Common.node, Nodes.pushed, Nodes.node_grown, Nodes.sum_grown}
 use Rattle.allocative_graph.proofs.flamegraph.push_child.Goals as goal
 
 pub invariant_of-graph-2 : goal.invariant_of-graph-2

@@ -1,11 +1,9 @@
 -- of add_up: that the bytes of all lines exceed a word, and the step of its loop
 use Rattle.std.proofs.Common.{◌≡◌, ◌++◌, [], List, Bor, ℕ, get_or, ap, ◌∙◌, lit<, Ok, arith}
-use Rattle.std.proofs.lemmas.Iterator.Adapters.{fact_from_extend}
-use Rattle.std.proofs.lemmas.Iterator.Consumers.{YieldsList-at}
 use Rattle.allocative_graph.proofs.Common.{YieldsList-from_str_split, Line, Path, sum_of, graph_of_path, take_more}
 use Rattle.allocative_graph.specs.Read.{keys_of}
-use Rattle.allocative_graph.proofs.Text.{texts}
-use Rattle.allocative_graph.proofs.ReadBack.{lines_exceed, line_more}
+use Rattle.std.proofs.lemmas.{Iterator.Adapters.fact_from_extend, Iterator.Consumers.YieldsList-at}
+use Rattle.allocative_graph.proofs.{Text.texts, ReadBack.lines_exceed, ReadBack.line_more}
 use Rattle.allocative_graph.proofs.read.add_up.Goals as goal
 
 -- What the code reads behind the last line.

@@ -1,7 +1,6 @@
 -- of read_lines: what its loop keeps
 use Rattle.std.proofs.Common.{◌≡◌, length, map}
-use Rattle.allocative_graph.proofs.Common.{AreStacks, line_stack}
-use Rattle.allocative_graph.proofs.Text.{texts}
+use Rattle.allocative_graph.proofs.{Common.AreStacks, Common.line_stack, Text.texts}
 use Rattle.allocative_graph.proofs.read.read_lines.Given as goal
 
 -- So far the lines that came are counted, and their stacks are there.

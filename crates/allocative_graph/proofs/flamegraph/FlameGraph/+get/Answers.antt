@@ -1,10 +1,8 @@
 -- of get: found and missing
-use Rattle.std.proofs.Common.{sym, ap, subst}
-use Rattle.allocative_graph.proofs.Common.{IsBehind, nil_from_length}
-use Rattle.std.proofs.lemmas.Option.{IfSome_then}
-use Rattle.allocative_graph.proofs.Text.{texts}
 use Rattle.allocative_graph.proofs.Nodes.{behind_root, behind_child, missing_child, missing_key, none_implies}
 use Rattle.allocative_graph.proofs.Nodes.{tree_of_node}
+use Rattle.std.proofs.{Common.sym, Common.ap, Common.subst, lemmas.Option.IfSome_then}
+use Rattle.allocative_graph.proofs.{Common.IsBehind, Common.nil_from_length, Text.texts}
 use Rattle.allocative_graph.proofs.flamegraph.FlameGraph.+get.Goals as goal
 
 pub returns-in_default-clause-found : goal.returns-in_default-clause-found

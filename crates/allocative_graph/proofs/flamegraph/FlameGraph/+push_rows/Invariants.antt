@@ -1,8 +1,6 @@
 -- of push_rows: what its loop keeps
 use Rattle.std.proofs.Common.{◌≡◌, ◌++◌, map, flat_map, take}
-use Rattle.allocative_graph.proofs.Common.{row_figures}
-use Rattle.allocative_graph.proofs.Nodes.{child_figures}
-use Rattle.allocative_graph.proofs.Text.{texts}
+use Rattle.allocative_graph.proofs.{Common.row_figures, Nodes.child_figures, Text.texts}
 use Rattle.allocative_graph.proofs.flamegraph.FlameGraph.+push_rows.Given as goal
 
 abbrev pub invariant-loop-child : goal.invariant-loop-child

@@ -1,13 +1,11 @@
 -- The start of a line is cut back to its length, and the lines of each child follow those before.
 use Rattle.std.proofs.Common.{◌≡◌, ◌≤◌, ◌++◌, [], ◌∷◌, take, length, length-take, arith, ap, sym, subst, ◌∙◌}
 use Rattle.std.proofs.Common.{append_assoc, append-nil, take_all, string_bytes, flat_map, unwrap_or}
-use Rattle.std.proofs.lemmas.Bool.{OnTrue_at}
-use Rattle.std.proofs.lemmas.Str.{IsUtf8-string_bytes, IsCharBoundary-from_take}
 use Rattle.std.specs.Str.{IsUtf8}
 use Rattle.allocative_graph.proofs.Common.{entries, entries_sorted, find, get-entries, line_after, path_cmp, rows_of}
 use Rattle.allocative_graph.specs.Graph.{line}
-use Rattle.allocative_graph.proofs.Nodes.{entries_of_node}
-use Rattle.allocative_graph.proofs.Text.{child_lines, child_written, kept_of_start}
+use Rattle.std.proofs.lemmas.{Bool.OnTrue_at, Str.IsUtf8-string_bytes, Str.IsCharBoundary-from_take}
+use Rattle.allocative_graph.proofs.{Nodes.entries_of_node, Text.child_lines, Text.child_written, Text.kept_of_start}
 use Rattle.allocative_graph.proofs.flamegraph.FlameGraph.+write_lines.Goals as goal
 
 -- What is kept of the start of a line is the start before the child.

@@ -1,6 +1,5 @@
 -- of add_child: part and sum
-use Rattle.allocative_graph.proofs.Common.{Child}
-use Rattle.allocative_graph.proofs.Nodes.{added_under, sum_grown}
+use Rattle.allocative_graph.proofs.{Common.Child, Nodes.added_under, Nodes.sum_grown}
 use Rattle.allocative_graph.proofs.flamegraph.FlameGraph.add_child.Goals as goal
 
 pub returns-in_err-put_child-clause-part : goal.returns-in_err-put_child-clause-part

@@ -1,9 +1,7 @@
 -- of graph_of_path: the node whose only child has the rest of the path
 use Rattle.std.proofs.Common.{◌≡◌, ℕ, ◌∷◌, [], List, sym, ap, subst, ◌∙◌}
 use Rattle.allocative_graph.proofs.Common.{Child, IsNode, Path, node, graph_of_path, child_of_path}
-use Rattle.allocative_graph.proofs.Children.{node_of_one}
-use Rattle.allocative_graph.proofs.Text.{texts}
-use Rattle.allocative_graph.proofs.Nodes.{node_of_path}
+use Rattle.allocative_graph.proofs.{Children.node_of_one, Text.texts, Nodes.node_of_path}
 use Rattle.allocative_graph.proofs.flamegraph.at_path.+graph_of_path.Goals as goal
 
 only_child : (t : ℕ) (c : goal.In_ok-vec t) →

@@ -1,9 +1,8 @@
 -- At the end of the path the bytes are added to the node; before it, to the child with the next key.
-use Rattle.std.proofs.Common.{sym, ap, ◌∙◌, arith}
-use Rattle.std.proofs.lemmas.Result.{on_ok_weaker}
 use Rattle.allocative_graph.proofs.Common.{Child, Key, Path, sum_of, under, graph_of_path}
 use Rattle.allocative_graph.proofs.Nodes.{node_grown, sum_grown, tree-path, total-path, path_merged}
 use Rattle.allocative_graph.proofs.Text.{texts}
+use Rattle.std.proofs.{Common.sym, Common.ap, Common.◌∙◌, Common.arith, lemmas.Result.on_ok_weaker}
 use Rattle.allocative_graph.proofs.flamegraph.at_path.+walk.Goals as goal
 
 pub add_at-invariant_of-graph-2 : goal.add_at-invariant_of-graph-2

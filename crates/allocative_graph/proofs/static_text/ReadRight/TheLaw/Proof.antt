@@ -5,16 +5,12 @@ use base.Fml.{fbor}
 use base.Before.{before}
 use types.Logic.{sem, lfts, Logic}
 use types.Kit.{‵, raw, ◌⊛◌, later, ◌$◌, ◌∵◌, !, qed, move, keep, use1, use2, split, await, updating, now, done}
-use denote.Struct.Lending.{of_Lends}
 use Rattle.allocative_graph.proofs.static_text.ReadRight.TheLaw.Statement.{statement}
 use seplogic.Ra.Ura.{Ura}
-use denote.SharingLaws.{contraction}
-use denote.Slice.{elements_shared, elements_shr_laws}
-use denote.Builtin.{u8}
-use denote.Plain.{uint_row_laws}
 use mir.Syntax.{w8}
-use denote.RawPtr.{block_of, count_of, Ptr}
 use Rattle.allocative_graph.specs.Static.{static_owns}
+use denote.{Struct.Lending.of_Lends, SharingLaws.contraction, Slice.elements_shared, Slice.elements_shr_laws}
+use denote.{Builtin.u8, Plain.uint_row_laws, RawPtr.block_of, RawPtr.count_of, RawPtr.Ptr}
 use Rattle.allocative_graph.specs.contracts.static_text.ReadRight as C
 
 -- What a `ReadRight` owns can be copied.

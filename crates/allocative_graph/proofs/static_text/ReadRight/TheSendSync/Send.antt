@@ -1,8 +1,7 @@
 -- of ReadRight: that it is Send
 use denote.Param.Send.{IsSend, owning_send, array_sync, sendable}
-use denote.Builtin.{u8}
-use denote.RawPtr.{block_of, count_of}
 use Rattle.std.proofs.Common.{[]}
+use denote.{Builtin.u8, RawPtr.block_of, RawPtr.count_of}
 use Rattle.allocative_graph.specs.contracts.static_text.ReadRight as C
 
 -- A `ReadRight` can be sent to another thread, since what it owns names no thread.

@@ -1,9 +1,7 @@
 -- of ReadRight: that it is Sync
 use denote.Param.Send.{IsSync, struct_sync, array_sync, sendable}
-use denote.Struct.Owning.{shape}
-use denote.Builtin.{u8}
-use denote.RawPtr.{block_of, count_of}
 use Rattle.std.proofs.Common.{[]}
+use denote.{Struct.Owning.shape, Builtin.u8, RawPtr.block_of, RawPtr.count_of}
 use Rattle.allocative_graph.specs.contracts.static_text.ReadRight as C
 
 -- A `ReadRight` can be shared between threads, since what it owns names no thread.

@@ -6,24 +6,17 @@ use contract.Running.{tables}
 use types.Kit.{prop, ‵, raw, ◌⊛◌, ◌$◌, ◌∵◌, !, qed, move, drop, keep, split, fsplit, fjoin, feq_i, feq_l, flt_l, regoal}
 use types.Kit.{suffices, done, fpack}
 use denote.RattleType.{RattleType, owns, Valss}
-use denote.Signature.{plain, types_at}
-use denote.Triple.Entry.{alive}
 use denote.Triple.Walked.{walk_of, Stays, stay_dropped, Goes-dropped, ends_at, says}
 use Rattle.std.proofs.raw_atomic.Walks.{proved_at}
-use denote.Exit.{yes}
-use denote.RawPtr.{block_ptr}
-use denote.Slice.{slice_val}
-use denote.Opens.{unhide}
-use denote.Steps.{nothing}
 use types.Part.{agg, sub, whole}
 use types.Run.{no_more, enter, returns, fld, stop, addr, from, hop, and_then}
 use types.ByLocal.{sets, alloc_all, pass_all, free_all, look_at, look_in_at, get}
-use denote.Builtin.{u8, SliceRefOf, RawPtr}
 use Rattle.allocative_graph.specs.contracts.static_text.ReadRight.forever.{ended, clauses}
 use Rattle.allocative_graph.specs.contracts.static_text.ReadRight.forever.Key.{name as #self}
 use Rattle.allocative_graph.proofs.static_text.ReadRight.forever.Statement.{statement}
 use Rattle.allocative_graph.proofs.static_text.ReadRight.forever.Code.{function, unfolded}
-use denote.Struct.Struct.{within}
+use denote.{Signature.plain, Signature.types_at, Triple.Entry.alive, Exit.yes, RawPtr.block_ptr, Slice.slice_val}
+use denote.{Opens.unhide, Steps.nothing, Builtin.u8, Builtin.SliceRefOf, Builtin.RawPtr, Struct.Struct.within}
 use Rattle.allocative_graph.specs.contracts.static_text.ReadRight as ReadRight
 
 abbrev stayed : Stays ended.signature.params ended.kept

@@ -5,26 +5,19 @@ use prog.Wp.{WpFn}
 use contract.Running.{tables}
 use types.Kit.{prop, ‵, raw, ◌⊛◌, ◌$◌, ◌∵◌, !, qed, move, drop, split, fsplit, fjoin, feq_i, feq_l, flt_l, regoal}
 use types.Kit.{suffices, done, at_ret, flt_i}
-use denote.RattleType.{owns}
-use denote.Signature.{plain, types_at}
-use denote.Triple.Entry.{alive}
 use denote.Triple.Walked.{walk_of, Stays, stay_dropped, Goes-dropped, ends_at, says}
 use Rattle.std.proofs.raw_atomic.Walks.{proved_at}
-use denote.Exit.{yes}
 use denote.RawPtr.{block_ptr, block_of, count_of, ptr_val}
-use denote.Slice.{slice_val}
-use denote.Opens.{unhide, hide}
-use denote.Steps.{nothing, heard}
-use types.Part.{agg}
-use types.Run.{no_more, enter, returns, and_then, of_opd, first, blocks, exec}
 use types.ByLocal.{sets, alloc_all, pass_all, free_all, look_at, get, sets_last, env}
-use denote.Builtin.{RawPtr, RefOf, usize}
 use mir.Syntax.{seq, assign, place, rv_opd, copy, return}
 use contract.Monad.{fact}
 use Rattle.allocative_graph.specs.contracts.static_text.ReadRight.read.{ended, clauses}
 use Rattle.allocative_graph.specs.contracts.static_text.ReadRight.read.Key.{name as #self}
 use Rattle.allocative_graph.proofs.static_text.ReadRight.read.Statement.{statement}
 use Rattle.allocative_graph.proofs.static_text.ReadRight.read.Code.{function, unfolded}
+use denote.{RattleType.owns, Signature.plain, Signature.types_at, Triple.Entry.alive, Exit.yes, Slice.slice_val}
+use denote.{Opens.unhide, Opens.hide, Steps.nothing, Steps.heard, Builtin.RawPtr, Builtin.RefOf, Builtin.usize}
+use types.{Part.agg, Run.no_more, Run.enter, Run.returns, Run.and_then, Run.of_opd, Run.first, Run.blocks, Run.exec}
 use Rattle.allocative_graph.specs.contracts.static_text.ReadRight as ReadRight
 
 abbrev stayed : Stays ended.signature.params ended.kept
