@@ -194,15 +194,6 @@ pub get-under : (n : ℕ) (cs : List Child) (k : Key) (p : Path) → InOrder cs 
     get (node n cs) (k ∷ p) ≡ size_under cs k p
 get-under n cs k p h = get-from_sorted path_cmp (([], n) ∷ rows_of cs) (k ∷ p) (node_sorted n cs h) ∙ find-rows cs k p h
 
--- What holds of the sizes of three nodes and of their children holds of what is at each path.
-pub node_each : (P : Option ℕ → Option ℕ → Option ℕ → Type 0) (l m n : ℕ) (cs ds es : List Child) → InOrder cs →
-    InOrder ds → InOrder es → P (Some l) (Some m) (Some n)
-    → ((k : Key) (p : Path) → P (size_under cs k p) (size_under ds k p) (size_under es k p)) → (q : Path) →
-    P (get (node l cs) q) (get (node m ds) q) (get (node n es) q)
-node_each P l m n cs ds es a b c own each [] = rw (get-root l cs a, get-root m ds b, get-root n es c) own
-node_each P l m n cs ds es a b c own each (k ∷ p) =
-    rw (get-under l cs k p a, get-under m ds k p b, get-under n es k p c) (each k p)
-
 -- One child alone is in order.
 pub one_sorted : (c : Child) → InOrder (c ∷ [])
 unfolding IsStrictlySortedBy
@@ -244,7 +235,8 @@ unchanged : {all : Bool} (cs ds : List Child) → AreChildren cs → (all ≡ tr
 unchanged {all = all} cs ds h none = record {
   children = h;
   above = λ k p q. p;
-  adds = λ k p. let missing : all ≡ true → None ≡ size_under ds k p = λ w. ap (λ (l : List Child). size_under l k p) (none w) in
+  adds = λ k p.
+      let missing : all ≡ true → None ≡ size_under ds k p = λ w. ap (λ (l : List Child). size_under l k p) (none w) in
       grind (arith, missing);
   at_most = omega arith;
   fewer = omega arith;

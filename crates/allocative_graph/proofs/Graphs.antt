@@ -179,8 +179,7 @@ module _ {X : Type 0} (made : X → Graph) where
   -- The total of graphs that are added up is the sum of their totals.
   pub total-added_up : (g : Graph) (xs : List X) → total (added_up g xs) ≡ total g + sum_by (λ x. total (made x)) xs
   total-added_up g [] = omega arith
-  total-added_up g (x ∷ xs) = omega
-      (arith, total-added_up (sum_of g (made x)) xs, total-sum_of g (made x), sum_by-cons (λ x. total (made x)) x xs)
+  total-added_up g (x ∷ xs) = omega (arith, total-added_up (sum_of g (made x)) xs, total-sum_of, sum_by-cons {X = X})
 
   -- The order of the items does not matter.
   pub added_up-permuted : (g : Graph) (xs ys : List X) → IsPermutation xs ys → added_up g ys ≡ added_up g xs

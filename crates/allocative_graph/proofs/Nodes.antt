@@ -13,7 +13,7 @@ use Rattle.allocative_graph.proofs.Common.{figures_behind, under_rows, map-appen
 use Rattle.std.specs.List.Sorted.{IsStrictlySortedBy}
 use Rattle.allocative_graph.specs.Rows.{ComesLast}
 use Rattle.allocative_graph.proofs.Children.{put_at_gap, merged_same, put_at_found, with_graph, get-root, get-under}
-use Rattle.allocative_graph.proofs.Children.{node_each, node_of_one, one_child, total-node, no_children, insert_root}
+use Rattle.allocative_graph.proofs.Children.{node_of_one, one_child, total-node, no_children, insert_root}
 use Rattle.allocative_graph.proofs.Children.{node_nil, rows-cons, Lacks, lacks_equal, size_under-lacks, read-lacks}
 use Rattle.allocative_graph.proofs.Children.{read-found, other_than}
 use Rattle.std.proofs.lemmas.List.Folds.{fold_stays, length-flat_map-take}
@@ -182,10 +182,16 @@ pub added_node : (all : Bool) (m n : ℕ) (cs ds es : List Child) → AreChildre
     Merged all cs ds es → Added all (node m cs) (node n ds) (node (m + n) es)
 added_node all m n cs ds es a b h = record {
   tree = node_tree (m + n) es h.children;
-  adds = node_each (Adds all) m n (m + n) cs ds es a.sorted b.sorted h.children.sorted (grind arith) h.adds;
+  adds = each;
   at_most = omega
       (arith, h.at_most, total-node m cs a.sorted, total-node n ds b.sorted, total-node (m + n) es h.children.sorted);
 }
+  where
+    each : (p : Path) → Adds all (get (node m cs) p) (get (node n ds) p) (get (node (m + n) es) p)
+    each [] = rw (get-root m cs a.sorted, get-root n ds b.sorted, get-root (m + n) es h.children.sorted) (grind arith)
+    each (k ∷ p) =
+        rw (get-under m cs k p a.sorted, get-under n ds k p b.sorted, get-under (m + n) es k p h.children.sorted)
+        (h.adds k p)
 
 -- If all was added, the result is the sum.
 pub added_sum : {all : Bool} {g h r : Graph} → Added all g h r → all ≡ true → r ≡ sum_of g h
@@ -328,7 +334,8 @@ module _ {g h : Graph} {m n s t : ℕ} {cs ds : List Child} (mine : node m cs �
   pub child_of_one : {c : Child} → c ∷ [] ≡ ds → total g + total h < 2 ^ 64 →
       (len c.graph < len h) × IsTree c.graph × (s + total c.graph < 2 ^ 64)
   child_of_one {c = c} one fits = (
-    omega (arith, len_of_node theirs b, ap (λ l. length (rows_of l)) one, length-append (rows_of_child c) [], len-child),
+    omega
+        (arith, len_of_node theirs b, ap (λ l. length (rows_of l)) one, length-append (rows_of_child c) [], len-child),
     (subst AreChildren (sym one) b.children).trees.0,
     omega (arith, total_of_both, ap total_of one, a.size, fits),
   )

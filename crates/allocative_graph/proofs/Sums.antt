@@ -234,8 +234,7 @@ bytes_entered-empty = ap (sum_by (λ x. x.1.bytes)) entries-empty
 -- Adding a bag adds the bytes that it has one key below p to those that the sums have there.
 pub below-add_all : (s : Sums) (b : Bag) (p : Path) → below (add_all s b) p ≡ below s p + below_in b p
 below-add_all s [] p = omega arith
-below-add_all s (e ∷ b) p = omega
-    (arith, below-add_all (add s e) b p, below-add s e p, sum_by-cons (λ e. cond (is_one_below p e.path) e.size 0) e b)
+below-add_all s (e ∷ b) p = omega (arith, below-add_all (add s e) b p, below-add, sum_by-cons {X = Entry})
 
 -- The sums of a bag have the same bytes one key below each path as the bag itself.
 pub below-sums_of : (b : Bag) (p : Path) → below (sums_of b) p ≡ below_in b p
@@ -279,8 +278,10 @@ closed_none r = record { has = λ p h. absurd (true≢false (sym h)) }
 -- The own entries of a forest with the path r before theirs are closed at r.
 closed_behind : (r : Path) (f : Forest) → Closed r (own_behind r f)
 closed_behind r Empty = closed_none r
-closed_behind r (Inline k n f after) = closed_entry r k n AsInline (closed_behind (r ++ k ∷ []) f) (closed_behind r after)
-closed_behind r (Unique k n f after) = closed_entry r k n AsUnique (closed_behind (r ++ k ∷ []) f) (closed_behind r after)
+closed_behind r (Inline k n f after) =
+    closed_entry r k n AsInline (closed_behind (r ++ k ∷ []) f) (closed_behind r after)
+closed_behind r (Unique k n f after) =
+    closed_entry r k n AsUnique (closed_behind (r ++ k ∷ []) f) (closed_behind r after)
 closed_behind r (First k n j f after) = closed_entry r k n (AsShared j) (closed_none _) (closed_behind r after)
 closed_behind r (Again k n j after) = closed_entry r k n (AsShared j) (closed_none _) (closed_behind r after)
 

@@ -15,5 +15,6 @@ invariant_of-result-2 t c = subst (λ (cs : List Child). IsNode cs c.args.size 0
 
 pub returns : goal.returns
 returns t c =
-    ap (node 0) (only_child t c) ∙ node_of_one (child_of_path c.in-Some.key.now.now (texts c.in-Some.rest.now) c.args.size)
+    ap (node 0) (only_child t c)
+    ∙ node_of_one (child_of_path c.in-Some.key.now.now (texts c.in-Some.rest.now) c.args.size)
     ∙ ap (λ (p : Path). graph_of_path p c.args.size) (sym (ap texts c.in-Some.ensures.cases.0))
