@@ -1,7 +1,7 @@
 -- The parts of a flame graph's collector after each step: an entry, a visitor that is entered or left, an identity
 -- that is met.
 use Rattle.std.proofs.Common.{◌≡◌, ℕ, pred, ◌+◌, ◌^◌, ◌<◌, Bool, true, false, cond, not, ◌||◌, ◌&&◌, ◌==◌, List, []}
-use Rattle.std.proofs.Common.{◌∷◌, ◌++◌, map, reverse, length, refl, sym, ap, ◌∙◌, arith, length-append, ◌↔◌}
+use Rattle.std.proofs.Common.{rules, ◌∷◌, ◌++◌, map, reverse, length, refl, sym, ap, ◌∙◌, arith, length-append, ◌↔◌}
 use Rattle.allocative_collectors.proofs.Common.{contains, Key, Path, Live, go, leave_live, enter_live, Listed, path_at}
 use Rattle.allocative_collectors.proofs.Common.{map_of, live, IsPlaced, map-append, length-map, nil_from_length}
 use Rattle.allocative_collectors.proofs.Common.{nat_tests, list_any, IsAbove, reverse-append, length-reverse}
@@ -54,10 +54,10 @@ outside_push [] k = refl
 outside_push (x ∷ p) k = ap (λ (l : List Path). map (λ (q : Path). x ∷ q) l ++ [] ∷ []) (outside_push p k)
 
 module _ (t : Listed) (met : List Identity) where
-  module _ (outer inner : ℕ) (before after : List ℕ) (rooted : Bool)
-      (stack : back_at t inner after rooted ≡ path_at t outer ∷ back_at t outer before rooted) where
+  module _ (outer inner : ℕ) (before after : List ℕ) (rooted now : Bool)
+      (stack : back_at t inner after now ≡ path_at t outer ∷ back_at t outer before rooted) where
     -- A step inwards: one more visitor, at the inner node.
-    pub went : live t met inner after rooted ≡ go (path_at t inner) (live t met outer before rooted)
+    pub went : live t met inner after now ≡ go (path_at t inner) (live t met outer before rooted)
     went = λ i. record {
       sums = map_of t;
       met = from_list met;
@@ -67,7 +67,7 @@ module _ (t : Listed) (met : List Identity) where
     }
 
     -- A step back: one visitor less.
-    pub came_back : live t met outer before rooted ≡ leave_live (live t met inner after rooted)
+    pub came_back : live t met outer before rooted ≡ leave_live (live t met inner after now)
     came_back = λ i. record {
       sums = map_of t;
       met = from_list met;
@@ -88,21 +88,15 @@ module _ (t : Listed) (met : List Identity) where
   pub came_up : (places : List ℕ) (rooted : Bool) {inner outer : ℕ} → IsAbove t inner outer →
       live t met outer places rooted ≡ leave_live (live t met inner places rooted)
   came_up places rooted {inner} {outer} above =
-      came_back outer inner places places rooted (one_up outer inner places rooted above.key above.path)
+      came_back outer inner places places rooted rooted (one_up outer inner places rooted above.key above.path)
 
   -- A root visitor at the root is where the collector began.
   pub at_root : (current : ℕ) → path_at t current ≡ [] →
       live t met current [] true ≡ go [] (live t met current [] false)
   at_root current root =
-      let stack : back_at t current [] true ≡ path_at t current ∷ back_at t current [] false =
-      (λ i. outside (root i) ++ [] ∷ []) ∙ (λ i. sym root i ∷ outside (sym root i) ++ []) in
-      λ i. record {
-        sums = map_of t;
-        met = from_list met;
-        here = root i;
-        back = stack i;
-        open_visitors = length (stack i);
-      }
+      went current current [] [] false true
+      ((λ i. outside (root i) ++ [] ∷ []) ∙ (λ i. sym root i ∷ outside (sym root i) ++ []))
+      ∙ ap (λ (q : Path). go q (live t met current [] false)) root
 
 -- a content that was met for the first time
 pub gone_in : (t : Listed) (met now : List Identity) (current : ℕ) (places : List ℕ) (rooted : Bool) (i : Identity) →
@@ -111,7 +105,7 @@ pub gone_in : (t : Listed) (met now : List Identity) (current : ℕ) (places : L
     live t now 0 (places ++ current ∷ []) rooted
     ≡ go [] (record (live t met current places rooted) { met = insert (from_list met) i })
 gone_in t met now current places rooted i root one_new =
-    went t now current 0 places (places ++ current ∷ []) rooted (rw (
+    went t now current 0 places (places ++ current ∷ []) rooted rooted (rw (
       root,
       map-append (path_at t) places (current ∷ []),
       reverse-append (map (path_at t) places) (path_at t current ∷ []),
@@ -174,13 +168,11 @@ module _ {t new : Listed} {current : ℕ} {places : List ℕ} {n : ℕ} (ok : Is
 
   -- the current place may stay or be that of the entry
   pub placed_added : (now : ℕ) → now < length new → IsPlaced new now places more
-  placed_added now within = record {
-    here = within;
-    back = λ j h. let old = ok.back j h in omega (arith, length_entered entered.is);
-    entered_is = omega (arith, ok.entered_is, entered.count, bytes_more entered.is ok.rooted);
-    rooted = omega (arith, length_entered entered.is, ok.rooted);
-    root_path = path_entered entered.is 0 ok.rooted ∙ ok.root_path;
-  }
+  placed_added now within =
+      let longer = length_entered entered.is in
+      let more = bytes_more entered.is ok.rooted in
+      let root = path_entered entered.is 0 ok.rooted in
+      search (rules, arith)
 
   module _ (met : List Identity) (rooted : Bool) where
     -- The entry is added to the sums, and nothing else changes.
@@ -207,7 +199,7 @@ module _ {t new : Listed} {current : ℕ} {places : List ℕ} {n : ℕ} (ok : Is
       -- With a visitor at the entry, the collector is as after entering it.
       pub gone_down : live new met node places rooted ≡ enter_live u k size v
       gone_down =
-          went new met current node places places rooted
+          went new met current node places places rooted rooted
           (one_up new met current node places rooted k
           (entered.is.path ∙ ap (λ (q : Path). q ++ k ∷ []) (sym (path_entered entered.is current ok.here))))
           ∙ (λ i. go (entered.is.path i) (live_added i))

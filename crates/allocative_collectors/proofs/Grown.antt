@@ -1,6 +1,6 @@
 -- An arena with one more node, which has no entry yet, and with a node that is written.
 use Rattle.std.proofs.Common.{◌≡◌, ◌≢◌, ℕ, ◌+◌, ◌-◌, ◌<◌, ◌≤◌, List, [], ◌∷◌, ◌++◌, length, get_or, set, refl, sym, ap}
-use Rattle.std.proofs.Common.{subst, ◌∙◌, arith, inl, inr, get_or-set_same, get_or-set_other, length-set}
+use Rattle.std.proofs.Common.{rules, subst, ◌∙◌, arith, inl, inr, get_or-set_same, get_or-set_other, length-set}
 use Rattle.allocative_collectors.proofs.Common.{key_at, Less, ordering_reverse, Key, key_cmp, Node, leaf, no_node, at}
 use Rattle.allocative_collectors.proofs.Common.{children_at, keys_of, keys_at, key_in, parent_at, KeysRise, IsChild}
 use Rattle.allocative_collectors.proofs.Common.{IsArena, IsKeyGap, bytes_at, get_or_append_left, get_or_push}
@@ -87,17 +87,12 @@ module _ (ns : List Node) {cs : List (List ℕ)} (ok : IsArena ns cs) (p : ℕ) 
   ]
 
   child_before : (q i : ℕ) → IsChild ns q i → IsChild new q i
-  child_before q i old = record {
-    not_root = old.not_root;
-    in_range = omega (arith, length_grown, old.in_range);
-    parent = parent_before i old.in_range ∙ old.parent;
-  }
+  child_before q i old = let n = length_grown in let same = parent_before i old.in_range in search (rules, arith)
 
   stood : (q i : ℕ) → i ≢ length ns → IsChild new q i → Contains (children_at cs q) i
   stood q i ne c =
       let inside : i < length ns = omega (arith, length_grown, c.in_range) in
-      ok.listed q i
-      (record { not_root = c.not_root; in_range = inside; parent = sym (parent_before i inside) ∙ c.parent })
+      let same = parent_before i inside in ok.listed q i (search rules)
 
   listed : (q i : ℕ) → IsChild new q i → Contains (children_at lists q) i
   listed q i = by_parent (λ x xs. IsChild new x i → Contains xs i)
@@ -129,11 +124,8 @@ module _ (ns : List Node) {cs : List (List ℕ)} (ok : IsArena ns cs) (p : ℕ) 
     children = by_parent (λ q. All (IsChild new q))
         (let xs = children_at cs p in
         let old = All-weaker (IsChild ns p) (IsChild new p) (child_before p) xs (ok.children p) in
-        let one : IsChild new p (length ns) = record {
-          not_root = ok.rooted;
-          in_range = omega (arith, length_grown);
-          parent = ap (λ (n : Node). n.parent) at_leaf;
-        } in
+        let parent = ap (λ (n : Node). n.parent) at_leaf in
+        let one : IsChild new p (length ns) = let n = length_grown in search (rules, arith, ok.rooted) in
         All-permutation (IsChild new p) (length ns ∷ xs) _ (IsPermutation-insert xs g (length ns))
         (All-cons (IsChild new p) (length ns) xs one old))
         (λ q ne. All-weaker (IsChild ns q) (IsChild new q) (child_before q) (children_at cs q) (ok.children q));
@@ -167,18 +159,10 @@ module _ (ns : List Node) {cs : List (List ℕ)} (ok : IsArena ns cs) (i : ℕ) 
     root_parent = parent_kept 0 ∙ ok.root_parent;
     parents = λ j pj hj. rw (parent_kept j) (ok.parents j pj (omega (arith, length_set)));
     lists = omega (arith, length_set, ok.lists);
-    listed = λ p j c. ok.listed p j
-        (record {
-          not_root = c.not_root;
-          in_range = omega (arith, length_set, c.in_range);
-          parent = sym (parent_kept j) ∙ c.parent;
-        });
+    listed = λ p j c. ok.listed p j (let n = length_set in let same = parent_kept j in search (rules, arith));
     children = λ p. All-weaker (IsChild ns p) (IsChild (set ns i m) p)
-        (λ j old. record {
-          not_root = old.not_root;
-          in_range = omega (arith, length_set, old.in_range);
-          parent = parent_kept j ∙ old.parent;
-        }) (children_at cs p) (ok.children p);
+        (λ j old. let n = length_set in let same = parent_kept j in search (rules, arith)) (children_at cs p)
+        (ok.children p);
     rise = λ p. subst KeysRise (sym (map_same (key_at (set ns i m)) (key_at ns) (children_at cs p)
         (λ j h. touched (λ n. n.key) ns i m key _))) (ok.rise p);
   }

@@ -1,6 +1,6 @@
 -- What a read of a node says of the arena and the sums, and what a search among its children says.
 use Rattle.std.proofs.Common.{◌≡◌, ◌≢◌, ℕ, zero, suc, ◌<◌, false, List, [], ◌∷◌, ◌++◌, length, sym, ap, subst, ◌∙◌}
-use Rattle.std.proofs.Common.{arith, refl, append_assoc, map, Bool, not, get_or, sum_by, cond, ltb, sum, lt-ltb, ◌+◌}
+use Rattle.std.proofs.Common.{rules, arith, refl, append_assoc, map, Bool, not, get_or, sum_by, cond, ltb, sum, lt-ltb, ◌+◌}
 use Rattle.std.proofs.Common.{◌≤◌, ◌||◌, set, length-set, get_or-set_same, get_or-set_other, subst₂}
 use Rattle.allocative_collectors.proofs.Common.{nat_tests, common_steps, Key, Path, path_at, IsEntered, Listed}
 use Rattle.allocative_collectors.proofs.Common.{root_sum, Node, put, leaf, sums, keys_at, key_in, key_at, parent_at}
@@ -54,14 +54,8 @@ module _ (ns : List Node) {cs : List (List ℕ)} (ok : IsArena ns cs) (p : ℕ) 
   child_of zero hi path = absurd (not_nil _ _ _ (sym path ∙ root_at ns))
   child_of (suc i) hi path =
       let parts = same_from_push _ _ _ _ (sym (step ns ok (suc i) (omega arith) hi) ∙ path) in
-      let before = ok.parents (suc i) (omega arith) hi in (
-        record {
-          not_root = omega arith;
-          in_range = hi;
-          parent = distinct ns ok (parent_at ns (suc i)) p (omega arith) hp parts.0;
-        },
-        parts.1,
-      )
+      let before = ok.parents (suc i) (omega arith) hi in
+      let parent = distinct ns ok (parent_at ns (suc i)) p (omega arith) hp parts.0 in (search (rules, arith), parts.1)
 
   -- a child of p has the key if a path begins with p's and the key
   pub on_way : (n i : ℕ) → i < n → i < length ns → (q : Path) → path_at (sums ns) i ≡ path_at (sums ns) p ++ k ∷ q →
@@ -179,11 +173,9 @@ module _ (ns : List Node) {cs : List (List ℕ)} (ok : IsArena ns cs) (i : ℕ) 
       (ap (is_one_below (path_at (sums ns) i)) (root_at ns) ∙ not_below_root (path_at (sums ns) i))
   part_other (suc j) h not =
       part_is (suc j) (omega arith) h
-      ∙ cond-false _ _ _ (same_path-apart _ _ (λ s. not (record {
-        not_root = omega arith;
-        in_range = h;
-        parent = distinct ns ok _ i (omega (arith, ok.parents (suc j) (omega arith) h)) hi (sym s);
-      })))
+      ∙ cond-false _ _ _ (same_path-apart _ _ (λ s.
+      let parent = distinct ns ok _ i (omega (arith, ok.parents (suc j) (omega arith) h)) hi (sym s) in
+      not (search (rules, arith))))
 
   apart : Apart (children_at cs i)
   apart a b lt h e =
@@ -227,11 +219,7 @@ in_nodes items i view h = let same = ap length view in omega (arith, length_sums
 
 -- Nodes and lists that are an arena are a tree.
 pub tree_of : (items : List Node) (lists : List Children) → IsArena items (map numbers lists) → IsTree items lists
-tree_of items lists ok = record {
-  arena = ok;
-  size = length_sums items;
-  lists = omega (arith, ok.lists, length-map lists numbers);
-}
+tree_of items lists ok = let n = length-map lists numbers in let m = ok.lists in search (rules, arith, length_sums)
 
 -- If a list is replaced by one with the same numbers, the nodes are still a tree.
 pub same_lists : {items : List Node} {lists : List Children} → IsTree items lists → (i : ℕ) (c d : Children) →
