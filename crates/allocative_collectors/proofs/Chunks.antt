@@ -109,13 +109,10 @@ module _ (cs : List Chunk) (i : ℕ) (e : Chunk) (h : i < length cs) {xs : List 
 
     -- The numbers before the next chunk are those before chunk i and its own.
     pub before_more : before cs (i + 1) ≡ before cs i + length xs
-    before_more = omega (
-      arith,
-      length-flat_map numbers_in (take (i + 1) cs),
-      length-flat_map numbers_in (take i cs),
-      sum_by_more (λ c. length (numbers_in c)) cs i e h,
-      ap length is,
-    )
+    before_more =
+        let now = length-flat_map numbers_in (take (i + 1) cs) in
+        let old = length-flat_map numbers_in (take i cs) in
+        let one = ap length is in omega (arith, sum_by_more (λ c. length (numbers_in c)) cs i e h)
 
     -- number j of the chunk is one of all
     pub number_read : (p j n : ℕ) → p ≡ before cs i + j → slice_get xs j ≡ Some n → slice_get (flat cs) p ≡ Some n

@@ -1,6 +1,6 @@
 -- The parts of a flame graph's collector after each step: an entry, a visitor that is entered or left, an identity
 -- that is met.
-use Rattle.std.proofs.Common.{◌≡◌, ℕ, pred, ◌+◌, ◌^◌, ◌<◌, Bool, true, false, cond, not, ◌||◌, ◌&&◌, ◌==◌, List, []}
+use Rattle.std.proofs.Common.{◌≡◌, ℕ, ◌+◌, ◌^◌, ◌<◌, Bool, true, false, cond, not, ◌||◌, ◌&&◌, ◌==◌, List, []}
 use Rattle.std.proofs.Common.{rules, ◌∷◌, ◌++◌, map, reverse, length, refl, sym, ap, ◌∙◌, arith, length-append, ◌↔◌}
 use Rattle.allocative_collectors.proofs.Common.{contains, Key, Path, Live, go, leave_live, enter_live, Listed, path_at}
 use Rattle.allocative_collectors.proofs.Common.{map_of, live, IsPlaced, map-append, length-map, nil_from_length}
@@ -10,7 +10,6 @@ use Rattle.allocative_graph.proofs.Sums.{bytes_entered-empty}
 use Rattle.allocative_graph.specs.Identity.{Identity, identity_cmp, is_same_identity}
 use Rattle.allocative_graph.specs.Forest.{Entry}
 use Rattle.allocative_graph.specs.Sums as bag
-use Rattle.allocative_graph.specs.Collector.{last_of, without_last}
 use Rattle.allocative_graph.proofs.Basics.{identity_total, identity_antisymmetric, same_identity_turned}
 use Rattle.allocative_collectors.specs.Places.{to_root, outside, back_from, back_at, AddedAt}
 use Rattle.allocative_collectors.proofs.Entries.{bytes_more, length_entered, path_entered, map_of-entered, mark_of}
@@ -54,49 +53,22 @@ outside_push [] k = refl
 outside_push (x ∷ p) k = ap (λ (l : List Path). map (λ (q : Path). x ∷ q) l ++ [] ∷ []) (outside_push p k)
 
 module _ (t : Listed) (met : List Identity) where
-  module _ (outer inner : ℕ) (before after : List ℕ) (rooted now : Bool)
-      (stack : back_at t inner after now ≡ path_at t outer ∷ back_at t outer before rooted) where
-    -- A step inwards: one more visitor, at the inner node.
-    pub went : live t met inner after now ≡ go (path_at t inner) (live t met outer before rooted)
-    went = λ i. record {
-      sums = map_of t;
-      met = from_list met;
-      here = path_at t inner;
-      back = stack i;
-      open_visitors = length (stack i);
-    }
-
-    -- A step back: one visitor less.
-    pub came_back : live t met outer before rooted ≡ leave_live (live t met inner after now)
-    came_back = λ i. record {
-      sums = map_of t;
-      met = from_list met;
-      here = last_of (sym stack i);
-      back = without_last (sym stack i);
-      open_visitors = pred (length (sym stack i));
-    }
-
   -- a node and the one above it
   one_up : (outer inner : ℕ) (places : List ℕ) (rooted : Bool) (k : Key) →
       path_at t inner ≡ path_at t outer ++ k ∷ [] →
       back_at t inner places rooted ≡ path_at t outer ∷ back_at t outer places rooted
-  one_up outer inner places rooted k path =
-      let rest = back_from (reverse (map (path_at t) places)) (to_root rooted) in
-      ap (λ (q : Path). outside q ++ rest) path ∙ ap (λ (l : List Path). l ++ rest) (outside_push (path_at t outer) k)
+  one_up outer inner places rooted k path = rw (path, outside_push (path_at t outer) k) refl
 
   -- back to the node above
   pub came_up : (places : List ℕ) (rooted : Bool) {inner outer : ℕ} → IsAbove t inner outer →
       live t met outer places rooted ≡ leave_live (live t met inner places rooted)
   came_up places rooted {inner} {outer} above =
-      came_back outer inner places places rooted rooted (one_up outer inner places rooted above.key above.path)
+      rw (one_up outer inner places rooted above.key above.path) refl
 
   -- A root visitor at the root is where the collector began.
   pub at_root : (current : ℕ) → path_at t current ≡ [] →
       live t met current [] true ≡ go [] (live t met current [] false)
-  at_root current root =
-      went current current [] [] false true
-      ((λ i. outside (root i) ++ [] ∷ []) ∙ (λ i. sym root i ∷ outside (sym root i) ++ []))
-      ∙ ap (λ (q : Path). go q (live t met current [] false)) root
+  at_root current root = rw root refl
 
 -- a content that was met for the first time
 pub gone_in : (t : Listed) (met now : List Identity) (current : ℕ) (places : List ℕ) (rooted : Bool) (i : Identity) →
@@ -105,12 +77,8 @@ pub gone_in : (t : Listed) (met now : List Identity) (current : ℕ) (places : L
     live t now 0 (places ++ current ∷ []) rooted
     ≡ go [] (record (live t met current places rooted) { met = insert (from_list met) i })
 gone_in t met now current places rooted i root one_new =
-    went t now current 0 places (places ++ current ∷ []) rooted rooted (rw (
-      root,
-      map-append (path_at t) places (current ∷ []),
-      reverse-append (map (path_at t) places) (path_at t current ∷ []),
-    ) refl)
-    ∙ (λ j. go (root j) (record (live t met current places rooted) { met = one_new j }))
+    let turned = reverse-append (map (path_at t) places) (path_at t current ∷ []) in
+    rw (root, one_new, map-append (path_at t) places (current ∷ []), turned) refl
 
 -- ---- no visitor is open
 -- If there is no path to go back to, the current one is the root, and no content and no root visitor is open.
@@ -119,12 +87,9 @@ none_back : (p : Path) (ps : List Path) (rooted : Bool) → length (outside p ++
 none_back [] [] true e = absurd (omega arith)
 none_back [] [] false e = (refl, refl, refl)
 none_back [] (p ∷ ps) rooted e = absurd (omega arith)
-none_back (k ∷ p) ps rooted e = absurd (omega (
-  arith,
-  e,
-  length-append (outside (k ∷ p)) (back_from ps (to_root rooted)),
-  length-append (map (λ (q : Path). k ∷ q) (outside p)) ([] ∷ []),
-))
+none_back (k ∷ p) ps rooted e =
+    let all = length-append (outside (k ∷ p)) (back_from ps (to_root rooted)) in
+    absurd (omega (arith, e, length-append (map (λ (q : Path). k ∷ q) (outside p)) ([] ∷ [])))
 
 -- the current place is the root, and no content and no root visitor is open
 pub record IsOut (t : Listed) (current : ℕ) (places : List ℕ) (rooted : Bool) : Type 0 where
@@ -145,9 +110,7 @@ closed_is t met current places rooted view =
                 (omega (arith, out.1, length-reverse (map (path_at t) places), length-map places (path_at t)));
             no_visitor = out.2;
           }),
-      (λ o. sym visitors
-          ∙ (λ j. length
-          (outside (o.root j) ++ back_from (reverse (map (path_at t) (o.no_place j))) (to_root (o.no_visitor j))))),
+      (λ o. sym visitors ∙ rw (o.root, o.no_place, o.no_visitor) refl),
     )
 
 -- ---- a whole step
@@ -178,18 +141,14 @@ module _ {t new : Listed} {current : ℕ} {places : List ℕ} {n : ℕ} (ok : Is
     -- The entry is added to the sums, and nothing else changes.
     pub live_added : live new met current places rooted
         ≡ record (live t met current places rooted) { sums = bag.add (map_of t) one }
-    live_added = λ i. record {
-      sums = map_of-entered entered.is ok.rooted i;
-      met = from_list met;
-      here = path_entered entered.is current ok.here i;
-      back = back i;
-      open_visitors = length (back i);
-    }
+    live_added = cc (map_of-entered entered.is ok.rooted, path_entered entered.is current ok.here, back)
       where
         back : back_at new current places rooted ≡ back_at t current places rooted
-        back = λ i. outside (path_entered entered.is current ok.here i)
-            ++ back_from (reverse (map_same (path_at new) (path_at t) places
-            (λ j h. path_entered entered.is _ (ok.back j h)) i)) (to_root rooted)
+        back = rw (
+          path_entered entered.is current ok.here,
+          map_same (path_at new) (path_at t) places
+              (λ j h. path_entered entered.is _ (ok.back j h)),
+        ) refl
 
     module _ {v : Live} (view : live t met current places rooted ≡ v) where
       -- The entry fits what was entered.
@@ -199,10 +158,10 @@ module _ {t new : Listed} {current : ℕ} {places : List ℕ} {n : ℕ} (ok : Is
       -- With a visitor at the entry, the collector is as after entering it.
       pub gone_down : live new met node places rooted ≡ enter_live u k size v
       gone_down =
-          went new met current node places places rooted rooted
-          (one_up new met current node places rooted k
-          (entered.is.path ∙ ap (λ (q : Path). q ++ k ∷ []) (sym (path_entered entered.is current ok.here))))
-          ∙ (λ i. go (entered.is.path i) (live_added i))
+          let path = entered.is.path ∙ ap (λ (q : Path). q ++ k ∷ []) (sym (path_entered entered.is current ok.here)) in
+          let down : live new met node places rooted ≡ go (path_at new node) (live new met current places rooted) =
+          rw (one_up new met current node places rooted k path) refl in
+          down ∙ (λ i. go (entered.is.path i) (live_added i))
           ∙ enter_is u k size (live t met current places rooted)
           ∙ ap (enter_live u k size) view
 

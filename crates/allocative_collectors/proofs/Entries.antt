@@ -59,14 +59,15 @@ entered_twice old mid new at k n u i first second =
     let same = ap length first.sums in
     let le = length_put i q 0 false old in
     let more = length_put i (path_at mid i) n u mid in
-    record {
-      sums = second ∙ (ap (λ (p : Path). put i p n u mid) first.path
-          ∙ (ap (put i q n u) first.sums ∙ put_put i q n u old (omega (arith, le.1, first.within))));
+    let twice = put_put i q n u old (omega (arith, le.1, first.within)) in
+    let path = path_put i (path_at mid i) n u mid i first.within in
+    rw second (record {
+      sums = rw (first.path, first.sums) twice;
       not_root = first.not_root;
-      within = let now = ap length second in omega (arith, more.0, first.within);
-      path = ap (λ (s : Listed). path_at s i) second ∙ (path_put i (path_at mid i) n u mid i first.within ∙ first.path);
+      within = omega (arith, more.0, first.within);
+      path = path ∙ first.path;
       sole = first.sole;
-    }
+    })
 
 -- ---- at an entry
 module _ {old new : Listed} {at : ℕ} {k : Key} {n : ℕ} {u : Bool} {i : ℕ} (entered : IsEntered old new at k n u i) where
@@ -171,12 +172,9 @@ find_at : (s : Listed) → Distinct s → (i : ℕ) → i < length s →
 find_at [] apart i h = absurd (omega arith)
 find_at (e ∷ s) apart zero h = cond-true (is_same_path e.path e.path) _ _ (same_path-same e.path e.path refl)
 find_at (e ∷ s) apart (suc i) h =
-    grind (
-      arith,
-      same_path (path_at s i) e.path,
-      apart (suc i) 0 h (omega arith),
-      find_at s (tail_distinct e s apart) i (omega arith),
-    )
+    let other = apart (suc i) 0 h (omega arith) in
+    let rest = find_at s (tail_distinct e s apart) i (omega arith) in
+    grind (arith, same_path (path_at s i) e.path, other, rest)
 
 -- ---- what the map has
 -- At the path of each place but the root's, the map has what was entered there.
@@ -240,11 +238,6 @@ pub below_listed : (s : Listed) → IsListing s → (p : Path) →
     sum_by (λ e. cond (is_one_below p e.path) e.bytes 0) s ≡ bag.below (map_of s) p
 below_listed [] ok p = absurd (omega (arith, ok.rooted))
 below_listed (r ∷ s) ok p =
-    let none : cond (is_one_below p r.path) r.bytes 0 ≡ 0 =
-    ap (λ (q : Path). cond (is_one_below p q) r.bytes 0) ok.root_path
-    ∙ ap (λ (b : Bool). cond b r.bytes 0) (not_below_root p) in
-    omega (
-      arith,
-      below_rows s (tail_distinct r s ok.apart) p,
-      sum_by-cons (λ (e : Sum). cond (is_one_below p e.path) e.bytes 0) r s,
-    )
+    let none : cond (is_one_below p r.path) r.bytes 0 ≡ 0 = rw (ok.root_path, not_below_root p) refl in
+    let rest = below_rows s (tail_distinct r s ok.apart) p in
+    omega (arith, sum_by-cons (λ (e : Sum). cond (is_one_below p e.path) e.bytes 0) r s)

@@ -28,19 +28,9 @@ rise_insert ks k g gap rise i j lt h =
     let here = get_or-insert_at ks g k [] within in
     let low = λ (i : ℕ) (h : i < g). get_or-insert_below ks g k [] i h within in
     let high = insert_above ks g k [] within in
-    grind (
-      arith,
-      here,
-      low i,
-      low j,
-      high i,
-      high j,
-      rise i j,
-      rise i (j - 1),
-      rise (i - 1) (j - 1),
-      gap.smaller_before i,
-      after (j - 1),
-    )
+    let low_i = low i in let low_j = low j in let high_i = high i in let high_j = high j in
+    let below = gap.smaller_before i in let above = after (j - 1) in
+    grind (arith, here, low_i, low_j, high_i, high_j, below, above, rise i j, rise i (j - 1), rise (i - 1) (j - 1))
 
 module _ (ns : List Node) {cs : List (List ℕ)} (ok : IsArena ns cs) (p : ℕ) (hp : p < length ns) (k : Key) (g : ℕ)
     (gap : IsKeyGap (keys_at ns cs p) k g) where
@@ -113,13 +103,8 @@ module _ (ns : List Node) {cs : List (List ℕ)} (ok : IsArena ns cs) (p : ℕ) 
     root_parent = parent_before 0 ok.rooted ∙ ok.root_parent;
     parents =
         λ i pos h. grind (arith, length_grown, parent_before i, ok.parents i pos, ap (λ (n : Node). n.parent) at_leaf);
-    lists = omega (
-      arith,
-      length_grown,
-      ok.lists,
-      length-set cs p (insert (children_at cs p) g (length ns)),
-      length_push (set cs p (insert (children_at cs p) g (length ns))) [],
-    );
+    lists = let same = length-set cs p (insert (children_at cs p) g (length ns)) in
+        omega (arith, length_grown, ok.lists, length_push (set cs p (insert (children_at cs p) g (length ns))) []);
     listed = listed;
     children = by_parent (λ q. All (IsChild new q))
         (let xs = children_at cs p in
@@ -148,14 +133,8 @@ module _ (ns : List Node) {cs : List (List ℕ)} (ok : IsArena ns cs) (i : ℕ) 
   pub arena_set : IsArena (set ns i m) cs
   arena_set = record {
     rooted = omega (arith, length_set, ok.rooted);
-    root_empty = grind (
-      arith,
-      bytes,
-      ok.root_empty,
-      get_or-set_same ns i m no_node,
-      get_or-set_other ns i 0 m no_node,
-      set_past ns i m,
-    );
+    root_empty = let same = get_or-set_same ns i m no_node in
+        grind (arith, bytes, ok.root_empty, same, get_or-set_other ns i 0 m no_node, set_past ns i m);
     root_parent = parent_kept 0 ∙ ok.root_parent;
     parents = λ j pj hj. rw (parent_kept j) (ok.parents j pj (omega (arith, length_set)));
     lists = omega (arith, length_set, ok.lists);

@@ -44,11 +44,6 @@ touched f ns i m e j =
 -- One more list that is empty changes no list.
 pub pushed : (cs : List (List ℕ)) (j : ℕ) → children_at (cs ++ [] ∷ []) j ≡ children_at cs j
 pushed cs j =
-    grind (
-      arith,
-      get_or_append_left cs ([] ∷ []) [] j,
-      get_or_past cs j [],
-      get_or_push cs [] [] j,
-      get_or_past (cs ++ [] ∷ []) j [],
-      length_push cs [],
-    )
+    let before = get_or_append_left cs ([] ∷ []) [] j in let new = get_or_push cs [] [] j in
+    let past = get_or_past cs j [] in let behind = get_or_past (cs ++ [] ∷ []) j [] in
+    grind (arith, before, new, past, behind, length_push cs [])

@@ -1,8 +1,8 @@
 -- What the walk of `build_graph` has passed behind a node's path, child by child: the rows of the map, and the graph
 -- that it has made.
-use Rattle.std.proofs.Common.{◌≡◌, ◌≢◌, ℕ, zero, suc, ◌<◌, ◌≤◌, Bool, true, false, cond, T, ◌&&◌, ◌||◌, List, [], ◌∷◌}
+use Rattle.std.proofs.Common.{◌≡◌, ◌≢◌, ℕ, zero, suc, ◌<◌, ◌≤◌, Bool, true, false, cond, T, ◌||◌, List, [], ◌∷◌}
 use Rattle.std.proofs.Common.{◌++◌, length, Option, Some, None, refl, sym, ap, subst, ◌∙◌, arith, true≢false}
-use Rattle.std.proofs.Common.{append_assoc, ◌+◌, map, flat_map, get_or, sum_by, append-nil, subst₂}
+use Rattle.std.proofs.Common.{append_assoc, ◌+◌, map, flat_map, get_or, sum_by, append-nil}
 use Rattle.allocative_collectors.proofs.Common.{Ordering, Less, is_eq, is_lt, Key, Path, key_cmp, path_cmp, key_in}
 use Rattle.allocative_collectors.proofs.Common.{KeysRise, is_same_path, is_one_below, Sums, Graph, graph, sum_of, under}
 use Rattle.allocative_collectors.proofs.Common.{default, add_self, get, entries, sums, IsTree, Listed, row, sum_at}
@@ -14,7 +14,6 @@ use Rattle.allocative_collectors.proofs.Common.{Children, nat_tests, common_step
 use Rattle.std.specs.FinMap.{FinMap, entries_sorted, find, get-entries, get-insert}
 use Rattle.std.specs.FinMap.Entries.{is_sorted, below_all, is_sorted-where_key, find-where_key, same_entries}
 use Rattle.std.proofs.Math.Facts.{and_yes}
-use Rattle.std.proofs.Math.Bool.{and-true, and-or_distrib_left}
 use Rattle.allocative_graph.proofs.Basics.{path_total, path_antisymmetric, same_path, is_eq-Equal}
 use Rattle.allocative_collectors.specs.Warned.{behind}
 use Rattle.allocative_collectors.proofs.Keys.{key_total, key_same}
@@ -81,10 +80,9 @@ behind_own (k ∷ p) ks (l ∷ q) = grind (arith, behind_own p ks q, tied_then (
 behind_more : (p : Path) (ks : List Key) (j : ℕ) (q : Path) →
     behind p (begun ks (suc j)) q ≡ (behind p (begun ks j) q || behind (p ++ key_in ks j ∷ []) (λ r. true) q)
 behind_more [] ks j [] = refl
-behind_more [] ks j (l ∷ q) = ap (λ (b : Bool). among ks j l || b) (sym (and-true (same_key l (key_in ks j))))
+behind_more [] ks j (l ∷ q) = grind (arith, nat_tests)
 behind_more (k ∷ p) ks j [] = refl
-behind_more (k ∷ p) ks j (l ∷ q) = ap (λ (b : Bool). same_key l k && b) (behind_more p ks j q)
-    ∙ and-or_distrib_left (same_key l k) _ _
+behind_more (k ∷ p) ks j (l ∷ q) = grind (arith, nat_tests, behind_more p ks j q)
 
 -- what was passed is before the next child
 module _ (ks : List Key) (rise : KeysRise ks) (j : ℕ) (hj : j < length ks) where
@@ -192,12 +190,9 @@ module _ (s : Listed) (ok : IsListing s) where
   own_row : (i : ℕ) → i < length s → (ks : List Key) → let rows = rows_behind s (path_at s i) (begun ks 0) in
       (sum_by (size_in s) rows ≡ size_at_place s i) × (flat_map (warned (map_of s)) rows ≡ warned_at s i)
   own_row zero h ks =
-      let e = sum_at s 0 in
       let none = get_none s (path_at s 0) (λ i pos hi w. (let same = ok.apart i 0 hi h w in omega arith)) in
-      rw (rows_none (map_of s) (path_at s 0) ks none) (
-        grind (arith, nat_tests, ok.root_bytes),
-        sym (ap (λ (p : Path). warned (map_of s) (p, (row e).1)) ok.root_path),
-      )
+      let all = rows_none (map_of s) (path_at s 0) ks none in
+      rw all (grind (arith, nat_tests, ok.root_bytes), rw ok.root_path refl)
   own_row (suc i) h ks =
       let e = row (sum_at s (suc i)) in
       rw (rows_one (map_of s) e.0 ks e.1 (get_at s ok (suc i) (omega arith) h))
@@ -253,19 +248,19 @@ module _ (s : Listed) (ok : IsListing s) where
           MakesPart s p (begun ks j) w w' g → MakesGraph s c w' w'' d → h ≡ sum_of g (under k d)
           → MakesPart s p (begun ks (suc j)) w w'' h
       part_more c there w w' w'' g h d part made is = record {
-        warned_are = child.warned_are ∙ (ap (λ (l : List Warned). l ++ flat_map f next) part.warned_are
-            ∙ (append_assoc w (flat_map f before) (flat_map f next)
-            ∙ ap (λ (l : List Warned). w ++ l) (sym (ap (flat_map f) more ∙ flat_map-append f before next))));
-        graph_is = λ q. ap (λ (x : Graph). get x q) is ∙ (get-sum_of g (under k d) q ∙ by q);
-        total_is = ap total is ∙ omega (
+        warned_are = grind (
           arith,
-          total-sum_of g (under k d),
-          total-under k d,
-          part.total_is,
-          child.total_is,
-          ap (sum_by (size_in s)) more,
-          sum_by-append (size_in s) before next,
+          child.warned_are,
+          part.warned_are,
+          more,
+          flat_map-append f before next,
+          append_assoc w (flat_map f before) (flat_map f next),
         );
+        graph_is = λ q. ap (λ (x : Graph). get x q) is ∙ (get-sum_of g (under k d) q ∙ by q);
+        total_is =
+            let rows = ap (sum_by (size_in s)) more ∙ sum_by-append (size_in s) before next in
+            ap total is ∙ omega
+            (arith, total-sum_of g (under k d), total-under k d, part.total_is, child.total_is, rows);
       }
         where
           child : MakesPart s (p ++ k ∷ []) (λ r. true) w' w'' d
@@ -275,15 +270,8 @@ module _ (s : Listed) (ok : IsListing s) where
               ≡ cond (begun ks (suc j) q) (get (graph (map_of s)) (p ++ q)) None
           by [] = grind (arith, part.graph_is [], get-under-root k d, append-nil p, graph_hit s ok i hi)
           by (l ∷ r) =
-              grind (
-                arith,
-                part.graph_is (l ∷ r),
-                get-under k d l r,
-                child.graph_is r,
-                same_key_is l k,
-                among_before ks rise j j l hj,
-                append_assoc p (k ∷ []) r,
-              )
+              let first = among_before ks rise j j l hj in let path = append_assoc p (k ∷ []) r in
+              grind (arith, part.graph_is (l ∷ r), get-under k d l r, child.graph_is r, same_key_is l k, first, path)
 
 -- the next key comes after those of the graph so far
 pub comes_last : {s : Listed} {p : Path} {w w' : List Warned} {g : Graph} (ks : List Key) → KeysRise ks → (j : ℕ) →
@@ -337,9 +325,7 @@ module _ {items : List nodes.Node} {lists : List Children} (ok : IsTree items li
       let key = get_or-map (key_at items) (children_at cs p) j 0 [] inside in
       let path = step items ok.arena _ c.not_root c.in_range
       ∙ (λ k. path_at (sums items) (c.parent k) ++ sym key k ∷ []) in
-      subst₂ (λ (l : List ℕ) (s : Listed). let i = get_or l j 0 in (p < i) × (i < length s)
-      × (path_at s i ≡ path_at s p ++ key_in keys j ∷ [])
-      × ((d : nodes.Node) → (let m = get_or items i d in m.key ≡ key_in keys j))) is view (
+      rw (← is, ← view) (
         omega (arith, c.parent),
         omega (arith, length_sums items, c.in_range),
         path,
@@ -350,10 +336,8 @@ module _ {items : List nodes.Node} {lists : List Children} (ok : IsTree items li
   pub made_all : p < length v → (w w' : List Warned) (g : Graph) (j : ℕ) → j ≡ length keys →
       MakesPart v (path_at v p) (begun keys j) w w' g → MakesGraph v p w w' g
   made_all hp w w' g j whole part =
-      subst (λ (s : Listed). MakesGraph s p w w' g) view
-      (part_all items ok.arena p (in_nodes items p view hp) w w' g
-      (subst (λ (e : Listed × ℕ). MakesPart e.0 (path_at e.0 p) (begun keys e.1) w w' g) (λ x. (sym view x, whole x))
-      part))
+      let part' = rw (← view, whole) at part in
+      rw (← view) (part_all items ok.arena p (in_nodes items p view hp) w w' g part')
 
 -- ---- warnings
 -- the warning of place i, if it has one

@@ -1,7 +1,7 @@
 -- What a read of a node says of the arena and the sums, and what a search among its children says.
 use Rattle.std.proofs.Common.{◌≡◌, ◌≢◌, ℕ, zero, suc, ◌<◌, false, List, [], ◌∷◌, ◌++◌, length, sym, ap, subst, ◌∙◌}
 use Rattle.std.proofs.Common.{rules, arith, refl, append_assoc, map, Bool, not, get_or, sum_by, cond, ltb, sum, lt-ltb, ◌+◌}
-use Rattle.std.proofs.Common.{◌≤◌, ◌||◌, set, length-set, get_or-set_same, get_or-set_other, subst₂}
+use Rattle.std.proofs.Common.{◌≤◌, ◌||◌, set, length-set, get_or-set_same, get_or-set_other}
 use Rattle.allocative_collectors.proofs.Common.{nat_tests, common_steps, Key, Path, path_at, IsEntered, Listed}
 use Rattle.allocative_collectors.proofs.Common.{root_sum, Node, put, leaf, sums, keys_at, key_in, key_at, parent_at}
 use Rattle.allocative_collectors.proofs.Common.{IsChild, IsArena, IsKeyGap, is_same_path, Sum, sum_at, map_of, no_node}
@@ -9,7 +9,7 @@ use Rattle.allocative_collectors.proofs.Common.{at, bytes_at, is_one_below, is_r
 use Rattle.allocative_collectors.proofs.Common.{IsTree, length-map, get_or-map, get_or_push, length_push}
 use Rattle.allocative_collectors.proofs.Common.{same_from_push, tied_itself, cond-false, entries, bytes_entered}
 use Rattle.allocative_collectors.proofs.Common.{sum_by-cons, Children, numbers, HasKey, keys_of, KeysRise, insert, All}
-use Rattle.allocative_collectors.proofs.Common.{Contains, IsAbove, map-set, map_push, sum_from, map-set_same}
+use Rattle.allocative_collectors.proofs.Common.{IsAbove, map-set, map_push, sum_from, map-set_same}
 use Rattle.allocative_graph.proofs.Sums.{one_below_is}
 use Rattle.allocative_collectors.proofs.Keys.{key_total, same_path-same, same_path-apart, map_same}
 use Rattle.allocative_collectors.proofs.Entries.{put_nothing, raise_nothing, IsListing, below_listed, not_below_root}
@@ -40,13 +40,10 @@ module _ (ns : List Node) {cs : List (List ℕ)} (ok : IsArena ns cs) (p : ℕ) 
       let inside : i < length (sums ns) = omega (arith, length_sums ns, c.in_range) in
       let path : path_at (sums ns) i ≡ path_at (sums ns) p ++ k ∷ [] =
       step ns ok i c.not_root c.in_range ∙ (λ j. path_at (sums ns) (c.parent j) ++ key j ∷ []) in
-      record {
-        sums = sym (put_nothing i _ (sums ns) inside);
-        not_root = c.not_root;
-        within = inside;
-        path = path;
-        sole = λ j h e. distinct ns ok j i (omega (arith, length_sums ns)) c.in_range (e ∙ sym path);
-      }
+      let same = put_nothing i (path_at (sums ns) p ++ k ∷ []) (sums ns) inside in
+      let sole : (j : ℕ) → j < length (sums ns) → path_at (sums ns) j ≡ path_at (sums ns) p ++ k ∷ [] → j ≡ i =
+      λ j h e. distinct ns ok j i (omega (arith, length_sums ns)) c.in_range (e ∙ sym path) in
+      search (rules, arith)
 
   -- a node whose path is p's with the key is that child
   pub child_of : (i : ℕ) → i < length ns → path_at (sums ns) i ≡ path_at (sums ns) p ++ k ∷ [] →
@@ -80,11 +77,9 @@ module _ (ns : List Node) {cs : List (List ℕ)} (ok : IsArena ns cs) (p : ℕ) 
     now_entered =
         let Q = path_at (sums ns) p ++ k ∷ [] in
         let all : sums (grown ns p k) ≡ sums ns ++ record { path = Q; bytes = 0; is_unique = false } ∷ [] =
-        grow_push [] ns (leaf p k)
-        ∙ (ap (λ (x : Path). sums ns ++ record { path = x; bytes = 0; is_unique = false } ∷ []) (path_from-some
-        (map path_of (sums ns)) p k (omega (arith, ok.rooted, length_sums ns, length-map (sums ns) path_of))
-        ∙ ap (λ (x : Path). x ++ k ∷ []) (get_or-map path_of
-        (sums ns) p root_sum [] (omega (arith, length_sums ns))))) in
+        let some : 0 < length (map path_of (sums ns)) = omega (arith, length_sums ns, length-map (sums ns) path_of) in
+        let above = get_or-map path_of (sums ns) p root_sum [] (omega (arith, length_sums ns)) in
+        rw (grow_push [] ns (leaf p k), path_from-some (map path_of (sums ns)) p k some, above) refl in
         record {
           sums = all ∙ sym (put_push (length ns) Q 0 false (sums ns) (sym (length_sums ns)));
           not_root = ok.rooted;
@@ -155,18 +150,13 @@ module _ (ns : List Node) {cs : List (List ℕ)} (ok : IsArena ns cs) (i : ℕ) 
       part (sum_at (sums ns) j) ≡ cond (is_same_path (path_at (sums ns) i) (path_at (sums ns) (parent_at ns j)))
       (bytes_at ns j) 0
   part_is j pos h =
-      (λ k. cond (is_one_below (path_at (sums ns) i) (step ns ok j pos h k)) ((figures-grow [] ns j).0 k) 0)
-      ∙ ap (λ (b : Bool). cond b (bytes_at ns j) 0)
-      (one_below_is (path_at (sums ns) i) (path_at (sums ns) (parent_at ns j)) (key_at ns j))
+      let below = one_below_is (path_at (sums ns) i) (path_at (sums ns) (parent_at ns j)) (key_at ns j) in
+      rw (step ns ok j pos h, (figures-grow [] ns j).0, below) refl
 
   part_child : (j : ℕ) → IsChild ns i j → part (sum_at (sums ns) j) ≡ bytes_at ns j
   part_child j c =
-      grind (
-        arith,
-        part_is j c.not_root c.in_range,
-        c.parent,
-        same_path-same (path_at (sums ns) i) (path_at (sums ns) i),
-      )
+      let here = part_is j c.not_root c.in_range in
+      grind (arith, here, c.parent, same_path-same (path_at (sums ns) i) (path_at (sums ns) i))
 
   part_other : (j : ℕ) → j < length ns → (IsChild ns i j → ⊥) → part (sum_at (sums ns) j) ≡ 0
   part_other zero h not = ap (λ (b : Bool). cond b (sum_at (sums ns) 0).bytes 0)
@@ -268,16 +258,12 @@ module _ {items : List Node} {lists : List Children}
     module _ {c : Children} (read : c ≡ get_or lists i c) {ns : List Node} (same : ns ≡ items) where
       -- The keys in it rise.
       pub keys_rise : KeysRise (keys_of ns (numbers c))
-      keys_rise = subst₂ (λ (l : List Node) (xs : List ℕ). KeysRise (keys_of l xs)) (sym same) (children_read read)
-          (ok.arena.rise i)
+      keys_rise = rw (same, ← children_read read) (ok.arena.rise i)
 
       -- Its numbers are those of nodes.
       pub listed_within : {xs : List ℕ} → xs ≡ numbers c → All (λ a. a < length ns) xs
-      listed_within is =
-          subst₂ (λ (l : List Node) (xs : List ℕ). All (λ (a : ℕ). a < length l) xs) (sym same)
-          (children_read read ∙ sym is)
-          (All-weaker (IsChild items i) (λ (a : ℕ). a < length items) (λ a child. child.in_range)
-          _ (ok.arena.children i))
+      listed_within is = rw (same, is, ← children_read read) (All-weaker (IsChild items i)
+          (λ (a : ℕ). a < length items) (λ a child. child.in_range) _ (ok.arena.children i))
 
       -- Its nodes have the bytes one key below the path of node i.
       pub listed_bytes : {xs : List ℕ} → xs ≡ numbers c → sum_by (bytes_at ns) xs ≡ below (map_of v) (path_at v i)
@@ -288,16 +274,13 @@ module _ {items : List Node} {lists : List Children}
       -- A child that was found in it was entered.
       pub found_entered : (k : Key) (a : ℕ) → HasKey ns (numbers c) k a → IsEntered v v i k 0 false a
       found_entered k a found =
-          let listed = subst (λ (xs : List ℕ). Contains xs a) (sym (children_read read)) found.0 in
-          subst (λ (s : Listed). IsEntered s s i k 0 false a) view
-          (was_entered items ok.arena i (in_nodes items i view h) k a
-          (All-contains (IsChild items i) _ a (ok.arena.children i) listed)
-          (subst (λ (l : List Node). key_at l a ≡ k) same found.1))
+          let listed = rw (← children_read read) at found.0 in
+          rw (← view) (was_entered items ok.arena i (in_nodes items i view h) k a
+          (All-contains (IsChild items i) _ a (ok.arena.children i) listed) (rw same at found.1))
 
       module _ (k : Key) (g : ℕ) (gap : IsKeyGap (keys_of ns (numbers c)) k g) where
         gap_is : IsKeyGap (keys_at items (map numbers lists) i) k g
-        gap_is = subst₂ (λ (l : List Node) (xs : List ℕ). IsKeyGap (keys_of l xs) k g) same (sym (children_read read))
-            gap
+        gap_is = rw (same, ← children_read read) at gap
 
         -- With a new node, whose number is put into the list, the nodes are a tree.
         pub grown_tree : (d : Children) → numbers d ≡ insert (numbers c) g (length items) →
@@ -313,9 +296,7 @@ module _ {items : List Node} {lists : List Children}
         pub grown_entered : (more : List Node) (n : ℕ) → more ≡ items ++ leaf i k ∷ [] → n ≡ length items →
             IsEntered v (sums more) i k 0 false n
         grown_entered more n is number =
-            subst (λ (e : Listed × (List Node × ℕ)). IsEntered e.0 (sums e.1.0) i k 0 false e.1.1)
-            (λ j. (view j, (sym is j, sym number j)))
-            (now_entered items ok.arena i (in_nodes items i view h) k g gap_is)
+            rw (← view, is, number) (now_entered items ok.arena i (in_nodes items i view h) k g gap_is)
 
     -- the node i, which was read as n
     module _ {n : Node} (read : n ≡ get_or items i n) where
@@ -326,7 +307,7 @@ module _ {items : List Node} {lists : List Children}
       pub above_is : i ≢ 0 → IsAbove v i n.parent
       above_is some =
           let inside = in_nodes items i view h in
-          subst₂ (λ (s : Listed) (p : ℕ). IsAbove s i p) view (ap (λ (s : Node). s.parent) node_is) (record {
+          rw (← view, ← node_is) (record {
             key = key_at items i;
             within = (let lt = ok.arena.parents i (omega arith) inside in omega (arith, length_sums items));
             path = step items ok.arena i (omega arith) inside;
@@ -335,22 +316,18 @@ module _ {items : List Node} {lists : List Children}
       -- what the sums say of it
       pub figures_read : let e = sum_at v i in
           (e.bytes ≡ n.bytes) × (e.is_unique ≡ n.is_unique) × (not (is_root e.path) ≡ ltb 0 i)
-      figures_read = subst (λ (s : Listed). (let e = sum_at s i in
-          (e.bytes ≡ n.bytes) × (e.is_unique ≡ n.is_unique) × (not (is_root e.path) ≡ ltb 0 i))) view (
-            (figures-grow [] items i).0 ∙ ap (λ (s : Node). s.bytes) node_is,
-            (figures-grow [] items i).1 ∙ ap (λ (s : Node). s.is_unique) node_is,
-            has_key items ok.arena i (in_nodes items i view h),
-          )
+      figures_read = rw (← view) (
+        (figures-grow [] items i).0 ∙ ap (λ (s : Node). s.bytes) node_is,
+        (figures-grow [] items i).1 ∙ ap (λ (s : Node). s.is_unique) node_is,
+        has_key items ok.arena i (in_nodes items i view h),
+      )
 
       module _ (pos : 0 < i) where
         -- The bytes of a node are at most all bytes that were entered.
         pub bytes_fit : n.bytes ≤ bytes_entered (map_of v)
-        bytes_fit = omega (
-          arith,
-          found_fits (path_at v i) (entries (map_of v)) (sym
-              (get-entries (map_of v) (path_at v i)) ∙ get_at v listing_of i pos h),
-          figures_read.0,
-        )
+        bytes_fit =
+            let found = sym (get-entries (map_of v) (path_at v i)) ∙ get_at v listing_of i pos h in
+            omega (arith, found_fits (path_at v i) (entries (map_of v)) found, figures_read.0)
 
       -- the bytes are added at the node's place
       pub raised_view : (size : ℕ) (u b : Bool) → b ≡ (n.is_unique || u) →

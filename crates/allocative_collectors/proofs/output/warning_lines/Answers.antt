@@ -14,13 +14,5 @@ loop-one-preserved c =
     let all = map_more warning_of ws i c.one-item.result (omega arith) in
     let lines = flat_map-append (λ v. warning_text v ++ newline ∷ [])
     (map warning_of (take i ws)) (warning_of c.one-item.result ∷ []) in
-    grind (
-      arith,
-      is,
-      all,
-      lines,
-      c.one-item.is,
-      c.loop-one.invariant,
-      append_assoc before text (newline ∷ []),
-      append-nil (text ++ newline ∷ []),
-    )
+    let joined = append_assoc before text (newline ∷ []) in let last = append-nil (text ++ newline ∷ []) in
+    grind (arith, is, all, lines, joined, last, c.one-item.is, c.loop-one.invariant)

@@ -7,12 +7,9 @@ use Rattle.allocative_collectors.proofs.output.WarnedPath.is_of_std.Goals as goa
 of_two : {X : Type 0} (f : X → Key) (xs : List X) (d : X) → 2 ≤ length xs
     → is_std_entry (f (get_or xs (length xs - 2) d)) (f (get_or xs (length xs - 1) d)) ≡ is_std_data (map f xs)
 of_two f xs d h =
-    rw (
-      length-map xs f,
-      lt-ltb 1 (length xs) h,
-      get_or-map f xs (length xs - 2) d [] (omega arith),
-      get_or-map f xs (length xs - 1) d [] (omega arith),
-    ) refl
+    let before = get_or-map f xs (length xs - 2) d [] (omega arith) in
+    let last = get_or-map f xs (length xs - 1) d [] (omega arith) in
+    rw (length-map xs f, lt-ltb 1 (length xs) h, before, last) refl
 
 pub returns-in_default : goal.returns-in_default
 returns-in_default c = let few = ap length c.as_slice.ensures.value in

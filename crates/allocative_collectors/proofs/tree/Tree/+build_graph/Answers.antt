@@ -1,15 +1,14 @@
 -- A node's own size and warning, and then the graph of each child with the paths that have a warning.
-use Rattle.std.proofs.Common.{◌≡◌, ◌-◌, ◌+◌, ◌<◌, ℕ, Bool, cond, List, [], ◌∷◌, ◌++◌, map, length, get_or, Bor, Vec}
-use Rattle.std.proofs.Common.{Global, arith, sym, ap, subst, ◌∙◌, refl, Err, IfErr, ◌^◌, ◌≤◌, add-one}
-use Rattle.allocative_collectors.proofs.Common.{map_of, Key, under, sum_of, default, add_self, WarnedPath, path_at}
-use Rattle.allocative_collectors.proofs.Common.{keys_at, key_at, children_at, key_in, size_at_place, warning_of}
-use Rattle.allocative_collectors.proofs.Common.{Refusal, Memory, length-map, map-append, ComesLast, numbers, MakesGraph}
-use Rattle.allocative_collectors.proofs.Common.{MakesPart, Node}
+use Rattle.std.proofs.Common.{◌≡◌, ◌-◌, ◌+◌, ◌<◌, ℕ, List, [], ◌∷◌, ◌++◌, map, length, get_or, Bor}
+use Rattle.std.proofs.Common.{arith, sym, ap, subst, ◌∙◌, refl, Err, IfErr, ◌^◌, ◌≤◌, add-one}
+use Rattle.allocative_collectors.proofs.Common.{map_of, Key, under, sum_of, default, add_self, path_at, keys_at, key_at}
+use Rattle.allocative_collectors.proofs.Common.{children_at, key_in, size_at_place, warning_of, Refusal, Memory}
+use Rattle.allocative_collectors.proofs.Common.{length-map, map-append, ComesLast, numbers, MakesGraph, MakesPart, Node}
 use Rattle.allocative_graph.specs.Graph.{Graph, Warned, total}
 use Rattle.allocative_collectors.proofs.NodeReads.{in_nodes, children_read, figures_read, listing_of, listed_within}
 use Rattle.allocative_collectors.proofs.NodeReads.{listed_bytes}
 use Rattle.allocative_collectors.proofs.Made.{part_start, part_more, part_fits, made_all, child_read, none_warned}
-use Rattle.allocative_collectors.proofs.Made.{below_fits, own_warning, own_fits, warned_at, comes_last, begun}
+use Rattle.allocative_collectors.proofs.Made.{below_fits, own_fits, warned_at, comes_last, begun}
 use Rattle.allocative_graph.proofs.Graphs.{total-default}
 use Rattle.allocative_graph.proofs.Text.{popped, texts}
 use Rattle.allocative_collectors.proofs.tree.Tree.+build_graph.Goals as goal
@@ -60,12 +59,7 @@ pub index-requires-in-loop-child : goal.index-requires-in-loop-child
 index-requires-in-loop-child t c =
     let there = child t (goal.at.index-requires-in-loop-child t c).In_ok-children c.loop-child.child-index
     c.loop-child-test.true in
-    omega (
-      arith,
-      c.self.inside.nodes.ok.0,
-      in_nodes c.self.inside.nodes.items (get_or
-          c.in_ok-children.children.now c.loop-child.child-index 0) c.self.view_is there.1,
-    )
+    let node = in_nodes c.self.inside.nodes.items _ c.self.view_is there.1 in omega (arith, c.self.inside.nodes.ok.0)
 
 pub returns-in_err-add_self-clause-err : goal.returns-in_err-add_self-clause-err
 returns-in_err-add_self-clause-err t c =
@@ -93,13 +87,10 @@ loop-child-init t c =
           (let figures =
           figures_read c.self.invariant c.self.view_is i c.requires.within w.index-then-is_short.ensures in
           let keys : texts w.as_slice.result.now ≡ path_at v i = ap texts w.as_slice.ensures.value ∙ c.requires.keys in
-          ap (λ (x : Vec WarnedPath Global). map warning_of x.items) w.warned-is
-          ∙ (w.in_ok-push_warned.ensures
-          ∙ ((λ j. start ++ record { path = keys j; self_size = sym figures.0 j; children_size = size_below j } ∷ [])
-          ∙ ap (λ (b : Bool). start ++ cond b (own_warning v i) [])
-          (sym w.if-is_short.true ∙ c.figures-size.ensures.short))))
-      | else-is_short w ↦ ap (λ (x : Vec WarnedPath Global). map warning_of x.items) w.warned-is
-          ∙ none_warned v i start (sym w.if-is_short.false ∙ c.figures-size.ensures.short)
+          let short = sym w.if-is_short.true ∙ c.figures-size.ensures.short in
+          rw w.warned-is (rw (← short) (cc (w.in_ok-push_warned.ensures, keys, figures.0, size_below))))
+      | else-is_short w ↦
+          rw w.warned-is (none_warned v i start (sym w.if-is_short.false ∙ c.figures-size.ensures.short))
     ] in
     record {
       keys = refl;
@@ -119,14 +110,12 @@ build_graph-requires t c =
     let lt : length c.args.self.now - get_or c.in_ok-children.children.now c.loop-child.child-index 0 < t =
     omega (arith, there.0, there.1) in
     let text = λ (k : Bor (List ℕ)). k.now in
+    let key = c.as_str.ensures ∙ ap (λ (n : Node). n.key) c.index-in-loop-child.ensures
+    ∙ there.3 c.index-in-loop-child.result.now in
     let keys : map text c.push.new.self.items
     ≡ path_at c.args.self.now (get_or c.in_ok-children.children.now c.loop-child.child-index 0) =
-    ap (map text) c.in_ok-push.ensures.items
-    ∙ (map-append text c.loop-child.keys.items (c.as_str.result ∷ [])
-    ∙ ((λ j. (ap (map text) c.loop-child.invariant.keys ∙ c.requires.keys) j
-    ++ (c.as_str.ensures ∙ ap (λ (n : Node). n.key) c.index-in-loop-child.ensures
-    ∙ there.3 c.index-in-loop-child.result.now) j ∷ [])
-    ∙ sym there.2)) in
+    ap (map text) c.in_ok-push.ensures.items ∙ map-append text c.loop-child.keys.items (c.as_str.result ∷ [])
+    ∙ (λ j. (ap (map text) c.loop-child.invariant.keys ∙ c.requires.keys) j ++ key j ∷ []) ∙ sym there.2 in
     (lt, (there.1, (c.requires.fits, keys)))
 
 -- the graph with the first j children
@@ -183,12 +172,8 @@ push_child-requires-in-loop-child t c =
     record {
       last = next t here j c.loop-child-test.true c.loop-child.invariant.made
           c.index-in-loop-child.ensures c.copy-in-loop-child.ensures;
-      fits = omega (
-        arith,
-        part_fits c.loop-child.invariant.made,
-        part_fits c.in_ok-build_graph.ensures.made,
-        c.requires.fits,
-      );
+      fits = let so_far = part_fits c.loop-child.invariant.made in
+          omega (arith, part_fits c.in_ok-build_graph.ensures.made, c.requires.fits);
     }
 
 pub loop-child-preserved : goal.loop-child-preserved

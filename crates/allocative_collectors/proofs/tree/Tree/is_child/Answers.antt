@@ -1,7 +1,7 @@
 -- A node with this parent and this key is the child, and no other node is.
 use Rattle.std.proofs.Common.{◌≡◌, ◌≢◌, ◌-◌, ◌^◌, ◌<◌, ◌↔◌, false, List, length, true≢false, arith, sym, ap, subst, ◌∙◌}
 use Rattle.std.proofs.Common.{eqb-true}
-use Rattle.allocative_collectors.proofs.Common.{Node, Listed, IsEntered, parent_at, at, no_node}
+use Rattle.allocative_collectors.proofs.Common.{Node, IsEntered, parent_at, at, no_node}
 use Rattle.std.proofs.lemmas.Slice.Eq.{bytes_eq-Decides}
 use Rattle.allocative_collectors.proofs.Labels.{length_sums}
 use Rattle.allocative_collectors.proofs.NodeReads.{in_nodes, was_entered, child_of}
@@ -13,10 +13,7 @@ read : (c : In-Some) → let items = c.self.inside.nodes.items in
     (c.args.number < length items) × (at items c.args.number ≡ c.in-Some.node.now)
 read c =
     let node = c.in-Some.ensures.lookup.3 in
-    let is = c.deref.ensures.value in (
-      subst (λ (l : List Node). c.args.number < length l) is node.0,
-      sym (node.1 no_node ∙ ap (λ (l : List Node). at l c.args.number) is),
-    )
+    rw (← c.deref.ensures.value) (node.0, sym (node.1 no_node))
 
 -- It is the child exactly if its parent and its key are right. The root's parent is no node.
 guess : (c : In-Some) → let n = c.in-Some.node.now in
@@ -29,8 +26,7 @@ guess c =
     let here = in_nodes items c.args.at c.self.view_is c.requires in
     let parent = ap (λ (s : Node). s.parent) (read c).1 in
     let key = ap (λ (s : Node). s.key) (read c).1 in
-    subst (λ (s : Listed). IsEntered s s c.args.at c.args.key.now 0 false i ↔
-    ((n.parent ≡ c.args.at) × (n.key ≡ c.args.key.now))) c.self.view_is (
+    rw (← c.self.view_is) (
       (λ entered. let child = child_of items c.self.invariant.arena c.args.at here c.args.key.now i (read c).0
           entered.path in (sym parent ∙ child.0.parent, sym key ∙ child.1)),
       (λ right.

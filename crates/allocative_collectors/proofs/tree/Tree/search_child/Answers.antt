@@ -1,8 +1,6 @@
 -- The child that was found, and the new one.
-use Rattle.std.proofs.Common.{◌≡◌, List, length, set, get_or, [], ◌∷◌, ◌++◌, sym, ap, subst, subst₂, ◌∙◌}
-use Rattle.allocative_collectors.proofs.Common.{leaf, Children, IsTree, IsKeyGap, keys_of, numbers, insert, get_or_default}
-use Rattle.allocative_collectors.specs.declared.children.Children.TheVariants.{Empty}
-use Rattle.allocative_collectors.specs.declared.tree.Node.{Node}
+use Rattle.std.proofs.Common.{◌≡◌, List, length, get_or, [], ◌∷◌, ◌++◌, sym, ap, ◌∙◌}
+use Rattle.allocative_collectors.proofs.Common.{leaf, Children, numbers, insert, get_or_default}
 use Rattle.allocative_collectors.specs.Nodes.{flat_place}
 use Rattle.allocative_collectors.proofs.NodeReads.{keys_rise, found_entered, grown_entered, grown_tree, same_lists}
 use Rattle.allocative_collectors.proofs.NodeReads.{in_lists}
@@ -26,8 +24,7 @@ read c = c.index_mut.ensures.value ∙ ap (λ (l : List Children). get_or l c.ar
 
 pub invariant_of-self-in_err-insert-in-Err : goal.invariant_of-self-in_err-insert-in-Err
 invariant_of-self-in_err-insert-in-Err c =
-    subst₂ (λ (ns : List Node) (cs : List Children). IsTree ns (set cs c.args.at c.insert.new.self))
-    (sym c.in_ok-reserve-in-Err.ensures.items) (sym c.in_ok-reserve-in-Err-2.ensures.items)
+    rw (c.in_ok-reserve-in-Err.ensures.items, c.in_ok-reserve-in-Err-2.ensures.items)
     (same_lists c.self.invariant c.args.at c.index_mut.result.now _
     (read (goal.at.invariant_of-self-in_err-insert-in-Err c).After-index_mut) c.in_err-insert-in-Err.ensures.err)
 
@@ -50,11 +47,8 @@ pub invariant_of-self-in-Err : goal.invariant_of-self-in-Err
 invariant_of-self-in-Err c =
     let at = goal.at.invariant_of-self-in-Err c in
     let old = c.index_mut.result.now in
-    let gap = subst (λ (l : Children). IsKeyGap (keys_of c.deref.result.now (numbers l)) c.args.key.now
-    (flat_place l c.in-Err.place))
-    (same at.After-index_mut) c.in-Err.ensures.absent in
-    subst₂ IsTree (sym (nodes at.After-push_reserved-in-Err)) (sym (c.push_reserved.ensures.items
-    ∙ (λ j. set (c.in_ok-reserve-in-Err-2.ensures.items j) c.args.at c.insert.new.self ++ Empty ∷ [])))
+    let gap = rw (same at.After-index_mut) at c.in-Err.ensures.absent in
+    rw (nodes at.After-push_reserved-in-Err, c.push_reserved.ensures.items, c.in_ok-reserve-in-Err-2.ensures.items)
     (grown_tree c.self.invariant c.self.view_is c.args.at c.requires (read at.After-index_mut) c.deref.ensures.value
     c.args.key.now _ gap c.insert.new.self (c.in_ok-insert-in-Err.ensures.ok
     ∙ ap (insert (numbers old) (flat_place old c.in-Err.place)) (number at.After-push_reserved-in-Err)))
