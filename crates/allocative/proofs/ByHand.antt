@@ -1,5 +1,5 @@
 -- What a visit shows that takes the collector out of its visitor and enters by hand.
-use Rattle.std.proofs.Common.{◌≡◌, ℕ, suc, Bool, true, false, Some, Result, Ok, refl, ap, subst, arith}
+use Rattle.std.proofs.Common.{rules, ◌≡◌, ℕ, suc, Bool, true, false, Some, Result, Ok, refl, ap, arith}
 use Rattle.allocative.proofs.Common.{Refusal, Key, Identity, Live, Restore, State, Showing, Nothing, Both, InsideAs}
 use Rattle.allocative.proofs.Common.{AddsForest, forgotten, OpensEntry, ClosesEntry, OpensShared, enters_first, Visitor}
 use Rattle.allocative.proofs.Common.{with_state, Visited, Entered, Means, OnlyIf}
@@ -11,23 +11,13 @@ use Rattle.allocative.proofs.Visits.{adds_nothing, adds_both, adds_entry}
 -- What the collector was shown, the visit shows.
 pub shown_by_hand : {p : Showing} {a : Visitor} {s t : State} {r : Result (Unit {0}) Refusal} → s ≡ a.collector.now →
     AddsForest p s r t → Visited false p AnyEffect a (with_state a t) r
-shown_by_hand {p} {t = t} {r = r} e h =
-    let P : State → Type 0 = λ s. AddsForest p s r t in
-    let shown = subst P e h in
-    record { same_reference = refl; same_outer = refl; shown = shown; only_if_full = not_strict; takes_effect = tt }
+shown_by_hand e h = let shown = rw e at h in search (rules, not_strict)
 
 -- The same, if a part is entered afterwards.
 pub shown_before : {p q : Showing} {e : Bool} {a b : Visitor} {s t : State} {u : Unit {0}}
     {r : Result (Unit {0}) Refusal} → s ≡ a.collector.now → AddsForest p s (Ok u) t → Entered e q (with_state a t) b r →
     Visited false (Both p q) AnyEffect a b r
-shown_before {p} {a = a} {t = t} {u = u} e h k =
-    let P : State → Type 0 = λ s. AddsForest p s (Ok u) t in record {
-      same_reference = k.same_reference;
-      same_outer = k.same_outer;
-      shown = adds_both (subst P e h) k.shown;
-      only_if_full = not_strict;
-      takes_effect = tt;
-    }
+shown_before e h k = let shown = rw e at h in search (rules, adds_both, not_strict)
 
 -- An entry with nothing inside it.
 pub entry_alone : {u : Bool} {k : Key} {n : ℕ} {o q : Restore} {s t d : State} {x : Unit {0}} →

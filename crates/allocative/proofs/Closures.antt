@@ -1,14 +1,12 @@
 -- What a caller of `visit_field_with` learns from the closure's outcome.
-use Rattle.std.proofs.Common.{◌≡◌, ℕ, false, Some, Result, Ok, Err, IfErr, MutBor, subst, refl, ◌∙◌}
-use Rattle.allocative.proofs.Common.{Restore, Refusal, Key, State}
-use Rattle.allocative.proofs.Common.{close_entry, Settles, Visitor, IsSum}
-use Rattle.allocative.proofs.Common.{ClosesEntry, FnOnceReturnsAtMut, HasFailed, OpensEntry, with_state}
+use Rattle.std.proofs.Common.{rules, ◌≡◌, ℕ, false, Some, Result, Ok, Err, IfErr, MutBor, subst}
+use Rattle.allocative.proofs.Common.{Restore, Refusal, Key, State, close_entry, Settles, Visitor, IsSum, ClosesEntry}
+use Rattle.allocative.proofs.Common.{FnOnceReturnsAtMut, HasFailed, OpensEntry, with_state}
 use Rattle.std.specs.Fn.{Once}
 use Rattle.allocative.specs.Closures.{KeepsVisitor, CalledInside, not_called, called_inside}
 use Rattle.allocative.specs.Closures.{CalledAt, told_ok, told_err, AnswersSum}
 use Rattle.allocative.specs.Visited.{Refused}
-use Rattle.allocative.proofs.Visits.{not_entered_cause}
-use Rattle.allocative.proofs.Visits.{close_cause}
+use Rattle.allocative.proofs.Visits.{not_entered_cause, close_cause}
 
 -- what is answered once the visitor is left
 pub sum_answered : (o : Restore) (c : State) (n : ℕ) {t : State} {q : Result (Unit {0}) Refusal} → ClosesEntry o c t →
@@ -37,33 +35,20 @@ module _ {F : Type 0} (g : Once F (MutBor Visitor × Unit {0}) (Result (Unit {0}
   -- A call of a closure that told Ok.
   pub called_ok : {x y : Visitor} {u : Unit} → KeepsVisitor g f → FnOnceReturnsAtMut g f x (Ok u) y →
       CalledAt g f x y (Ok u)
-  called_ok keeps h =
-      let kept = keeps _ _ _ h in
-      record { tells = told_ok h; same_reference = kept.0; same_outer = kept.1; cause = tt }
+  called_ok keeps h = let kept = keeps _ _ _ h in search (rules, told_ok)
 
   -- A call of a closure that told an error, which was refused.
   pub called_err : {x y z : Visitor} {e cause : Refusal} → KeepsVisitor g f → FnOnceReturnsAtMut g f x (Err e) y →
       Refused e y z cause → CalledAt g f x z (Err cause)
-  called_err keeps h q = let kept = keeps _ _ _ h in record {
-    tells = told_err h q;
-    same_reference = q.same_reference ∙ kept.0;
-    same_outer = q.same_outer ∙ kept.1;
-    cause = q.is_cause;
-  }
+  called_err keeps h q = let kept = keeps _ _ _ h in search (rules, told_err)
 
   -- The closure's entry was refused.
   pub inside_refused : {k : Key} {n : ℕ} {a : Visitor} {t : State} {e : Refusal} {r : Result (Unit {0}) Refusal} →
       r ≡ Err e → OpensEntry false k (Some n) a.collector.now (Err e) t → CalledInside g f k n a (with_state a t) r
-  inside_refused is w = rw is
-      (record { same_reference = refl; same_outer = refl; calls = not_called w; cause = not_entered_cause w })
+  inside_refused is w = rw is (search (rules, not_called, not_entered_cause))
 
   -- The closure's entry was opened, the closure was called there, and the entry was closed.
   pub inside_called : {k : Key} {n : ℕ} {o : Restore} {a b : Visitor} {t d : State} {r : Result (Unit {0}) Refusal} →
       OpensEntry false k (Some n) a.collector.now (Ok o) t → CalledAt g f (with_state a t) b r →
       ClosesEntry o b.collector.now d → CalledInside g f k n a (with_state b d) r
-  inside_called {r = r} w h l = record {
-    same_reference = h.same_reference;
-    same_outer = h.same_outer;
-    calls = called_inside w h l;
-    cause = closed_cause r l h.cause;
-  }
+  inside_called w h l = search (rules, called_inside, closed_cause)

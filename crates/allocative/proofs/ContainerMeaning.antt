@@ -1,6 +1,6 @@
 -- How the showing of a container follows from its parts: slices, buffers, texts, tables, and cells.
 use Rattle.std.proofs.Common.{codes, if◌then◌else◌, Bool, true, false, length, List, ◌++◌, Option, None, Some, ◌≡◌, ℕ}
-use Rattle.std.proofs.Common.{◌+◌, ◌-◌, ◌*◌, ◌<◌, ◌^◌, Result, inl, inr, refl, ◌∙◌, ap, subst, arith}
+use Rattle.std.proofs.Common.{rules, ◌+◌, ◌-◌, ◌*◌, ◌<◌, ◌^◌, Result, inl, inr, refl, ◌∙◌, ap, subst, arith}
 use Rattle.allocative.proofs.Common.{checked, Refusal, Key, Forest, Kind, Showing, Nothing, Both, Inside, Unique}
 use Rattle.allocative.proofs.Common.{Field, IsField, sized, each_shows, slice_shows, are_shown_each, bytes_shown}
 use Rattle.allocative.proofs.Common.{without_size, without_room, with_room, buffer_shows, table_shows, IsDeclared}
@@ -59,14 +59,10 @@ pub entered_plain : {T : Type 0} {x : Bool} (name : Key) (size : Option ℕ) (ne
     (xs : List T) {a b : Visitor} {r : Result (Unit {0}) Refusal} →
     are_shown_each needs_drop size ≡ false → Entered x (bytes_shown name size (length xs)) a b r →
     Entered x (slice_shows name size needs_drop p xs) a b r
-entered_plain name size needs_drop p xs e s = record {
-  same_reference = s.same_reference;
-  same_outer = s.same_outer;
-  shown = adds_weaker (plain_slice name size needs_drop p xs e) s.shown;
-  cause = s.cause;
-  only_if_full = λ i. only_if_full_as (plain_slice name size needs_drop p xs e)
-      (plain_declared name size needs_drop p xs e) (s.only_if_full i);
-}
+entered_plain name size needs_drop p xs e s =
+    let up = plain_slice name size needs_drop p xs e in
+    let down = plain_declared name size needs_drop p xs e in
+    search (rules, adds_weaker, only_if_full_as)
 
 -- If the items are shown one by one, their slice shows what the items one after another show.
 pub slice_is_each : {T : Type 0} (name : Key) (size : Option ℕ) (needs_drop : Bool) (p : T → Showing) (xs : List T) →
@@ -167,10 +163,7 @@ pub means_both_cut : {T : Type 0} {x : Bool} {name : Key} {size : Option ℕ} {n
     Means x (Both (slice_shows name size needs_drop p xs) (slice_shows name size needs_drop p ys))
     (cut_shows name size needs_drop p all)
 means_both_cut {name = name} {size = size} {needs_drop = needs_drop} {p = p} xs ys e =
-    rw (← e) (record {
-      means = λ f h. is_cut xs ys refl h;
-      declared = λ i d. cut_declared name size needs_drop p xs ys d;
-    })
+    rw (← e) (record { means = λ f. is_cut xs ys refl; declared = λ i. cut_declared name size needs_drop p xs ys })
 
 -- ---- texts
 -- The entries of a text's pointer, capacity, bytes and unused bytes mean what the text shows of its buffer.

@@ -1,7 +1,7 @@
 -- How entries are opened and made, one after another and inside each other, by calls that visit no part.
 use Rattle.std.proofs.Common.{ℕ, ◌+◌, ◌<◌, ◌^◌, Bool, true, false, List, [], ◌∷◌, ◌≡◌, Option, Some, Result, Ok, Err}
-use Rattle.std.proofs.Common.{refl, sym, ◌∙◌, subst, ap, IfErr, IsTrue}
-use Rattle.allocative.proofs.Common.{Restore, Yields, Refusal, Key, Identity, Live, OfGraph, OfSum, State, Failed}
+use Rattle.std.proofs.Common.{rules, refl, sym, ◌∙◌, subst, ap, IfErr, IsTrue}
+use Rattle.allocative.proofs.Common.{Restore, Yields, Refusal, Key, Identity, Live, OfGraph, State, Failed}
 use Rattle.allocative.proofs.Common.{Going, close_entry, HasFailed, OpensEntry, stays_failed, is_refused, is_entered}
 use Rattle.allocative.proofs.Common.{OpensShared, stays_shared, is_refused_shared, is_too_large_shared, counts}
 use Rattle.allocative.proofs.Common.{enters_first, enters_again, ClosesEntry, Nothing, Field, already, FailsOnlyIfFull}
@@ -54,8 +54,7 @@ entered_alone_sized (made g made_none l made_none) =
     entered_at (adds_field g refl (adds_nothing _ tt) l refl) tt
     (λ y. only_if_full_field g (only_if_full_nothing _ tt) l)
 entered_alone_sized (made g made_none l had_failed) = absurd (cc l.closes)
-entered_alone_sized (entry_refused g) =
-    entered_at (not_entered g) (not_entered_cause g) (λ y. only_if_full_not_field g)
+entered_alone_sized (entry_refused g) = search (rules, not_entered, not_entered_cause, only_if_full_not_field)
 entered_alone_sized (inside_refused g had_failed) = elim g [ ]
 
 -- If an inline entry is opened, a plan is made inside it, and it is closed, the entry with the plan is made.
@@ -116,14 +115,12 @@ failed_makes (inside_refused g m) = elim g [ ]
 
 -- Making entries keeps the cause of a failed collector.
 pub makes_keeps : {p : Plan} {a b : Visitor} {r : Result Unit Refusal} → MakesPlan p a b r → KeepsFailure a b r
-makes_keeps {p = p} {b = b} {r = r} m =
-    record { keeps = λ e h. failed_makes (subst (λ s. Makes p s r b.collector.now) h m) }
+makes_keeps m = record { keeps = λ e h. failed_makes (rw h at m) }
 
 -- A collector that went on had not failed.
 pub kept_after : {a b : Visitor} {t : State} {u : Unit} {r : Result Unit Refusal} →
     Makes Done a.collector.now (Ok u) t → KeepsFailure a b r
-kept_after {t = t} {u = u} m =
-    record { keeps = λ e h. let i = (failed_makes (subst (λ s. Makes Done s (Ok u) t) h m)).0 in cc }
+kept_after m = record { keeps = λ e h. let i = (failed_makes (rw h at m)).0 in cc }
 
 -- Nothing is asked of a collector that had failed.
 pub only_if_full_failed : {p : Showing} {s t : State} {e : Refusal} {r : Result Unit Refusal} → Makes Done s (Err e) t →

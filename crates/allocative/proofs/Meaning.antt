@@ -1,8 +1,7 @@
 -- How the showing of a value follows from the part that enters it, word by word.
-use Rattle.std.proofs.Common.{◌≡◌, ℕ, Bool, true, false, ◌&&◌, Option, Some, None, Result, inl, inr, Ok, Err, refl, ◌∙◌}
+use Rattle.std.proofs.Common.{◌≡◌, ℕ, Bool, true, false, ◌&&◌, Option, Some, None, Result, inl, inr, Ok, Err, refl, rules}
 use Rattle.allocative.proofs.Common.{Refusal, TooLarge, Key, Identity, Forest, Showing, Nothing, Both, InsideAs, Inside}
-use Rattle.allocative.proofs.Common.{Unique, Field, sized, Shared, IsDeclared, Visitor, Visited}
-use Rattle.allocative.proofs.Common.{Entered, Means, OnlyIf}
+use Rattle.allocative.proofs.Common.{Unique, Field, sized, Shared, IsDeclared, Visitor, Visited, Entered, Means, OnlyIf}
 use Rattle.std.proofs.lemmas.Bool.{false≢true, and_parts, and_from}
 use Rattle.allocative.specs.Visited.{AnyEffect, Refused}
 use Rattle.allocative.proofs.Strict.{declared_first, declared_second, declared_both, declared_inside, declared_entry}
@@ -57,10 +56,7 @@ loosely up = record { means = up; declared = λ i d. absurd (false≢true i) }
 -- If p means q, an entry with p inside it means the same entry with q inside it.
 inside_as : (u : Bool) (k : Key) (n : ℕ) {x : Bool} {p q : Showing} → Means x p q →
     Means x (InsideAs u k n p) (InsideAs u k n q)
-inside_as u k n m = record {
-  means = λ f a. (a.0, m.means a.0 a.1, a.2);
-  declared = λ h d. declared_entry u k n (m.declared h (declared_inside u k n d));
-}
+inside_as u k n m = search (rules, declared_entry, declared_inside)
 
 -- If p means q, an inline entry with p inside it means the inline entry of an equal key with q inside it.
 pub means_inside : {x : Bool} {k j : Key} {n : ℕ} {p q : Showing} → k ≡ j → Means x p q →
@@ -101,13 +97,7 @@ means_shared {j = j} {n = n} {l = l} e h m = rw (e, h) (record {
 -- What was entered as p was entered as q, if p means q and q is strict only if p is.
 pub entered_if : {d e : Bool} {p q : Showing} {a b : Visitor} {r : Result (Unit {0}) Refusal} → Entered e p a b r →
     OnlyIf d e → Means d p q → Entered d q a b r
-entered_if h o m = record {
-  same_reference = h.same_reference;
-  same_outer = h.same_outer;
-  shown = adds_weaker m.means h.shown;
-  cause = h.cause;
-  only_if_full = λ i. only_if_full_weaker m.means (m.declared i) (h.only_if_full (o.follows i));
-}
+entered_if h o m = search (rules, adds_weaker, only_if_full_weaker)
 
 -- If p means q, what was entered as p was entered as q, and it is just as strict.
 pub entered_as : {d : Bool} {p q : Showing} {a b : Visitor} {r : Result (Unit {0}) Refusal} → Entered d p a b r →
@@ -127,13 +117,7 @@ entered_loosely h = entered_if h strict_never means_same
 -- Entering a part that shows exactly p is a visit that shows p.
 pub visited : {x : Bool} {p : Showing} {a b : Visitor} {r : Result (Unit {0}) Refusal} → Entered x p a b r →
     Visited x p AnyEffect a b r
-visited h = record {
-  same_reference = h.same_reference;
-  same_outer = h.same_outer;
-  shown = h.shown;
-  only_if_full = h.only_if_full;
-  takes_effect = tt;
-}
+visited h = search rules
 
 -- A part that was entered is the visit of a value, strict if the part is.
 pub visited_as : {d : Bool} {p q : Showing} {a b : Visitor} {r : Result (Unit {0}) Refusal} → Entered d p a b r →
@@ -157,42 +141,18 @@ entered_none a m = entered_as {p = Nothing} (entered_at (adds_nothing _ tt) tt (
 -- An error that is passed on, of the first part or of the second.
 pub entered_passed : {d x : Bool} {p q : Showing} {a b : Visitor} {e : Refusal} {r : Result Unit Refusal} → r ≡ Err e →
     OnlyIf x d → Entered d p a b (Err e) → Entered x (Both p q) a b r
-entered_passed is o s = rw is (record {
-  same_reference = s.same_reference;
-  same_outer = s.same_outer;
-  shown = adds_err s.shown;
-  cause = s.cause;
-  only_if_full = λ y. only_if_full_first (s.only_if_full (o.follows y));
-})
+entered_passed is o s = rw is (search (rules, adds_err, only_if_full_first))
 
 -- If p is entered with Ok and q after it, p followed by q is entered, and is strict only if each of them is.
 pub entered_both : {d e x : Bool} {p q : Showing} {a b c : Visitor} {u : Unit} {r : Result Unit Refusal} → OnlyIf x d →
     OnlyIf x e → Entered d p a b (Ok u) → Entered e q b c r → Entered x (Both p q) a c r
-entered_both o w f s = record {
-  same_reference = s.same_reference ∙ f.same_reference;
-  same_outer = s.same_outer ∙ f.same_outer;
-  shown = adds_both f.shown s.shown;
-  cause = s.cause;
-  only_if_full = λ i. only_if_full_both (f.only_if_full (o.follows i)) (s.only_if_full (w.follows i));
-}
+entered_both o w f s = search (rules, adds_both, only_if_full_both)
 
 -- An error that is returned by hand, which need not be one that must be.
 pub entered_refused : {p : Showing} {q e : Refusal} {a b : Visitor} → Refused q a b e → Entered false p a b (Err e)
-entered_refused {q = q} {e = e} h = record {
-  same_reference = h.same_reference;
-  same_outer = h.same_outer;
-  shown = adds_refused _ e q _ h.after;
-  cause = h.is_cause;
-  only_if_full = not_strict;
-}
+entered_refused h = search (rules, adds_refused, not_strict)
 
 -- A part that is declared nowhere is refused as TooLarge.
 pub undeclared_refused : {x : Bool} {p : Showing} {e : Refusal} {a b : Visitor} → (IsDeclared p → ⊥) →
     Refused TooLarge a b e → Entered x p a b (Err e)
-undeclared_refused {e = e} {a = a} {b = b} n h = record {
-  same_reference = h.same_reference;
-  same_outer = h.same_outer;
-  shown = adds_refused _ e TooLarge _ h.after;
-  cause = h.is_cause;
-  only_if_full = λ i. only_if_full_undeclared a.collector.now b.collector.now e n h.after h.is_cause;
-}
+undeclared_refused n h = search (rules, adds_refused, only_if_full_undeclared)

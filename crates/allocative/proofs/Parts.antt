@@ -17,15 +17,7 @@ pub ruleset levels = (means_not_set, means_set, means_recursive, means_each, mea
 pub ruleset plain_parts = (means_inside, means_unique, means_field, means_both, means_shared, means_same)
 
 -- The lemmas for an implementation that enters parts.
-pub ruleset parts = (
-  visited_as,
-  visited_of_strict,
-  entered_loosely,
-  entered_as,
-  plain_parts,
-  containers,
-  levels,
-)
+pub ruleset parts = (visited_as, visited_of_strict, entered_loosely, entered_as, plain_parts, containers, levels)
 
 -- The lemmas for a type with parameters, of which each case is strict if the parts of that case are.
 pub ruleset strict = (visited_if, strict_always, strict_same, strict_first, strict_second, strict_both)

@@ -1,15 +1,14 @@
 -- What a visit by a root visitor amounts to.
-use Rattle.std.proofs.Common.{◌≡◌, ℕ, suc, ◌+◌, ◌<◌, ◌^◌, List, length, take, get_or, Bool, IsTrue, Result, Ok}
-use Rattle.std.proofs.Common.{Err, IsErr, refl, ap, sym, subst, ◌∙◌, arith, IfOk, [], ◌∷◌, ◌++◌, drop, inl, inr}
-use Rattle.allocative.proofs.Common.{Restore, Refusal, Forest, followed_by, add_all, held, Kind}
+use Rattle.std.proofs.Common.{◌≡◌, ℕ, suc, ◌+◌, ◌<◌, List, length, take, get_or, Bool, IsTrue, Result, Ok}
+use Rattle.std.proofs.Common.{Err, IsErr, refl, ap, sym, ◌∙◌, arith, IfOk, [], ◌∷◌, ◌++◌, drop, inl, inr}
+use Rattle.allocative.proofs.Common.{Restore, Refusal, Forest, followed_by, add_all, Kind}
 use Rattle.allocative.proofs.Common.{OfGraph, OfSum, State, Failed, Going, leave, plus, Takes, visitors, is_graph}
 use Rattle.allocative.proofs.Common.{begin, outer_of, close_entry, nothing_held, Showing, Both, each_shows, AddsForest}
 use Rattle.allocative.proofs.Common.{refused, hidden, forgotten, OpensRoot, Settles, VisitsRoot, Profile, IsProfileOf}
 use Rattle.allocative.proofs.Common.{MayRefuse, FailsOnlyIfFull, has_added, has_refused, RootFailsOnlyIfFull}
-use Rattle.allocative.proofs.Common.{all_bytes, HasRoomFor, CanTake, Memory, TooLarge}
+use Rattle.allocative.proofs.Common.{HasRoomFor, CanTake, Memory, TooLarge}
 use Rattle.allocative_graph.specs.declared.refusal.Refusal.TheVariants.{Open}
 use Rattle.allocative_graph.specs.Collector.{Summing, nothing_owned}
-use Rattle.allocative_graph.specs.Owned.{owned}
 use Rattle.allocative.specs.SizeOf.{AnswersVisitOf, MayRefuseHeld, MayRefuseOwned}
 use Rattle.allocative.specs.Strict.{CanBeProfiled, MayRefuseProfile}
 use Rattle.allocative.proofs.Visits.{err_or, same_err}
@@ -31,6 +30,7 @@ use Rattle.allocative_graph.proofs.Showings.{all_is_meaning, reaches_exactly, on
 use Rattle.allocative.specs.Kinds.{as_graph}
 use Rattle.std.specs.List.{list_all}
 use Rattle.std.proofs.lemmas.Bool.{false≢true}
+use Rattle.std.proofs.lemmas.Grind.{common_steps}
 use Rattle.std.proofs.lemmas.List.{take_more}
 use Rattle.std.proofs.lemmas.List.Sums.{AllPass-from_list_all}
 
@@ -59,13 +59,12 @@ visits_going : {p : Showing} (b : Kind) {c : State} {r : Result Unit Refusal} (q
 visits_going b q h here refused k = rw k (h, refl)
 visits_going b q h here hidden k = rw k (h, refl)
 visits_going b (Err x) h here (forgotten {c = c} j l) k =
-    (k.0, k.1, (λ n. absurd (n h)), is_graph-leave (outer_of 0 b) c ∙ j ∙ is_graph-begin b)
+    grind (arith, is_graph-leave (outer_of 0 b) c, is_graph-begin b)
 visits_going b (Ok u) h here (forgotten {c = c} j l) k =
-    let left = leave (outer_of 0 b) c in
-    absurd (omega (arith, visitors-begin b h, closed-visitors left k, visitors-leave (outer_of 0 b) c, l))
+    let left = closed-visitors (leave (outer_of 0 b) c) k in
+    absurd (omega (arith, visitors-begin b h, left, visitors-leave (outer_of 0 b) c, l))
 visits_going b (Err x) h here (added {c = c} f p t g) k =
-    let same = is_graph-leave (outer_of 0 b) c ∙ ap is_graph g ∙ is_graph-plus (begin b) f ∙ is_graph-begin b in
-    (k.0, k.1, (λ n. absurd (n h)), same)
+    grind (arith, is_graph-leave (outer_of 0 b) c, is_graph-plus (begin b) f, is_graph-begin b)
 visits_going b (Ok u) h here (added f p t g) k = (k, f, p, takes_begin b f t, cc (out_of_begin b f here))
 
 -- A strict visit that was opened by a root visitor leaves its collector closed, or failed with what it returned.
@@ -151,18 +150,11 @@ visit_refused v is closed up h i = rw (same_err _ h i) (visit_answered v is clos
 -- ---- the collector of a builder
 -- What a contract of a builder sees, it sees as it is.
 pub as_graph-as_graph : (c : State) → as_graph (as_graph c) ≡ as_graph c
-as_graph-as_graph (Failed q) = refl
-as_graph-as_graph (Going (OfGraph c)) = refl
-as_graph-as_graph (Going (OfSum a)) = refl
+as_graph-as_graph c = grind (arith, common_steps)
 
 -- A visit of a root keeps the collector of a builder one of a flame graph.
 pub graph_kept : (p : Showing) (c t : State) (r : Result Unit Refusal) → VisitsRoot p (as_graph c) r t → as_graph t ≡ t
-graph_kept p (Failed q) t r v = ap as_graph v.1 ∙ sym v.1
-graph_kept p (Going (OfSum a)) t r v = ap as_graph v.1 ∙ sym v.1
-graph_kept p (Going (OfGraph c)) (Failed q) r v = refl
-graph_kept p (Going (OfGraph c)) (Going (OfGraph d)) r v = refl
-graph_kept p (Going (OfGraph c)) (Going (OfSum d)) (Ok u) v = absurd (false≢true (ap is_graph v.4))
-graph_kept p (Going (OfGraph c)) (Going (OfSum d)) (Err e) v = absurd (false≢true v.3)
+graph_kept p c t r v = grind (arith, common_steps)
 
 -- A visit by a root visitor of a builder's collector is a visit of a root of the builder.
 pub built_visits : {x : Bool} {p : Showing} {effect : Effect} (c : State) {t : State} {r : Result Unit Refusal} →
@@ -196,8 +188,7 @@ visits_one_more p xs i x s m t u v w f g h e =
 -- ---- a root that is refused after others
 -- Entries that are added with a root visitor open take as much room as without it.
 room_begun : (b : Kind) (f g : Forest) → HasRoomFor (plus (begin b) f) g → HasRoomFor (begin (plus b f)) g
-room_begun (OfGraph c) f g h = subst (λ (n : ℕ). n + all_bytes g < 2 ^ 63)
-    (bytes_entered-plus (go [] c) f ∙ sym (bytes_entered-plus c f)) h
+room_begun (OfGraph c) f g h = omega (arith, h, bytes_entered-plus (go [] c) f, bytes_entered-plus c f)
 room_begun (OfSum s) f g h = h
 
 -- A root that is refused may be refused as one of all roots. What is strict of all is strict of it.
@@ -278,13 +269,8 @@ pub ruleset rooted = (not_begun, by_root)
 -- The rules for visits by a root visitor, also of the collector of a builder.
 pub ruleset by_root_visitor = (root_visited, root_strict, as_graph-as_graph, built_visits, built_strict)
 
+-- Why a profile or a sum is refused.
+pub ruleset refused_rightly = (profile_refused, held_refused, owned_refused)
+
 -- The rules for visits of roots.
-pub ruleset running = (
-  visits_one_more,
-  profile_ended,
-  sum_of_profiles,
-  profile_refused,
-  held_refused,
-  owned_refused,
-  by_root_visitor,
-)
+pub ruleset running = (visits_one_more, profile_ended, sum_of_profiles, refused_rightly, by_root_visitor)

@@ -1,6 +1,6 @@
 -- How a loop over an iterator shows one more item, and what a whole run of it shows.
 use Rattle.std.proofs.Common.{Bool, false, true, ℕ, zero, suc, codes, ◌+◌, ◌*◌, ◌<◌, ◌^◌, length, drop, filter_map}
-use Rattle.std.proofs.Common.{arith, ◌⊎◌, inl, inr, List, [], ◌∷◌, ◌++◌, map, ◌≡◌, Option, None}
+use Rattle.std.proofs.Common.{rules, arith, ◌⊎◌, inl, inr, List, [], ◌∷◌, ◌++◌, map, ◌≡◌, Option, None}
 use Rattle.std.proofs.Common.{Some, Result, Ok, Err, IfErr, refl, sym, ◌∙◌, ap, subst}
 use Rattle.allocative.proofs.Common.{Restore, Yields, Refusal, Key, Forest, Kind, State, Showing, Nothing, Both}
 use Rattle.allocative.proofs.Common.{Inside, Field, each_shows, slice_shows, OpensEntry, checked, size_product}
@@ -17,13 +17,13 @@ use Rattle.std.specs.List.{All}
 use Rattle.slab.specs.Slab.{entries_from}
 use Rattle.allocative.specs.Runs.{RefusesAlong, RefusesCounted, CanCount, IsOfRun}
 use Rattle.allocative.proofs.Meaning.{entered_if, entered_as, entered_both, entered_passed, loosely, strict_never}
-use Rattle.allocative.proofs.Meaning.{strict_same}
+use Rattle.allocative.proofs.Meaning.{strict_same, means_same}
 use Rattle.allocative.specs.Making.{EntersRun, EntersData, MakesPlanOrGives, Done, first_refused, first_entered}
 use Rattle.allocative.proofs.Strict.{declared_nothing, declared_first, declared_second, declared_both, declared_append}
 use Rattle.allocative.proofs.Strict.{each_append, each_one, entry_fits, not_strict, only_if_full_as, only_if_full_within}
 use Rattle.allocative.proofs.Strict.{only_if_full_not_within, around_item, none_of_it}
 use Rattle.allocative.proofs.Visits.{adds_entry, adds_weaker, entry_err, close_cause, not_entered, not_entered_cause}
-use Rattle.allocative.proofs.Making.{entered_at, gives_within, gives_refused}
+use Rattle.allocative.proofs.Making.{gives_within, gives_refused}
 use Rattle.allocative.proofs.ContainerMeaning.{plain_slice, slice_is_each, entry_declared, checked_fits}
 
 -- Items in two runs are the items one after another.
@@ -102,25 +102,22 @@ entered_within : {p : Showing} {k : Key} {n : ℕ} {o : Restore} {a b : Visitor}
     OpensEntry false k (Some n) a.collector.now (Ok o) t → Entered false p (with_state a t) b r →
     ClosesEntry o b.collector.now d → Entered false (Inside k n p) a (with_state b d) r
 entered_within {p = p} {k = k} {n = n} {r = r} g h l =
-    let left = left_within {p = p} {k = k} {n = n} r g h.shown h.cause l in record {
-      same_reference = h.same_reference;
-      same_outer = h.same_outer;
-      shown = left.0;
-      cause = left.1;
-      only_if_full = not_strict;
-    }
+    let left = left_within {p = p} {k = k} {n = n} r g h.shown h.cause l in search (rules, not_strict)
 
 -- The entry `data` was refused.
 pub data_refused : {S A B : Type 0} {e : Bool} {steps : S → Option A → S → Type 0} {s : S} {v : A → B} {p : B → Showing}
     {a : Visitor} {t : State} {x : Refusal} {r : Result (Unit {0}) Refusal} →
     r ≡ Err x → OpensEntry false (codes "data") (Some 8) a.collector.now (Err x) t →
     EntersData e steps s v p a (with_state a t) r
-data_refused is g = rw is (record {
-  entered = entered_at (not_entered g) (not_entered_cause g) not_strict;
-  only_if_full = record { along = λ i ys y. only_if_full_not_within g };
-  first = first_refused g;
-  plan = gives_refused g;
-})
+data_refused is g = rw is (search (
+  rules,
+  not_entered,
+  not_entered_cause,
+  not_strict,
+  only_if_full_not_within,
+  first_refused,
+  gives_refused,
+))
 
 -- The entry `data` was made, the items of a run were entered inside it, and it was left.
 pub data_entered : {S A B : Type 0} {e : Bool} {steps : S → Option A → S → Type 0} {s : S} {v : A → B} {p : B → Showing}
@@ -130,12 +127,11 @@ pub data_entered : {S A B : Type 0} {e : Bool} {steps : S → Option A → S →
     RefusesAlong e steps s v (each_shows p) (with_state a t) b r →
     MakesPlanOrGives steps s Done (with_state a t) b r → ClosesEntry o b.collector.now d →
     EntersData e steps s v p a (with_state b d) r
-data_entered g h f m l = record {
-  entered = entered_within g h l;
-  only_if_full = record { along = λ i ys y. only_if_full_within g (f.along i ys y) l };
-  first = first_entered g;
-  plan = gives_within g m l;
-}
+data_entered {e = e} {steps = steps} {s = s} {v = v} {p = p} {a = a} {b = b} {d = d} {r = r} g h f m l =
+    let inside = entered_within g h l in
+    let along : RefusesAlong e steps s v (λ xs. Inside (codes "data") 8 (each_shows p xs)) a (with_state b d) r =
+    record { along = λ i ys y. only_if_full_within g (f.along i ys y) l } in
+    search (rules, first_entered, gives_within)
 
 -- ---- for callers: when the run is known
 -- If every run gives the same list, what was entered of some run was entered of that list.
@@ -143,14 +139,10 @@ pub entered_list : {S A B : Type 0} {d e : Bool} {steps : S → Option A → S �
     {q : List B → Showing} {all : List B} {a b : Visitor} {r : Result (Unit {0}) Refusal} →
     YieldsList steps v s all → Entered e (IsOfRun steps s v q) a b r → RefusesAlong d steps s v q a b r →
     Entered d (q all) a b r
-entered_list {steps = steps} {s = s} {v = v} {q = q} {all = all} y h k = record {
-  same_reference = h.same_reference;
-  same_outer = h.same_outer;
-  shown = adds_weaker
-      (λ f (o : IsOfRun steps s v q f). subst (λ ys. q ys f) (same_items o.given o.drained y) o.shown) h.shown;
-  cause = h.cause;
-  only_if_full = λ i. k.along i all y.runs;
-}
+entered_list {steps = steps} {s = s} {v = v} {q = q} {all = all} y h k =
+    let up : (f : Forest) → IsOfRun steps s v q f → q all f =
+    λ f o. subst (λ ys. q ys f) (same_items o.given o.drained y) o.shown in
+    search (rules, adds_weaker)
 
 -- If items are declared in some order, they are declared in their own order.
 any_order_declared : {B : Type 0} (p : B → Showing) (xs : List B) → IsDeclared (in_any_order p xs) →
@@ -206,12 +198,9 @@ pub items_run : {S A T : Type 0} {e : Bool} {steps : S → Option A → S → Ty
     (size : Option ℕ) (needs_drop : Bool) (p : T → Showing) {a b : Visitor} {r : Result (Unit {0}) Refusal} →
     are_shown_each needs_drop size ≡ true → Entered e (IsOfRun steps s v (each_shows p)) a b r →
     Entered false (IsOfRun steps s v (slice_shows name size needs_drop p)) a b r
-items_run {steps = steps} {s = s} v name size needs_drop p e h =
-    entered_if h strict_never (loosely (λ f (o : IsOfRun steps s v (each_shows p) f). record {
-      given = o.given;
-      drained = o.drained;
-      shown = subst (λ q. q f) (slice_is_each name size needs_drop p (map v o.given) e) o.shown;
-    }))
+items_run {steps = steps} {s = s} v name size needs_drop p {a = a} {b = b} {r = r} e h =
+    subst (λ q. Entered false (IsOfRun steps s v q) a b r) (λ i xs. slice_is_each name size needs_drop p xs e i)
+    (entered_if h strict_never means_same)
 
 -- ---- what a counted slice refuses
 -- If a product fits a word, so does its second factor, provided that it does when the first is 0.

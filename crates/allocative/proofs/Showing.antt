@@ -21,10 +21,10 @@ pub ruleset shown_refused = (entry_err, not_entered, not_shared, not_entered_cau
 pub ruleset shown_nothing = (adds_hidden, adds_forgotten, refuses_entry)
 
 -- What is refused only if it must be.
-pub ruleset strict_shown = (not_strict, only_if_full_nothing, only_if_full_within, only_if_full_field)
+pub ruleset strict_shown = (only_if_full_nothing, only_if_full_within, only_if_full_field, first_true, second_true)
 
--- What is refused only if it must be, if an entry is refused.
-pub ruleset strict_refused = (only_if_full_not_within, only_if_full_not_field, only_if_full_not_shared)
+-- What is refused only if it must be, if a visit need not be strict or an entry is refused.
+pub ruleset strict_refused = (not_strict, only_if_full_not_within, only_if_full_not_field, only_if_full_not_shared)
 
 -- What is refused only if it must be, for a shared value and of one visit after another.
 pub ruleset strict_both = (only_if_full_again, only_if_full_first, only_if_full_both, only_if_full_failed)
@@ -36,15 +36,4 @@ pub ruleset made = (first_refused, first_entered, makes_within, entry_refused, m
 pub ruleset made_over = (gives_within, gives_refused, makes_keeps, kept_after, only_if_full_refused)
 
 -- What is shown, what is refused only if it must be, and which entries are made.
-pub ruleset showing = (
-  shown,
-  shown_refused,
-  shown_nothing,
-  strict_shown,
-  strict_refused,
-  strict_both,
-  first_true,
-  second_true,
-  made,
-  made_over,
-)
+pub ruleset showing = (shown, shown_refused, shown_nothing, strict_shown, strict_refused, strict_both, made, made_over)

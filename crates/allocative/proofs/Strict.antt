@@ -81,26 +81,16 @@ words_both o (Again k n i after) g h = words_both o after g h
 
 -- What is added first has room, and what comes after it has room then.
 room_apart : (b : Kind) (f g : Forest) → HasRoomFor b (followed_by f g) → HasRoomFor b f × HasRoomFor (plus b f) g
-room_apart (OfGraph c) f g h =
-    (omega (arith, h, all_bytes-following f g), omega (arith, h, all_bytes-following f g, bytes_entered-plus c f))
-room_apart (OfSum s) f g (h, l) =
-    let sum = forest_bytes-following s.figure f g in
-    let w = words_both s.open_visitors f g l in
-    ((omega (arith, h, sum), w.0), (omega (arith, h, sum), w.1))
+room_apart (OfGraph c) f g h = grind (arith, all_bytes-following f g, bytes_entered-plus c f)
+room_apart (OfSum s) f g h = grind (arith, forest_bytes-following s.figure f g, words_both s.open_visitors f g)
 
 -- An entry's bytes fit a word, it has room, and so has then what is inside it.
 room_within : (u : Bool) (k : Key) (n : ℕ) (b : Kind) (f : Forest) → HasRoomFor b (entry_of u k n f) →
     (n < 2 ^ 64) × HasRoom u n b × HasRoomFor (enter u k n b) f
-room_within true k n (OfGraph c) f h =
-    (omega (arith, h), omega (arith, h), omega (arith, h, bytes_entered-plus c (Unique k n Empty Empty)))
-room_within false k n (OfGraph c) f h =
-    (omega (arith, h), omega (arith, h), omega (arith, h, bytes_entered-plus c (Inline k n Empty Empty)))
-room_within true k n (OfSum s) f (h, l) =
-    let sum = forest_bytes-entry s.figure true k n f in
-    (l.0, (omega (arith, h, sum), l.1), (omega (arith, h, sum), l.2))
-room_within false k n (OfSum s) f (h, l) =
-    let sum = forest_bytes-entry s.figure false k n f in
-    (l.0, (omega (arith, h, sum), l.1), (omega (arith, h, sum), l.2))
+room_within true k n (OfGraph c) f h = grind (arith, bytes_entered-plus c (Unique k n Empty Empty))
+room_within false k n (OfGraph c) f h = grind (arith, bytes_entered-plus c (Inline k n Empty Empty))
+room_within true k n (OfSum s) f h = grind (arith, forest_bytes-entry s.figure true k n f)
+room_within false k n (OfSum s) f h = grind (arith, forest_bytes-entry s.figure false k n f)
 
 -- ---- contents
 -- What holds in front of a pair holds in front of its first part.

@@ -1,9 +1,9 @@
 -- How visits compose: one after another, and inside an entry.
-use Rattle.std.proofs.Common.{Bool, true, false, inl, inr, Option, ◌≡◌, ℕ, suc, Result, Ok, Err, refl, sym, ◌∙◌}
+use Rattle.std.proofs.Common.{Bool, true, false, inl, inr, Option, ◌≡◌, ℕ, Result, Ok, Err, refl, sym, ◌∙◌}
 use Rattle.std.proofs.Common.{IsErr, ap, subst, arith, Some, None}
 use Rattle.allocative.proofs.Common.{Restore, Refusal, Key, Identity, Forest, Empty, First, Again, followed_by}
-use Rattle.allocative.proofs.Common.{entry_of, Live, Kind, OfGraph, State, Failed, Going, enter, enter_first, plus}
-use Rattle.allocative.proofs.Common.{Takes, is_graph, visitors, outer_of, failed_with, close_entry, Showing, Nothing}
+use Rattle.allocative.proofs.Common.{entry_of, Live, Kind, OfGraph, State, Failed, Going, enter, enter_first}
+use Rattle.allocative.proofs.Common.{outer_of, failed_with, close_entry, Showing, Nothing}
 use Rattle.allocative.proofs.Common.{Both, InsideAs, Field, sized, Shared, AddsForest, already, refused}
 use Rattle.allocative.proofs.Common.{hidden, forgotten, HasFailed, OpensEntry, stays_failed, is_refused, is_entered}
 use Rattle.allocative.proofs.Common.{OpensShared, stays_shared, is_refused_shared, enters_first, enters_again}
@@ -40,16 +40,13 @@ adds_both (forgotten i h) refused = refused
 adds_both (forgotten i h) hidden = hidden
 adds_both (forgotten i h) (forgotten j k) = forgotten (j ∙ i) (omega arith)
 adds_both (forgotten {c = c} i h) (added g p t e) =
-    let d = ap visitors e ∙ visitors-plus c g in
-    forgotten (ap is_graph e ∙ is_graph-plus c g ∙ i) (omega (arith, d))
+    forgotten (grind (arith, is_graph-plus c g)) (grind (arith, visitors-plus c g))
 adds_both (added f p t e) refused = refused
 adds_both (added f p t e) hidden = hidden
 adds_both (added {b = b} f p t e) (forgotten j k) =
-    let d = ap visitors e ∙ visitors-plus b f in
-    forgotten (j ∙ ap is_graph e ∙ is_graph-plus b f) (omega (arith, d))
+    forgotten (grind (arith, is_graph-plus b f)) (grind (arith, visitors-plus b f))
 adds_both (added {b = b} f p t e) (added {c = c} g q s k) =
-    let s' : Takes (plus b f) g = subst (λ (x : Kind). Takes x g) e s in
-    added (followed_by f g) (f, g, p, q, refl) (takes_both b f g t s') (cc (plus-following b f g))
+    added (followed_by f g) (f, g, p, q, refl) (takes_both b f g t (rw e at s)) (cc (plus-following b f g))
 
 -- After an Err nothing more is stated.
 pub adds_err : {p q : Showing} {a b : State} {e : Refusal} → AddsForest p a (Err e) b → AddsForest q a (Err e) b
@@ -68,12 +65,10 @@ out_of : {p : Showing} (u : Bool) (k : Key) (n : ℕ) (b d : Kind) → d ≡ ent
     AddsForest p (Going d) (Ok v) c → AddsForest (InsideAs u k n p) (Going b) (Ok w) (close_entry (outer_of n b) c)
 out_of u k n b d i w hidden = hidden
 out_of u k n b d i w (forgotten {c = c} j h) =
-    let e : visitors d ≡ suc (visitors b) = ap visitors i ∙ visitors-enter u k n b in
-    let g = visitors-leave (outer_of n b) c in
-    forgotten (is_graph-leave (outer_of n b) c ∙ j ∙ ap is_graph i ∙ is_graph-enter u k n b) (omega (arith, e, g, h))
+    forgotten (grind (arith, is_graph-leave (outer_of n b) c, is_graph-enter u k n b))
+    (grind (arith, visitors-enter u k n b, visitors-leave (outer_of n b) c))
 out_of u k n b d i w (added {c = c} f q t e) =
-    let t' : Takes (enter u k n b) f = subst (λ (x : Kind). Takes x f) i t in
-    added (entry_of u k n f) (f, q, refl) (takes_entry u k n b f t') (cc (inside_entry u k n b f))
+    added (entry_of u k n f) (f, q, refl) (takes_entry u k n b f (rw i at t)) (cc (inside_entry u k n b f))
 
 -- An entry shows what is shown inside it, from the opening, the visit and the closing, if the closing restores what
 -- the opening returned.
@@ -99,12 +94,9 @@ out_of_first : {p : Showing} (k : Key) (n : ℕ) (i : Identity) (b d : Live) →
     AddsForest (Shared k n i p) (Going (OfGraph b)) (Ok w) (close_entry o c)
 out_of_first k n i b d h e o w hidden = hidden
 out_of_first k n i b d h e o w (forgotten {c = c} j m) =
-    let f : d.open_visitors ≡ suc b.open_visitors = ap (λ (x : Live). x.open_visitors) e in
-    let g = visitors-leave o c in
-    forgotten (is_graph-leave o c ∙ j) (omega (arith, f, g, m))
+    forgotten (is_graph-leave o c ∙ j) (grind (arith, visitors-leave o c))
 out_of_first k n i b d h e o w (added {c = c} f q t m) =
-    let t' : Takes (OfGraph (enter_first k n i b)) f = subst (λ (x : Live). Takes (OfGraph x) f) e t in
-    added (First k n i f Empty) (inl (f, q, refl)) (takes_shared k n i b f h t') (cc (inside_first k n i b f o))
+    added (First k n i f Empty) (inl (f, q, refl)) (takes_shared k n i b f h (rw e at t)) (cc (inside_first k n i b f o))
 
 -- If a shared entry is opened and its content is not to be shown, the pointer alone is shown.
 pub adds_again : {p : Showing} {k : Key} {n : ℕ} {i : Identity} {is_first : Bool} {s t : State} {x : Unit} →
@@ -187,8 +179,8 @@ adds_hidden refused = hidden
 -- A visit that opens an entry, never closes it, and returns Ok, has forgotten a visitor.
 pub adds_forgotten : {u : Bool} {q : Showing} {k : Key} {y : Option ℕ} {o : Restore} {s t : State} {v : Unit} →
     OpensEntry u k y s (Ok o) t → AddsForest q s (Ok v) t
-adds_forgotten {u} {k = k} (is_entered {n = n} {b = b} r f e) = let d = ap visitors e ∙ visitors-enter u k n b in
-    forgotten (ap is_graph e ∙ is_graph-enter u k n b) (omega (arith, d))
+adds_forgotten {u} {k = k} (is_entered {n = n} {b = b} r f e) =
+    forgotten (grind (arith, is_graph-enter u k n b)) (grind (arith, visitors-enter u k n b))
 
 -- Closing an entry keeps the cause.
 pub close_cause : {o : Restore} {c d : State} {e : Refusal} → ClosesEntry o c d → HasFailed c e → HasFailed d e
