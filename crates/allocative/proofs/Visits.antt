@@ -96,7 +96,8 @@ out_of_first k n i b d h e o w hidden = hidden
 out_of_first k n i b d h e o w (forgotten {c = c} j m) =
     forgotten (is_graph-leave o c ∙ j) (grind (arith, visitors-leave o c))
 out_of_first k n i b d h e o w (added {c = c} f q t m) =
-    added (First k n i f Empty) (inl (f, q, refl)) (takes_shared k n i b f h (rw e at t)) (cc (inside_first k n i b f o))
+    let t' = rw e at t in
+    added (First k n i f Empty) (inl (f, q, refl)) (takes_shared k n i b f h t') (cc (inside_first k n i b f o))
 
 -- If a shared entry is opened and its content is not to be shown, the pointer alone is shown.
 pub adds_again : {p : Showing} {k : Key} {n : ℕ} {i : Identity} {is_first : Bool} {s t : State} {x : Unit} →

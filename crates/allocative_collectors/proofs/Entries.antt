@@ -5,7 +5,7 @@ use Rattle.allocative_collectors.proofs.Common.{Key, Path, Sum, Listed, put, pat
 use Rattle.allocative_collectors.proofs.Common.{is_same_path, is_one_below, graph, sum_at, row, map_of, size_at_place}
 use Rattle.allocative_collectors.proofs.Common.{sum_by-cons, nat_tests, cond-true, bytes_entered, rows, raise}
 use Rattle.std.proofs.Math.Bool.{or-false}
-use Rattle.std.specs.FinMap.{from_entries, get-from_entries, insert, find}
+use Rattle.std.specs.FinMap.{from_entries, get-from_entries, find}
 use Rattle.std.specs.Option.{option_map}
 use Rattle.allocative_graph.specs.Forest.{Mark, Entry, AsInline, AsUnique}
 use Rattle.allocative_graph.specs.Sums.{Node, together, is_unique_mark}
@@ -222,8 +222,7 @@ below_rows (e ∷ s) apart p =
     ∙ find_none e.path s (λ i h w. (let same : suc i ≡ 0 = apart (suc i) 0 (omega arith) (omega arith) w in
     omega arith)) in
     let added : from_entries (map row (e ∷ s)) ≡ bag.add (from_entries (map row s)) entry =
-    λ j. insert (from_entries (map row s)) e.path
-    (together (sym none j) (record { bytes = e.bytes; is_unique = sym (mark_is e.is_unique) j })) in
+    rw (none, mark_is e.is_unique) refl in
     let rest = below_rows s (tail_distinct e s apart) p in
     ap (λ (m : Sums). bag.below m p) added ∙ (below-add (from_entries (map row s)) entry p
     ∙ omega (arith, sum_by-cons (λ (x : Sum). cond (is_one_below p x.path) x.bytes 0) e s))

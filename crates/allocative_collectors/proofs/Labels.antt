@@ -55,8 +55,7 @@ pub grow_push : (ps : List Path) (ns : List Node) (n : Node) →
 grow_push ps [] n = ap (λ (l : List Path). sum_from l n ∷ []) (sym (append-nil ps))
 grow_push ps (m ∷ ns) n =
     let p = path_of (sum_from ps m) in
-    ap (λ (t : Listed). sum_from ps m ∷ t) (grow_push (ps ++ p ∷ []) ns n
-    ∙ ap (λ (l : List Path). grow (ps ++ p ∷ []) ns ++ sum_from l n ∷ []) (append_assoc ps (p ∷ []) _))
+    rw (grow_push (ps ++ p ∷ []) ns n, append_assoc ps (p ∷ []) (map path_of (grow (ps ++ p ∷ []) ns))) refl
 
 -- an entry at a node, which becomes m, is one at its place
 pub grow_set : (ps : List Path) (ns : List Node) (i : ℕ) (m : Node) (q : Path) (n : ℕ) (u : Bool) → i < length ns →
@@ -87,9 +86,8 @@ module _ (ns : List Node) {cs : List (List ℕ)} (ok : IsArena ns cs) where
   pub step : (i : ℕ) → 0 < i → i < length ns →
       path_at (sums ns) i ≡ path_at (sums ns) (parent_at ns i) ++ key_at ns i ∷ []
   step i pos h =
-      path-grow [] ns i h (omega arith) (omega (arith, ok.parents i pos h))
-      ∙ ap (λ (p : Path). p ++ key_at ns i ∷ [])
-      (get_or-map path_of (sums ns) (parent_at ns i) root_sum [] (omega (arith, length_sums ns)))
+      let above = get_or-map path_of (sums ns) (parent_at ns i) root_sum [] (omega (arith, length_sums ns)) in
+      path-grow [] ns i h (omega arith) (omega (arith, ok.parents i pos h)) ∙ rw above refl
 
   -- the key at a child's place
   pub key_place : (p i : ℕ) (c : IsChild ns p i) →

@@ -1,14 +1,14 @@
 -- What the walk of `build_graph` has passed behind a node's path, child by child: the rows of the map, and the graph
 -- that it has made.
 use Rattle.std.proofs.Common.{◌≡◌, ◌≢◌, ℕ, zero, suc, ◌<◌, ◌≤◌, Bool, true, false, cond, T, ◌||◌, List, [], ◌∷◌}
-use Rattle.std.proofs.Common.{◌++◌, length, Option, Some, None, refl, sym, ap, subst, ◌∙◌, arith, true≢false}
+use Rattle.std.proofs.Common.{◌++◌, length, Option, Some, None, refl, sym, ap, ◌∙◌, arith, true≢false}
 use Rattle.std.proofs.Common.{append_assoc, ◌+◌, map, flat_map, get_or, sum_by, append-nil}
-use Rattle.allocative_collectors.proofs.Common.{Ordering, Less, is_eq, is_lt, Key, Path, key_cmp, path_cmp, key_in}
+use Rattle.allocative_collectors.proofs.Common.{Less, is_eq, is_lt, Key, Path, key_cmp, path_cmp, key_in}
 use Rattle.allocative_collectors.proofs.Common.{KeysRise, is_same_path, is_one_below, Sums, Graph, graph, sum_of, under}
 use Rattle.allocative_collectors.proofs.Common.{default, add_self, get, entries, sums, IsTree, Listed, row, sum_at}
 use Rattle.allocative_collectors.proofs.Common.{path_at, map_of, below, bytes_entered, children_at, keys_at, IsArena}
 use Rattle.allocative_collectors.proofs.Common.{key_at, no_node, size_at_place, get_or-map, get_or_default}
-use Rattle.allocative_collectors.proofs.Common.{ordering_reverse, tied_itself, MakesPart, MakesGraph, rows_behind}
+use Rattle.allocative_collectors.proofs.Common.{tied_itself, MakesPart, MakesGraph, rows_behind}
 use Rattle.allocative_collectors.proofs.Common.{is_short, tied_then, flat_map-append, sum_by-cons, ComesLast, numbers}
 use Rattle.allocative_collectors.proofs.Common.{Children, nat_tests, common_steps, length-map, filter, cond_both}
 use Rattle.std.specs.FinMap.{FinMap, entries_sorted, find, get-entries, get-insert}
@@ -100,7 +100,7 @@ module _ (ks : List Key) (rise : KeysRise ks) (j : ℕ) (hj : j < length ks) whe
 -- ---- rows in the order of paths
 -- If p comes before q, q does not come before p.
 not_before : (p q : Path) → path_cmp p q ≡ Less → T (is_lt (path_cmp q p)) → ⊥
-not_before p q less h = subst (λ (o : Ordering). T (is_lt o)) (path_total.antisymm q p ∙ ap ordering_reverse less) h
+not_before p q less h = grind (arith, path_total.antisymm q p)
 
 module _ {X : Type 0} where
   abbrev kept : (Path → Bool) → List (Path × X) → List (Path × X)
@@ -264,7 +264,7 @@ module _ (s : Listed) (ok : IsListing s) where
       }
         where
           child : MakesPart s (p ++ k ∷ []) (λ r. true) w' w'' d
-          child = subst (λ (q : Path). MakesPart s q (λ r. true) w' w'' d) there made
+          child = rw (← there) made
 
           by : (q : Path) → sizes_together (get g q) (get (under k d) q)
               ≡ cond (begun ks (suc j) q) (get (graph (map_of s)) (p ++ q)) None

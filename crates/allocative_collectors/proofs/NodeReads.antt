@@ -1,5 +1,5 @@
 -- What a read of a node says of the arena and the sums, and what a search among its children says.
-use Rattle.std.proofs.Common.{◌≡◌, ◌≢◌, ℕ, zero, suc, ◌<◌, false, List, [], ◌∷◌, ◌++◌, length, sym, ap, subst, ◌∙◌}
+use Rattle.std.proofs.Common.{◌≡◌, ◌≢◌, ℕ, zero, suc, ◌<◌, false, List, [], ◌∷◌, ◌++◌, length, sym, ap, ◌∙◌}
 use Rattle.std.proofs.Common.{rules, arith, refl, append_assoc, map, Bool, not, get_or, sum_by, cond, ltb, sum, lt-ltb, ◌+◌}
 use Rattle.std.proofs.Common.{◌≤◌, ◌||◌, set, length-set, get_or-set_same, get_or-set_other}
 use Rattle.allocative_collectors.proofs.Common.{nat_tests, common_steps, Key, Path, path_at, IsEntered, Listed}
@@ -16,7 +16,7 @@ use Rattle.allocative_collectors.proofs.Entries.{put_nothing, raise_nothing, IsL
 use Rattle.allocative_collectors.proofs.Entries.{get_at, found_fits}
 use Rattle.allocative_collectors.proofs.Labels.{path_of, path_from-some, grow_push, grow_set, put_push, length_sums}
 use Rattle.allocative_collectors.proofs.Labels.{not_nil, root_at, step, key_place, distinct, figures-grow}
-use Rattle.allocative_collectors.proofs.Grown.{grown, arena_set, arena_grown, with_child}
+use Rattle.allocative_collectors.proofs.Grown.{grown, arena_set, arena_grown}
 use Rattle.std.specs.FinMap.{get-entries}
 use Rattle.std.proofs.lemmas.List.Sums.{sum_by-set, sum_by-le, sum-map}
 use Rattle.std.proofs.lemmas.List.Elements.{All-contains, All-weaker}
@@ -159,8 +159,7 @@ module _ (ns : List Node) {cs : List (List ℕ)} (ok : IsArena ns cs) (i : ℕ) 
       grind (arith, here, c.parent, same_path-same (path_at (sums ns) i) (path_at (sums ns) i))
 
   part_other : (j : ℕ) → j < length ns → (IsChild ns i j → ⊥) → part (sum_at (sums ns) j) ≡ 0
-  part_other zero h not = ap (λ (b : Bool). cond b (sum_at (sums ns) 0).bytes 0)
-      (ap (is_one_below (path_at (sums ns) i)) (root_at ns) ∙ not_below_root (path_at (sums ns) i))
+  part_other zero h not = rw (root_at ns, not_below_root (path_at (sums ns) i)) refl
   part_other (suc j) h not =
       part_is (suc j) (omega arith) h
       ∙ cond-false _ _ _ (same_path-apart _ _ (λ s.
@@ -215,7 +214,7 @@ tree_of items lists ok = let n = length-map lists numbers in let m = ok.lists in
 pub same_lists : {items : List Node} {lists : List Children} → IsTree items lists → (i : ℕ) (c d : Children) →
     c ≡ get_or lists i c → numbers d ≡ numbers c → IsTree items (set lists i d)
 same_lists {items} {lists} ok i c d read same = tree_of items (set lists i d)
-    (subst (IsArena items) (sym (map-set_same numbers lists i d c (same ∙ ap numbers read))) ok.arena)
+    (rw (map-set_same numbers lists i d c (same ∙ ap numbers read)) ok.arena)
 
 -- A node without its guesses.
 abbrev plain : Node → Node
@@ -243,7 +242,7 @@ module _ {items : List Node} {lists : List Children}
     (ok : IsTree items lists) {v : Listed} (view : sums items ≡ v) where
   -- The sums of a tree are a listing.
   pub listing_of : IsListing v
-  listing_of = subst IsListing view (listing items ok.arena)
+  listing_of = rw (← view) (listing items ok.arena)
 
   module _ (i : ℕ) (h : i < length v) where
     -- a place of the sums is that of a list
@@ -267,9 +266,8 @@ module _ {items : List Node} {lists : List Children}
 
       -- Its nodes have the bytes one key below the path of node i.
       pub listed_bytes : {xs : List ℕ} → xs ≡ numbers c → sum_by (bytes_at ns) xs ≡ below (map_of v) (path_at v i)
-      listed_bytes is = (λ j. sum_by (bytes_at (same j)) ((is ∙ sym (children_read read)) j))
-          ∙ below_is items ok.arena i (in_nodes items i view h)
-          ∙ ap (λ (s : Listed). below (map_of s) (path_at s i)) view
+      listed_bytes is = rw (same, is, ← children_read read, ← view)
+          (below_is items ok.arena i (in_nodes items i view h))
 
       -- A child that was found in it was entered.
       pub found_entered : (k : Key) (a : ℕ) → HasKey ns (numbers c) k a → IsEntered v v i k 0 false a
@@ -286,10 +284,8 @@ module _ {items : List Node} {lists : List Children}
         pub grown_tree : (d : Children) → numbers d ≡ insert (numbers c) g (length items) →
             IsTree (items ++ leaf i k ∷ []) (set lists i d ++ Empty ∷ [])
         grown_tree d is =
-            let made : map numbers (set lists i d ++ Empty ∷ []) ≡ with_child (map numbers lists) i g (length items) =
-            map_push numbers (set lists i d) Empty ∙ (λ j. (map-set numbers lists i d ∙ ap (set (map numbers lists) i)
-            (is ∙ ap (λ (xs : List ℕ). insert xs g (length items)) (sym (children_read read)))) j ++ [] ∷ []) in
-            tree_of _ _ (subst (IsArena (grown items i k)) (sym made)
+            let new = map_push numbers (set lists i d) Empty in
+            tree_of _ _ (rw (new, map-set numbers lists i d, is, ← children_read read)
             (arena_grown items ok.arena i (in_nodes items i view h) k g gap_is))
 
         -- The new node is an entry of 0 bytes.

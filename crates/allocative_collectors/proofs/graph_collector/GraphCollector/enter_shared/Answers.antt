@@ -1,7 +1,6 @@
 -- After a simple entry, an identity that was not met before opens its content at the root.
-use Rattle.std.proofs.Common.{◌≡◌, [], Bool, not, sym, ap, subst, ◌∙◌}
+use Rattle.std.proofs.Common.{[], not, sym, ap, ◌∙◌}
 use Rattle.allocative_collectors.proofs.Common.{contains, Live, go, live}
-use Rattle.std.specs.Bool.{OnFalse}
 use Rattle.std.specs.FinSet.{insert}
 use Rattle.allocative_collectors.proofs.Collect.{gone_in, met_more, met_is}
 use Rattle.allocative_collectors.proofs.graph_collector.GraphCollector.enter_shared.Goals as goal
@@ -11,9 +10,7 @@ returns-then-not-branch-clause-ok c =
     let i = c.self.inside in
     let entered = c.in_ok-enter_simple.ensures.ok in
     let now = c.self.view_is ∙ entered.1 in
-    let same : c.insert.new.self.keys ≡ i.met.keys =
-    subst (λ (b : Bool). OnFalse b (c.insert.new.self.keys ≡ i.met.keys)) c.if-not-branch.true
-    c.in_ok-insert.ensures.unchanged in (
+    let same = rw c.if-not-branch.true at c.in_ok-insert.ensures.unchanged in (
       entered.0,
       (
         sym (ap (λ (v : Live). contains v.met c.args.id) now)

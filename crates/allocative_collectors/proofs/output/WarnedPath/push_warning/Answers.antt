@@ -1,5 +1,5 @@
 -- The warning's pieces, one after another, are its text.
-use Rattle.std.proofs.Common.{◌≡◌, ℕ, List, ◌++◌, MatchResult, append_assoc, subst, ◌∙◌, rules, string_bytes}
+use Rattle.std.proofs.Common.{◌≡◌, append_assoc, ◌∙◌, rules}
 use Rattle.allocative_collectors.proofs.Common.{warning_of, warning_text}
 use Rattle.allocative_graph.specs.Graph.{joined}
 use Rattle.allocative_graph.proofs.Text.{joined_by_semicolons}
@@ -13,6 +13,4 @@ returns c =
     ∙ search rules in
     let whole : c.as_str.result.now ≡ warning_text w =
     rw (c.as_str.ensures.value, c.in_ok-warning.ensures.ok, path) (simp append_assoc) in
-    subst (λ (l : List ℕ). MatchResult c.push_str.result
-    (λ _. string_bytes c.push_str.new.self ≡ string_bytes c.args.text.now ++ l)
-    (λ _. string_bytes c.push_str.new.self ≡ string_bytes c.args.text.now)) whole (search rules)
+    rw (← whole) (search rules)

@@ -1,11 +1,9 @@
 -- The walk from the root has all paths.
-use Rattle.std.proofs.Common.{arith, ◌≡◌, ◌<◌, ◌^◌, true, List, ◌++◌, map, sym, ap, subst, ◌∙◌, flat_map, [], ◌∷◌, refl}
-use Rattle.std.proofs.Common.{append-nil}
-use Rattle.allocative_collectors.proofs.Common.{get, Path, Graph, graph, map_of, warning_of, warning_lines, entries}
-use Rattle.allocative_collectors.proofs.Common.{newline, Sums, below, warning_text, rows_behind, flat_map-append}
-use Rattle.allocative_collectors.proofs.Common.{filter}
+use Rattle.std.proofs.Common.{arith, ◌≡◌, true, List, ◌++◌, map, ap, ◌∙◌, flat_map, [], ◌∷◌, refl, append-nil}
+use Rattle.allocative_collectors.proofs.Common.{get, Path, graph, map_of, warning_of, warning_lines, entries, newline}
+use Rattle.allocative_collectors.proofs.Common.{Sums, below, warning_text, flat_map-append, filter}
 use Rattle.std.specs.FinMap.{same_map}
-use Rattle.allocative_graph.specs.Graph.{total, warned, warning, warning_line, warned_paths}
+use Rattle.allocative_graph.specs.Graph.{warned, warning, warning_line, warned_paths}
 use Rattle.allocative_graph.proofs.Basics.{path_total, path_antisymmetric}
 use Rattle.allocative_collectors.proofs.Made.{part_fits}
 use Rattle.allocative_collectors.proofs.NodeReads.{listing_of}
@@ -35,9 +33,7 @@ returns-clause-made c =
     let root = (listing_of c.self.invariant c.self.view_is).root_path in
     let made = c.in_ok-build_graph.ensures.made in
     let found : map warning_of c.build_graph.new.warned.items ≡ warned_paths (map_of v) =
-    made.warned_are ∙ ((λ j. map warning_of (c.new-warned.ensures.items j)
-    ++ flat_map (warned (map_of v)) (rows_behind v (root j) (λ q. true)))
-    ∙ ap (flat_map (warned (map_of v))) (all_kept (entries (map_of v)))) in (
+    made.warned_are ∙ rw (c.new-warned.ensures.items, root, all_kept (entries (map_of v))) refl in (
       c.in_ok-new.ensures.graph ∙ same_map path_total path_antisymmetric c.build_graph.new.graph (graph (map_of v))
           (λ q. made.graph_is q ∙ ap (λ (p : Path). get (graph (map_of v)) (p ++ q)) root),
       c.in_ok-new.ensures.warnings ∙ (ap warning_lines found ∙ lines_of (map_of v) (entries (map_of v))),
@@ -46,6 +42,4 @@ returns-clause-made c =
 
 pub returns-clause-total : goal.returns-clause-total
 returns-clause-total c =
-    let small : total c.build_graph.new.graph < 2 ^ 63 =
-    omega (arith, part_fits c.in_ok-build_graph.ensures.made, c.requires) in
-    subst (λ (g : Graph). total g < 2 ^ 63) (sym c.in_ok-new.ensures.graph) small
+    rw c.in_ok-new.ensures.graph (omega (arith, part_fits c.in_ok-build_graph.ensures.made, c.requires))
