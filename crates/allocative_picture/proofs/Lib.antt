@@ -4,10 +4,9 @@ pub mod Starting
 pub mod Placing
 pub mod Geometry
 pub mod Marking
+pub mod Walking
 pub mod Viewing
 pub mod Heaviest
-pub mod Reversing
-pub mod Choosing
 pub mod Growing
 pub mod Guiding
 pub mod Folding

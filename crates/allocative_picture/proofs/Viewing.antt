@@ -1,83 +1,258 @@
--- Views keep the total, and what is at a last key.
-use Rattle.std.proofs.Common.{◌≡◌, ℕ, zero, suc, ◌+◌, inl, inr, false, cond, List, [], ◌∷◌, ◌++◌}
-use Rattle.std.proofs.Common.{length, sum_by, codes, refl, sym, ap, ◌-◌, ◌∙◌, arith}
-use Rattle.std.proofs.Common.{Equal}
-use Rattle.allocative_picture.proofs.Common.{entries, Child, Path, Graph, total, total_of, is_same_path, key_cmp}
-use Rattle.allocative_picture.proofs.Common.{graph_of_path, fold-append}
-use Rattle.allocative_picture.proofs.Common.{Key, default, size_at, sum_of, under, sum_of_all, ends_in}
-use Rattle.allocative_picture.proofs.Common.{total_of-cons, total-node, total-path}
-use Rattle.allocative_picture.proofs.Common.{size_at-path}
-use Rattle.std.specs.Cmp.{tied_then}
-use Rattle.allocative_graph.proofs.Basics.{and-true}
-use Rattle.allocative_graph.proofs.Graphs.{total-default, total-added_up, size_at-added_up, size_at-sum_of, has-sum_of, sum_of-commutes, sum_of-default}
+-- Views: their totals, the bytes at their paths, and the graphs that are added on the way.
+use Rattle.std.proofs.Common.{◌≡◌, ℕ, zero, suc, ◌+◌, ◌-◌, ◌&&◌, ◌||◌, inl, inr, Bool, true, false, not, cond, T, List, [], ◌∷◌, ◌++◌, reverse}
+use Rattle.std.proofs.Common.{length, map, sum_by, codes, refl, sym, ap, ◌∙◌, arith, Equal, nat_lt, nat_eq, unwrap_or, Bor, Vec, Global}
+use Rattle.std.proofs.Common.{get_or, take, ◌<◌}
+use Rattle.std.specs.Cmp.{tied_then, both_ways}
+use Rattle.std.specs.Cmp.Lexicographic.{pointwise, texts_ties}
+use Rattle.std.specs.List.{starts_with}
+use Rattle.std.proofs.lemmas.Bool.Decides.{nat_tests}
+use Rattle.std.proofs.lemmas.List.{take_more, reverse-append, reverse-reverse}
+use Rattle.std.proofs.lemmas.List.Sorted.{IsPermutation-to_front}
+use Rattle.allocative_picture.proofs.Common.{Path, Sizes, Key, Graph, Child, default, size_at, total, total_of, sum_of, under}
+use Rattle.allocative_picture.proofs.Common.{entries, entries_sorted, get-entries, find, is_sorted, below_all, path_cmp, key_cmp}
+use Rattle.allocative_picture.proofs.Common.{is_same_path, same_path, first, second, texts, begins, list_any, ends_in}
+use Rattle.allocative_picture.proofs.Common.{graph_of_path, total-path, size_at-path, sum_by-cons, fold-append, map-append}
+use Rattle.allocative_picture.proofs.Common.{sum_of_all, total_of-cons, total-node, node, AreChildren}
+use Rattle.allocative_graph.proofs.Basics.{and-true, same_path_itself}
+use Rattle.allocative_graph.proofs.Children.{first_below, others, one_child, merged_same, merged_second, node_of_one}
+use Rattle.allocative_graph.proofs.Graphs.{total-sum_of, size_at-sum_of, size_at-default, total-default, total-all, total-under}
+use Rattle.allocative_graph.proofs.Graphs.{sum_of-commutes, sum_of-associates, sum_of-default, added_up, added_up-onto}
+use Rattle.allocative_graph.proofs.Graphs.{added_up-permuted, total-added_up}
+use Rattle.allocative_graph.proofs.Nodes.{tree-path, node_leaf, added_node, added_sum}
+use Rattle.allocative_graph.proofs.Sums.{find-below_all}
 use Rattle.allocative_graph.specs.Graph.{IsTree}
-use Rattle.std.proofs.lemmas.List.Folds.{list_any-append}
-use Rattle.allocative_graph.proofs.Graphs.{has-added_up, same_graph, get-under, get-under-root}
-use Rattle.allocative_graph.proofs.Nodes.{tree-path, node_leaf}
-use Rattle.allocative_graph.proofs.Children.{get-root, get-under as get-below, none_above, no_children}
-use Rattle.allocative_graph.specs.Representation.Children.{InOrder, size_under}
-use Rattle.allocative_graph.proofs.Basics.{or-false}
-use Rattle.std.specs.FinMap.{get, contains_key}
-use Rattle.std.specs.List.Sorted.{IsStrictlySortedBy}
-use Rattle.std.specs.Ordering.{eq_by_cmp}
-use Rattle.std.proofs.Common.{Bool, true, Option, Some, None, is_some, unwrap_or, ◌||◌}
-use Rattle.allocative_picture.proofs.Common.{list_any, sum_by-append, sum_by-cons}
-use Rattle.allocative_graph.specs.Rows.{under_rows, rows_of, rows_of_child}
-use Rattle.allocative_graph.specs.Representation.NodeRows.{entries-node}
-use Rattle.allocative_picture.proofs.Common.{map-append, node, AreChildren}
-use Rattle.allocative_graph.proofs.Graphs.{total-all, size_at-default, total-sum_of, total-under}
-use Rattle.allocative_picture.specs.Views.{bytes_alone, last_of, by_last_key, by_last_keys, bytes_ending_in, joined, GuidesChild}
-use Rattle.allocative_picture.specs.Views.{HasChildren, InStep, IsOutline}
+use Rattle.allocative_picture.specs.Views.{bytes_alone, moved_onto, last_of, by_last_key, bytes_ending_in, reversed, part, is_within}
+use Rattle.allocative_picture.specs.Views.{only, without, bytes_within, paths_of, joined, GuidesChild, HasChildren, InStep, IsOutline}
 
--- ---- totals
+-- ---- paths that move
+-- A number that counts only if it is not 0 counts.
+counts : (b : Bool) (n : ℕ) → cond (nat_lt 0 n && b) n 0 ≡ cond b n 0
+counts b n = grind (arith, nat_tests)
+
+-- A sum that counts only if a test passes.
+sum_if : (b : Bool) (w : Path × ℕ → ℕ) (es : Sizes) → sum_by (λ e. cond b (w e) 0) es ≡ cond b (sum_by w es) 0
+sum_if true w es = refl
+sum_if false w [] = refl
+sum_if false w (e ∷ es) = omega (arith, sum_by-cons (λ (x : Path × ℕ). 0) e es, sum_if false w es)
+
+module _ (keep : Path × ℕ → Bool) (f : Path → Path) where
+  -- The graph with one entry more.
+  abbrev one_moved : Graph → Path × ℕ → Graph
+  one_moved h e = cond (keep e) (sum_of h (graph_of_path (f e.0) e.1)) h
+
+  -- The bytes that e adds at the path p.
+  abbrev added_at : Path → Path × ℕ → ℕ
+  added_at p e = cond (keep e) (cond (is_same_path p (f e.0)) e.1 0) 0
+
+  -- Entries are added one list after the other.
+  pub moved-append : (h : Graph) (es fs : Sizes) →
+      moved_onto keep f h (es ++ fs) ≡ moved_onto keep f (moved_onto keep f h es) fs
+  moved-append h es fs = fold-append one_moved h es fs
+
+  total-moved : (h : Graph) (es : Sizes) →
+      total (moved_onto keep f h es) ≡ total h + sum_by (λ e. cond (keep e) e.1 0) es
+  total-moved h [] = omega arith
+  total-moved h (e ∷ es) =
+      let one : total (one_moved h e) ≡ total h + cond (keep e) e.1 0 =
+      grind (arith, total-sum_of h (graph_of_path (f e.0) e.1), total-path (f e.0) e.1) in
+      omega (arith, one, total-moved (one_moved h e) es, sum_by-cons (λ (x : Path × ℕ). cond (keep x) x.1 0) e es)
+
+  size_at-moved : (h : Graph) (es : Sizes) (p : Path) →
+      size_at (moved_onto keep f h es) p ≡ size_at h p + sum_by (added_at p) es
+  size_at-moved h [] p = omega arith
+  size_at-moved h (e ∷ es) p =
+      let one : size_at (one_moved h e) p ≡ size_at h p + added_at p e =
+      grind (arith, size_at-sum_of h (graph_of_path (f e.0) e.1) p, size_at-path (f e.0) e.1 p) in
+      omega (arith, one, size_at-moved (one_moved h e) es p, sum_by-cons (added_at p) e es)
+
+  -- So it is with all entries of a graph.
+  pub total-view : (g : Graph) →
+      total (moved_onto keep f default (entries g)) ≡ sum_by (λ e. cond (keep e) e.1 0) (entries g)
+  total-view g = omega (arith, total-moved default (entries g), total-default)
+
+  size_at-view : (g : Graph) (p : Path) →
+      size_at (moved_onto keep f default (entries g)) p ≡ sum_by (added_at p) (entries g)
+  size_at-view g p = omega (arith, size_at-moved default (entries g) p, size_at-default p)
+
+-- Of rows in order, those of one path have the bytes that are found there.
+bytes_found : (q : Path) (es : Sizes) → T (is_sorted path_cmp es) →
+    sum_by (λ e. cond (is_same_path q e.0) e.1 0) es ≡ unwrap_or (find path_cmp q es) 0
+bytes_found q [] h = refl
+bytes_found q (e ∷ es) h =
+    let rest = bytes_found q es (second (below_all path_cmp e.0 es) _ h) in
+    let none = find-below_all path_cmp e.0 es (first (below_all path_cmp e.0 es) (is_sorted path_cmp es) h) in
+    grind (arith, rest, none, same_path q e.0, sum_by-cons (λ (x : Path × ℕ). cond (is_same_path q x.0) x.1 0) e es)
+
+-- The entries of one path have its bytes.
+bytes_at : (g : Graph) (q : Path) → sum_by (λ e. cond (is_same_path q e.0) e.1 0) (entries g) ≡ size_at g q
+bytes_at g q = bytes_found q (entries g) (entries_sorted g) ∙ ap (λ o. unwrap_or o 0) (sym (get-entries g q))
+
+-- ---- by last key
+-- The last key of a path is alone the path of a key if the path ends in it.
+same-last : (k : Key) (p : Path) → is_same_path (k ∷ []) (last_of p) ≡ ends_in k p
+same-last k [] = refl
+same-last k (l ∷ []) = sym (tied_then (key_cmp k l) Equal) ∙ and-true _
+same-last k (l ∷ m ∷ p) = let e : length (l ∷ m ∷ p) - 1 ≡ suc (length (m ∷ p) - 1) = omega arith in
+    rw e (same-last k (m ∷ p))
+
+-- By last key, a key has the bytes of all paths that end in it.
+pub size_at-by_last_key : (g : Graph) (k : Key) → size_at (by_last_key g) (k ∷ []) ≡ bytes_ending_in k g
+size_at-by_last_key g k = size_at-view (λ e. true) last_of g (k ∷ [])
+    ∙ (λ i. sum_by (λ e. cond (same-last k e.0 i) e.1 0) (entries g))
+
 -- The bytes by last key are all bytes.
 pub total-by_last_key : (g : Graph) → total (by_last_key g) ≡ total g
-total-by_last_key g =
-    let each : sum_by (λ (e : Path × ℕ). total (graph_of_path (last_of e.0) e.1)) (entries g) ≡ total g =
-    λ i. sum_by (λ (e : Path × ℕ). total-path (last_of e.0) e.1 i) (entries g) in
-    omega (
+total-by_last_key g = total-view (λ e. true) last_of g
+
+-- ---- reversed paths
+-- A path is the reverse of another if that is its reverse.
+same-reverse : (p q : Path) → is_same_path p (reverse q) ≡ is_same_path (reverse p) q
+same-reverse p q = both_ways _ _
+    (λ e. ap (λ r. is_same_path r q) (ap reverse (same_path p (reverse q) e) ∙ reverse-reverse q) ∙ same_path_itself q)
+    (λ e. ap (λ r. is_same_path p (reverse r)) (sym (same_path (reverse p) q e))
+    ∙ ap (is_same_path p) (reverse-reverse p) ∙ same_path_itself p)
+
+-- At each path the reversed graph has the bytes of the reversed path.
+pub size_at-reversed : (g : Graph) (p : Path) → size_at (reversed g) p ≡ size_at g (reverse p)
+size_at-reversed g p = size_at-view (λ e. nat_lt 0 e.1) reverse g p
+    ∙ (λ i. sum_by (λ e. each e i) (entries g)) ∙ bytes_at g (reverse p)
+  where
+    each : (e : Path × ℕ) → cond (nat_lt 0 e.1) (cond (is_same_path p (reverse e.0)) e.1 0) 0
+        ≡ cond (is_same_path (reverse p) e.0) e.1 0
+    each e = grind (arith, nat_tests, same-reverse p e.0)
+
+-- Reversing keeps the total.
+pub total-reversed : (g : Graph) → total (reversed g) ≡ total g
+total-reversed g = total-view (λ e. nat_lt 0 e.1) reverse g ∙ (λ i. sum_by (λ e. each e.1 i) (entries g))
+  where
+    each : (n : ℕ) → cond (nat_lt 0 n) n 0 ≡ n
+    each n = grind (arith, nat_tests)
+
+-- Reversing twice gives each path its bytes back.
+pub reversed_twice : (g : Graph) (p : Path) → size_at (reversed (reversed g)) p ≡ size_at g p
+reversed_twice g p = size_at-reversed (reversed g) p
+    ∙ size_at-reversed g (reverse p) ∙ ap (size_at g) (reverse-reverse p)
+
+-- ---- parts
+module _ (test : Path → Bool) (g : Graph) where
+  -- A part has the bytes of the paths that pass the test.
+  total-part : total (part test g) ≡ sum_by (λ e. cond (test e.0) e.1 0) (entries g)
+  total-part = total-view (λ e. nat_lt 0 e.1 && test e.0) (λ p. p) g
+      ∙ (λ i. sum_by (λ e. counts (test e.0) e.1 i) (entries g))
+
+  -- The paths that pass the test keep their bytes, and others have none.
+  size_at-part : (p : Path) → size_at (part test g) p ≡ cond (test p) (size_at g p) 0
+  size_at-part p = size_at-view (λ e. nat_lt 0 e.1 && test e.0) (λ p. p) g p
+      ∙ (λ i. sum_by (λ e. each e i) (entries g))
+      ∙ sum_if (test p) (λ e. cond (is_same_path p e.0) e.1 0) (entries g) ∙ ap (λ n. cond (test p) n 0) (bytes_at g p)
+    where
+      each : (e : Path × ℕ) → cond (nat_lt 0 e.1 && test e.0) (cond (is_same_path p e.0) e.1 0) 0
+          ≡ cond (test p) (cond (is_same_path p e.0) e.1 0) 0
+      each e = let same : is_same_path p e.0 ≡ true → test e.0 ≡ test p = λ h. ap test (sym (same_path p e.0 h)) in
+          grind (arith, nat_tests, same)
+
+-- What passes a test and what does not are all.
+halves : (test : Path → Bool) (es : Sizes) →
+    sum_by (λ e. cond (not (test e.0)) e.1 0) es + sum_by (λ e. cond (test e.0) e.1 0) es ≡ sum_by (λ e. e.1) es
+halves test [] = refl
+halves test (e ∷ es) =
+    grind (
       arith,
-      total-added_up (λ (e : Path × ℕ). graph_of_path (last_of e.0) e.1) default (entries g),
-      total-default,
-      each,
+      halves test es,
+      sum_by-cons (λ (x : Path × ℕ). cond (not (test x.0)) x.1 0) e es,
+      sum_by-cons (λ (x : Path × ℕ). cond (test x.0) x.1 0) e es,
+      sum_by-cons (λ (x : Path × ℕ). x.1) e es,
     )
+
+-- The part within some paths has their bytes, and that without them has all others.
+pub total-only : (ps : List Path) (g : Graph) → total (only ps g) ≡ bytes_within ps g
+total-only ps g = total-part (is_within ps) g
+
+pub total-without : (ps : List Path) (g : Graph) → total (without ps g) + bytes_within ps g ≡ total g
+total-without ps g = omega (arith, total-part (λ p. not (is_within ps p)) g, halves (is_within ps) (entries g))
+
+pub size_at-only : (ps : List Path) (g : Graph) (p : Path) → size_at (only ps g) p ≡ cond (is_within ps p) (size_at g p) 0
+size_at-only ps g p = size_at-part (is_within ps) g p
+
+pub size_at-without : (ps : List Path) (g : Graph) (p : Path) →
+    size_at (without ps g) p ≡ cond (is_within ps p) 0 (size_at g p)
+size_at-without ps g p = let e = size_at-part (λ q. not (is_within ps q)) g p in grind (arith, e)
+
+pub ruleset of_parts = (total-only, total-without, size_at-only, size_at-without)
+
+-- Whether two texts are one.
+abbrev pub is_same_text : Bor (List ℕ) → Bor (List ℕ) → Bool
+is_same_text k l = pointwise nat_eq k.now l.now
+
+-- A path of texts begins with another one if its keys do.
+begins-starts : (p q : List (Bor (List ℕ))) → starts_with is_same_text q p ≡ begins (texts p) (texts q)
+begins-starts [] q = refl
+begins-starts (k ∷ p) [] = refl
+begins-starts (k ∷ p) (l ∷ q) = λ i. texts_ties k.now l.now i && begins-starts p q i
+
+-- A path is within some paths if it starts with one of them.
+pub within_starts : (ps : List (Vec (Bor (List ℕ)) Global)) (q : List (Bor (List ℕ))) →
+    list_any (λ p. starts_with is_same_text q p.items) ps ≡ is_within (paths_of ps) (texts q)
+within_starts [] q = refl
+within_starts (p ∷ ps) q = λ i. begins-starts p.items q i || within_starts ps q i
+
+-- ---- the steps of the code
+-- Adding a tree to the empty graph gives the tree.
+pub onto_default : (g : Graph) → IsTree g → sum_of default g ≡ g
+onto_default g t = sum_of-commutes default g ∙ sum_of-default g t
+
+-- One key more is put before the keys that came before it.
+pub reversed_more : (ks : List (Bor (List ℕ))) (i : ℕ) (d : Bor (List ℕ)) (k : Key) (n : ℕ) → i < length ks →
+    k ≡ (get_or ks i d).now →
+    sum_of default (under k (graph_of_path (reverse (texts (take i ks))) n))
+    ≡ graph_of_path (reverse (texts (take (i + 1) ks))) n
+reversed_more ks i d k n within at =
+    onto_default _ (tree-path (k ∷ reverse (texts (take i ks))) n)
+    ∙ ap (λ (p : Path). graph_of_path p n) (sym (ap reverse
+    (ap texts (take_more ks i d within) ∙ map-append (λ (x : Bor (List ℕ)). x.now) (take i ks) (get_or ks i d ∷ [])
+    ∙ ap (λ (x : Key). texts (take i ks) ++ x ∷ []) (sym at)) ∙ reverse-append (texts (take i ks)) (k ∷ [])))
+
+-- The last key of a path that ends in a key is that key.
+pub last_after : (p : Path) (k : Key) → last_of (p ++ k ∷ []) ≡ k ∷ []
+last_after [] k = refl
+last_after (l ∷ []) k = refl
+last_after (l ∷ m ∷ p) k =
+    let e : length (l ∷ m ∷ p ++ k ∷ []) - 1 ≡ suc (length (m ∷ p ++ k ∷ []) - 1) = omega arith in
+    rw e (last_after (m ∷ p) k)
+
+-- A graph may be added before some children or to their sum.
+pub before_waiting : (g h : Graph) (cs : List Child) → sum_of_all (sum_of g h) cs ≡ sum_of (sum_of_all g cs) h
+before_waiting g h cs = sym (sum_of-commutes (sum_of_all g cs) h
+    ∙ added_up-onto (λ (c : Child). under c.key c.graph) h g cs
+    ∙ ap (λ (x : Graph). sum_of_all x cs) (sum_of-commutes h g))
+
+-- One child more is added.
+pub all_push : (g : Graph) (ds : List Child) (d : Child) →
+    sum_of (sum_of_all g ds) (under d.key d.graph) ≡ sum_of_all g (ds ++ d ∷ [])
+all_push g ds d = sym (fold-append (λ (h : Graph) (c : Child). sum_of h (under c.key c.graph)) g ds (d ∷ []))
 
 -- The graphs of some children add up in any order, and two may be added first.
 pub joined_turned : (a b c : Child) (rest : List Child) → c.graph ≡ sum_of a.graph b.graph →
     joined (rest ++ c ∷ []) ≡ joined (a ∷ b ∷ rest)
-joined_turned a b c rest e = same_graph (joined (rest ++ c ∷ [])) (joined (a ∷ b ∷ rest)) sizes paths
-  where
-    sizes : (p : Path) → size_at (joined (rest ++ c ∷ [])) p ≡ size_at (joined (a ∷ b ∷ rest)) p
-    sizes p =
-        let f : Child → ℕ = λ x. size_at x.graph p in
-        omega (
-          arith,
-          size_at-added_up (λ (x : Child). x.graph) default (rest ++ c ∷ []) p,
-          size_at-added_up (λ (x : Child). x.graph) default (a ∷ b ∷ rest) p,
-          sum_by-append f rest (c ∷ []),
-          sum_by-cons f c [],
-          sum_by-cons f a (b ∷ rest),
-          sum_by-cons f b rest,
-          ap (λ (g : Graph). size_at g p) e,
-          size_at-sum_of a.graph b.graph p,
-        )
+joined_turned a b c rest e =
+    sym (added_up-permuted (λ (x : Child). x.graph) default (rest ++ c ∷ []) (c ∷ rest) (IsPermutation-to_front rest c))
+    ∙ ap (λ (g : Graph). added_up (λ (x : Child). x.graph) g rest)
+    (ap (sum_of default) e ∙ sym (sum_of-associates default a.graph b.graph))
 
-    paths : (p : Path) → contains_key (joined (rest ++ c ∷ [])) p ≡ contains_key (joined (a ∷ b ∷ rest)) p
-    paths p =
-        let f : Child → Bool = λ x. contains_key x.graph p in
-        grind (
-          arith,
-          has-added_up (λ (x : Child). x.graph) default (rest ++ c ∷ []) p,
-          has-added_up (λ (x : Child). x.graph) default (a ∷ b ∷ rest) p,
-          list_any-append f rest (c ∷ []),
-          ap (λ (g : Graph). contains_key g p) e,
-          has-sum_of a.graph b.graph p,
-        )
+-- A graph is the sum of the bytes of its root and of its children.
+pub sum_of_children : (n : ℕ) (cs : List Child) → AreChildren cs → sum_of_all (bytes_alone n) cs ≡ node n cs
+sum_of_children n [] h = sym (node_leaf n)
+sum_of_children n (c ∷ cs) h =
+    let none : n + 0 ≡ n = omega arith in
+    let rest = others c cs h in
+    let one = one_child c h.trees.0 in
+    before_waiting (bytes_alone n) (under c.key c.graph) cs
+    ∙ (λ i. sum_of (sum_of_children n cs rest i) (sym (node_of_one c) i))
+    ∙ sym (added_sum (added_node true n 0 cs (c ∷ []) (c ∷ cs) rest one
+    (merged_second true c cs [] cs (merged_same cs rest) (first_below c cs h) one)) refl)
+    ∙ ap (λ m. node m (c ∷ cs)) none
 
--- One graph alone is that graph.
-pub joined_one : (c : Child) → IsTree c.graph → joined (c ∷ []) ≡ c.graph
-joined_one c t = sum_of-commutes default c.graph ∙ sum_of-default c.graph t
-
+-- ---- the outline
 -- The graphs of some children have the totals of the children.
 total-joined : (cs : List Child) → total (joined cs) ≡ total_of cs
 total-joined cs = omega (arith, total-added_up (λ (c : Child). c.graph) default cs, total-default)
@@ -120,143 +295,3 @@ total-outline (suc l) n u g h (us, cs, a, b, inr (few, ds, step, e)) =
       total-step R (λ c o of. total-outline l n of.0 c.graph o of.2) cs ds step,
       total-children g cs b,
     )
-
--- ---- the steps of the code
--- Bytes are added by last key one list after the other.
-pub by_last_keys-append : (h : Graph) (es fs : List (Path × ℕ)) →
-    by_last_keys h (es ++ fs) ≡ by_last_keys (by_last_keys h es) fs
-by_last_keys-append h es fs =
-    fold-append (λ (x : Graph) (e : Path × ℕ). sum_of x (graph_of_path (last_of e.0) e.1)) h es fs
-
--- A key before a path that has one does not change its last key.
-last-under : (k l : Key) (p : Path) → last_of (k ∷ l ∷ p) ≡ last_of (l ∷ p)
-last-under k l p = let e : length (k ∷ l ∷ p) - 1 ≡ suc (length (l ∷ p) - 1) = omega arith in rw e refl
-
-child-under : (k : Key) (c : Child) (h : Graph) (es : List (Path × ℕ)) →
-    by_last_keys h (under_rows k (under_rows c.key es)) ≡ by_last_keys h (under_rows c.key es)
-child-under k c h [] = refl
-child-under k c h (e ∷ es) =
-    child-under k c (sum_of h (graph_of_path (last_of (k ∷ c.key ∷ e.0)) e.1)) es
-    ∙ (λ i. by_last_keys (sum_of h (graph_of_path (last-under k c.key e.0 i) e.1)) (under_rows c.key es))
-
--- Nor do the last keys of the paths of some children change.
-pub rows-under : (k : Key) (h : Graph) (cs : List Child) →
-    by_last_keys h (under_rows k (rows_of cs)) ≡ by_last_keys h (rows_of cs)
-rows-under k h [] = refl
-rows-under k h (c ∷ cs) =
-    ap (by_last_keys h) (map-append (λ (e : Path × ℕ). (k ∷ e.0, e.1)) (rows_of_child c) (rows_of cs))
-    ∙ by_last_keys-append h (under_rows k (rows_of_child c)) (under_rows k (rows_of cs))
-    ∙ ap (λ (x : Graph). by_last_keys x (under_rows k (rows_of cs))) (child-under k c h (entries c.graph))
-    ∙ rows-under k (by_last_keys h (rows_of_child c)) cs ∙ sym (by_last_keys-append h (rows_of_child c) (rows_of cs))
-
--- The bytes of a graph by last key are those of its root and of its children.
-pub by_last_key-node : (g : Graph) (n : ℕ) (cs : List Child) → g ≡ node n cs → AreChildren cs →
-    by_last_keys (bytes_alone n) (rows_of cs) ≡ by_last_key g
-by_last_key-node g n cs whole h =
-    ap (λ (x : Graph). by_last_keys x (rows_of cs))
-    (sym (sum_of-commutes default (bytes_alone n) ∙ sum_of-default (bytes_alone n) (tree-path [] n)))
-    ∙ ap (by_last_keys default) (sym (entries-node n cs h.sorted)) ∙ ap by_last_key (sym whole)
-
--- One child more is added.
-pub all_push : (g : Graph) (ds : List Child) (d : Child) →
-    sum_of (sum_of_all g ds) (under d.key d.graph) ≡ sum_of_all g (ds ++ d ∷ [])
-all_push g ds d = sym (fold-append (λ (h : Graph) (c : Child). sum_of h (under c.key c.graph)) g ds (d ∷ []))
-
--- ---- at a last key
--- The last key of a path is alone the path of a key if the path ends in it.
-same-last : (k : Key) (p : Path) → is_same_path (k ∷ []) (last_of p) ≡ ends_in k p
-same-last k [] = refl
-same-last k (l ∷ []) = sym (tied_then (key_cmp k l) Equal) ∙ and-true _
-same-last k (l ∷ m ∷ p) = let e : length (l ∷ m ∷ p) - 1 ≡ suc (length (m ∷ p) - 1) = omega arith in
-    rw e (same-last k (m ∷ p))
-
--- By last key, a key has the bytes of all paths that end in it.
-pub size_at-by_last_key : (g : Graph) (k : Key) → size_at (by_last_key g) (k ∷ []) ≡ bytes_ending_in k g
-size_at-by_last_key g k =
-    let each : sum_by (λ (e : Path × ℕ). size_at (graph_of_path (last_of e.0) e.1) (k ∷ [])) (entries g)
-    ≡ bytes_ending_in k g =
-    λ i. sum_by (λ (e : Path × ℕ).
-    (size_at-path (last_of e.0) e.1 (k ∷ []) ∙ ap (λ b. cond b e.1 0) (same-last k e.0)) i) (entries g) in
-    omega (
-      arith,
-      size_at-added_up (λ (e : Path × ℕ). graph_of_path (last_of e.0) e.1) default (entries g) (k ∷ []),
-      size_at-default (k ∷ []),
-      each,
-    )
-
--- ---- a graph as the sum of its children
--- Of two values, the second is missing if the first is taken.
-pick : (t : Bool) (x y : Option ℕ) → (t ≡ true → y ≡ None) →
-    (unwrap_or (cond t x None) 0 + unwrap_or y 0 ≡ unwrap_or (cond t x y) 0)
-    × ((is_some (cond t x None) || is_some y) ≡ is_some (cond t x y))
-pick true x y h = (
-  omega (arith, ap (λ (o : Option ℕ). unwrap_or o 0) (h refl)),
-  ap (λ (o : Option ℕ). is_some x || is_some o) (h refl) ∙ or-false (is_some x),
-)
-pick false x y h = (omega arith, refl)
-
--- The sum of nothing is 0.
-sum_by-none : (f : Child → ℕ) → ((c : Child) → f c ≡ 0) → (cs : List Child) → sum_by f cs ≡ 0
-sum_by-none f none [] = refl
-sum_by-none f none (c ∷ cs) = omega (arith, sum_by-cons f c cs, none c, sum_by-none f none cs)
-
--- What some children have at a path is what the child with its first key has below that.
-children_at : (cs : List Child) (k : Key) (p : Path) → InOrder cs →
-    (sum_by (λ c. size_at (under c.key c.graph) (k ∷ p)) cs ≡ unwrap_or (size_under cs k p) 0)
-    × (list_any (λ c. contains_key (under c.key c.graph) (k ∷ p)) cs ≡ is_some (size_under cs k p))
-unfolding IsStrictlySortedBy
-children_at [] k p o = (refl, refl)
-children_at (c ∷ cs) k p o =
-    let rest = children_at cs k p o.1 in
-    let t = eq_by_cmp key_cmp k c.key in
-    let both = pick t (get c.graph p) (size_under cs k p) (λ e. none_above k c.key p cs e o.0) in
-    let here : get (under c.key c.graph) (k ∷ p) ≡ cond t (get c.graph p) None = get-under c.key c.graph k p in (
-      omega (
-        arith,
-        sum_by-cons (λ (d : Child). size_at (under d.key d.graph) (k ∷ p)) c cs,
-        rest.0,
-        both.0,
-        ap (λ (x : Option ℕ). unwrap_or x 0) here,
-      ),
-      (λ i. is_some (here i) || rest.1 i) ∙ both.1,
-    )
-
--- The bytes of a root and its children, added up, are the graph.
-pub sum_of_children : (n : ℕ) (cs : List Child) → AreChildren cs → sum_of_all (bytes_alone n) cs ≡ node n cs
-sum_of_children n cs h = same_graph _ _ sizes paths
-  where
-    made : Child → Graph
-    made c = under c.key c.graph
-
-    none : (c : Child) → size_at (made c) [] ≡ 0
-    none c = ap (λ (o : Option ℕ). unwrap_or o 0) (get-under-root c.key c.graph)
-
-    own : get (bytes_alone n) [] ≡ Some n
-    own = ap (λ (g : Graph). get g []) (sym (node_leaf n)) ∙ get-root n [] no_children.sorted
-
-    alone : (k : Key) (p : Path) → get (bytes_alone n) (k ∷ p) ≡ None
-    alone k p = ap (λ (g : Graph). get g (k ∷ p)) (sym (node_leaf n)) ∙ get-below n [] k p no_children.sorted
-
-    sizes : (p : Path) → size_at (sum_of_all (bytes_alone n) cs) p ≡ size_at (node n cs) p
-    sizes [] = omega (
-      arith,
-      size_at-added_up made (bytes_alone n) cs [],
-      sum_by-none (λ (c : Child). size_at (made c) []) none cs,
-      ap (λ (o : Option ℕ). unwrap_or o 0) own,
-      ap (λ (o : Option ℕ). unwrap_or o 0) (get-root n cs h.sorted),
-    )
-    sizes (k ∷ p) = omega (
-      arith,
-      size_at-added_up made (bytes_alone n) cs (k ∷ p),
-      (children_at cs k p h.sorted).0,
-      ap (λ (o : Option ℕ). unwrap_or o 0) (alone k p),
-      ap (λ (o : Option ℕ). unwrap_or o 0) (get-below n cs k p h.sorted),
-    )
-
-    paths : (p : Path) → contains_key (sum_of_all (bytes_alone n) cs) p ≡ contains_key (node n cs) p
-    paths [] = has-added_up made (bytes_alone n) cs []
-        ∙ (λ i. is_some (own i) || list_any (λ (c : Child). contains_key (made c) []) cs)
-        ∙ ap is_some (sym (get-root n cs h.sorted))
-    paths (k ∷ p) = has-added_up made (bytes_alone n) cs (k ∷ p)
-        ∙ (λ i. is_some (alone k p i) || (children_at cs k p h.sorted).1 i)
-        ∙ ap is_some (sym (get-below n cs k p h.sorted))

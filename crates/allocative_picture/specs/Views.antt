@@ -1,6 +1,6 @@
 -- Views of a graph: parts of it, its bytes by last key, its reversed paths, and its outline.
-use Rattle.std.specs.Prelude.{◌≡◌, ℕ, zero, suc, ◌<◌, ◌≤◌, ◌⊎◌, ◌-◌, ◌==◌, cond, List, [], ◌∷◌, drop, fold, length, reverse, sum_by, codes}
-use Rattle.std.specs.Prelude.{Bool, not, ◌&&◌, map, nat_eq, nat_lt, unwrap_or, slice_index_or, slice_set}
+use Rattle.std.specs.Prelude.{◌≡◌, ℕ, zero, suc, ◌<◌, ◌≤◌, ◌⊎◌, ◌-◌, cond, List, [], ◌∷◌, drop, fold, length, reverse, sum_by, codes}
+use Rattle.std.specs.Prelude.{Bool, true, not, ◌&&◌, map, nat_eq, nat_lt, unwrap_or, slice_index_or, slice_set}
 use Rattle.std.specs.Borrow.{Bor}
 use Rattle.std.specs.List.{AllZip, list_any}
 use Rattle.std.specs.declared.alloc.Global.{Global}
@@ -15,10 +15,37 @@ use Rattle.allocative_graph.specs.Rows.{node, sum_of_all, AllSmaller, AreChildre
 use Rattle.allocative_graph.specs.Representation.Children.{IsChildGap, IsFound, graph_of_path}
 use Rattle.allocative_graph.specs.declared.flamegraph.Child.{Child}
 use Rattle.allocative_picture.specs.declared.views.Gathered.{Gathered}
+use Rattle.allocative_picture.specs.declared.views.View.{View}
+use Rattle.allocative_picture.specs.declared.views.View.TheVariants.{LastKey, Reversed, Part}
 
 -- The graph whose root alone has n bytes.
 abbrev pub bytes_alone : ℕ → Graph
 bytes_alone n = add_self n default
+
+-- ---- paths that move
+-- The graph h with the bytes of those entries that `keep` passes, each at the path that f gives.
+abbrev pub moved_onto : (Path × ℕ → Bool) → (Path → Path) → Graph → List (Path × ℕ) → Graph
+moved_onto keep f h es = fold (λ h e. cond (keep e) (sum_of h (graph_of_path (f e.0) e.1)) h) h es
+
+-- The last key of a path alone, and no key of the root's.
+abbrev pub last_of : Path → Path
+last_of p = drop (length p - 1) p
+
+-- The bytes of all paths by last key: those of all paths that end in a key add up under it.
+abbrev pub by_last_key : Graph → Graph
+by_last_key g = moved_onto (λ e. true) last_of default (entries g)
+
+-- The bytes of all paths of g that end in k.
+abbrev pub bytes_ending_in : Key → Graph → ℕ
+bytes_ending_in k g = sum_by (λ e. cond (ends_in k e.0) e.1 0) (entries g)
+
+-- The bytes of each path of g at the reversed path. Paths without bytes are left out.
+abbrev pub reversed : Graph → Graph
+reversed g = moved_onto (λ e. nat_lt 0 e.1) reverse default (entries g)
+
+-- The bytes of each path of g at the path whose keys f gives.
+abbrev pub folded : (Key → Key) → Graph → Graph
+folded f g = moved_onto (λ e. true) (map f) default (entries g)
 
 -- ---- parts
 -- The paths whose keys are these texts of code.
@@ -29,72 +56,52 @@ paths_of ps = map (λ p. texts p.items) ps
 abbrev pub is_within : List Path → Path → Bool
 is_within ps p = list_any (λ q. begins q p) ps
 
--- The graph h with the bytes of some paths, of those that pass a test. Paths without bytes are left out.
-abbrev pub chosen_onto : (Path → Bool) → Graph → List (Path × ℕ) → Graph
-chosen_onto test h es = fold (λ h e. cond (nat_lt 0 e.1 && test e.0) (sum_of h (graph_of_path e.0 e.1)) h) h es
+-- The graph with the bytes of those paths of g that pass a test. Paths without bytes are left out.
+abbrev pub part : (Path → Bool) → Graph → Graph
+part test g = moved_onto (λ e. nat_lt 0 e.1 && test e.0) (λ p. p) default (entries g)
 
 -- The part of g at and below some paths.
 abbrev pub only : List Path → Graph → Graph
-only ps g = chosen_onto (is_within ps) default (entries g)
+only ps g = part (is_within ps) g
 
 -- The part of g that is neither at nor below some paths.
 abbrev pub without : List Path → Graph → Graph
-without ps g = chosen_onto (λ p. not (is_within ps p)) default (entries g)
-
--- Whether a path is within some paths, if those within are chosen; otherwise whether it is not.
-abbrev pub is_chosen : Bool → List Path → Path → Bool
-is_chosen inside ps p = cond inside (is_within ps p) (not (is_within ps p))
+without ps g = part (λ p. not (is_within ps p)) g
 
 -- The bytes that g has at and below some paths.
 abbrev pub bytes_within : List Path → Graph → ℕ
 bytes_within ps g = sum_by (λ e. cond (is_within ps e.0) e.1 0) (entries g)
 
--- ---- by last key
--- The last key of a path alone, and no key of the root's.
-abbrev pub last_of : Path → Path
-last_of p = drop (length p - 1) p
+-- ---- how they are made
+-- The path at which a view has the bytes of a path.
+abbrev pub moved : View → Path → Path
+moved LastKey p = last_of p
+moved Reversed p = reverse p
+moved (Part inside ps) p = p
 
--- The graph h with the bytes of some paths added by last key.
-abbrev pub by_last_keys : Graph → List (Path × ℕ) → Graph
-by_last_keys h es = fold (λ h e. sum_of h (graph_of_path (last_of e.0) e.1)) h es
+-- Whether a view has the bytes of an entry.
+abbrev pub is_kept : View → Path × ℕ → Bool
+is_kept LastKey e = true
+is_kept Reversed e = nat_lt 0 e.1
+is_kept (Part inside ps) e =
+    nat_lt 0 e.1 && cond inside (is_within (paths_of ps.now) e.0) (not (is_within (paths_of ps.now) e.0))
 
--- The bytes of all paths by last key: those of all paths that end in a key add up under it.
-abbrev pub by_last_key : Graph → Graph
-by_last_key g = by_last_keys default (entries g)
+-- The graph h with what a view has of some entries.
+abbrev pub viewed : View → Graph → List (Path × ℕ) → Graph
+viewed v h es = moved_onto (is_kept v) (moved v) h es
 
 -- A view with the children that wait.
 abbrev pub all_of : Gathered → Graph
 all_of gathered = sum_of_all gathered.view gathered.waiting.items
-
--- The bytes of all paths of g that end in k.
-abbrev pub bytes_ending_in : Key → Graph → ℕ
-bytes_ending_in k g = sum_by (λ e. cond (ends_in k e.0) e.1 0) (entries g)
 
 -- ---- replaced keys
 -- The key that a table has in place of k, or k itself if it has none.
 abbrev pub new_key : {S : Type 0} → HashMap Key Key S → Key → Key
 new_key names k = unwrap_or (in_table (pointwise nat_eq) names k) k
 
--- The graph h with the bytes of some paths at the paths whose keys f gives.
-abbrev pub folded_onto : (Key → Key) → Graph → List (Path × ℕ) → Graph
-folded_onto f h es = fold (λ h e. sum_of h (graph_of_path (map f e.0) e.1)) h es
-
--- The bytes of each path of g at the path whose keys f gives.
-abbrev pub folded : (Key → Key) → Graph → Graph
-folded f g = folded_onto f default (entries g)
-
 -- A child with the key that f gives, and its graph with other keys too.
 abbrev pub folded_child : (Key → Key) → Child → Child
 folded_child f c = record { key = f c.key; graph = folded f c.graph }
-
--- ---- reversed paths
--- The graph h with the bytes of some paths at the reversed paths. Paths without bytes are left out.
-abbrev pub reversed_onto : Graph → List (Path × ℕ) → Graph
-reversed_onto h es = fold (λ h e. cond (e.1 == 0) h (sum_of h (graph_of_path (reverse e.0) e.1))) h es
-
--- The bytes of each path of g at the reversed path.
-abbrev pub reversed : Graph → Graph
-reversed g = reversed_onto default (entries g)
 
 -- ---- the outline
 -- The graphs of some children, added up.

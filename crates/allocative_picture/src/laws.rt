@@ -46,7 +46,7 @@ pub fn change_law()
 {}
 
 /// Reversing the paths of a graph twice gives each path its bytes back.
-#[tactic(auto, using(crate::proofs::Reversing::reversed_twice))]
+#[tactic(auto, using(crate::proofs::Viewing::reversed_twice))]
 pub fn reverse_law()
     ensures { ReverseLaw }
 {}

@@ -6,7 +6,7 @@ ghost use Rattle.allocative_graph.specs.Path.{Key, Path, key_cmp, texts};
 ghost use Rattle.allocative_graph.specs.Graph.{default, size_at, sum_of, total, under};
 ghost use Rattle.allocative_graph.specs.Rows.{sum_of_all, under_rows};
 ghost use Rattle.allocative_graph.specs.Representation.Children.{InOrder, IsChildGap, IsFound, graph_of_path};
-ghost use Rattle.allocative_picture.specs.Views.{all_of, by_last_key, by_last_keys, bytes_alone, bytes_ending_in, bytes_within, chosen_onto, folded, is_chosen, is_within, joined, new_key, only, paths_of, reversed, reversed_onto, without, IsOutline, IsTakenApart, TakesGuide, TakesNext};
+ghost use Rattle.allocative_picture.specs.Views.{all_of, by_last_key, bytes_alone, bytes_ending_in, bytes_within, folded, is_kept, is_within, joined, moved, new_key, only, paths_of, reversed, viewed, without, IsOutline, IsTakenApart, TakesGuide, TakesNext};
 ghost use Rattle.allocative_picture.specs.Table.{behind};
 
 use allocative_graph::flamegraph::{Child, FlameGraph, add_at};
@@ -252,6 +252,17 @@ impl Gathered {
         Ok(())
     }
 
+    /// Adds bytes at a path. All bytes together are those of one graph, so the only error is that memory runs out.
+    #[tactic(auto, using(crate::proofs::Viewing::before_waiting))]
+    fn add_at(&mut self, path: &[&'static str], bytes: usize) -> Result<(), AllocError>
+        ensures { OnOk result (all_of self.new ≡ sum_of (all_of self.old) (graph_of_path (texts path.now) bytes)) }
+    {
+        if bytes > usize::MAX - self.view.total_size() {
+            return Err(AllocError);
+        }
+        add_at(&mut self.view, path, bytes)
+    }
+
     /// Adds the children that wait. The bytes of all views together are those of one graph, so the only error is that
     /// memory runs out.
     fn add_waiting(&mut self) -> Result<(), AllocError>
@@ -264,54 +275,54 @@ impl Gathered {
     }
 }
 
-/// Adds bytes under a key alone. It is a call of its own, so that a level of the walk takes less of the stack.
-#[inline(never)]
-fn add_key(
-    alloc: Global,
-    key: &Key,
-    bytes: usize,
-    gathered: &mut Gathered,
-) -> Result<(), AllocError>
-    ensures { OnOk result (all_of gathered.new ≡ sum_of (all_of gathered.old) (under key.now (bytes_alone bytes))) }
-{
-    gathered.add(key.copy(), bytes_alone(alloc, bytes)?)
+/// Where a view has the bytes of a path, and which paths it has.
+#[derive(Clone, Copy)]
+enum View<'a> {
+    /// Each path, by its last key alone.
+    LastKey,
+    /// Each path with bytes, in reverse.
+    Reversed,
+    /// Each path with bytes that is at or below one of some paths, or that is not.
+    Part {
+        /// Whether the paths within are those of the view.
+        inside: bool,
+        /// The paths.
+        paths: &'a [Vec<&'a str>],
+    },
 }
 
-/// Adds the bytes of each path of a graph by its last key, which is the given one for the root.
-fn add_last_keys(
-    alloc: Global,
-    key: &Key,
-    graph: &FlameGraph,
-    gathered: &mut Gathered,
-) -> Result<(), AllocError>
-    ensures { OnOk result
-        (all_of gathered.new ≡ by_last_keys (all_of gathered.old) (under_rows key.now (entries graph.now))) }
-{
-    let children = graph.children();
-    add_key(alloc, key, graph.self_size(), gathered)?;
-    for child in children {
-        add_last_keys(alloc, &child.key, &child.graph, gathered)?;
+impl View<'_> {
+    /// Whether the view has the bytes of a path.
+    fn has(&self, path: &[&'static str], bytes: usize) -> bool
+        ensures { result ≡ is_kept self.now (texts path.now, bytes) }
+    {
+        match self {
+            View::LastKey => true,
+            View::Reversed => bytes > 0,
+            View::Part { inside, paths } => bytes > 0 && is_within(paths, path) == *inside,
+        }
     }
-    Ok(())
+
+    /// The last key of a path and those before it, which the view has behind that key in reverse. It returns `None` if
+    /// the view has the path as it is.
+    fn split<'a>(&self, path: &'a [&'static str]) -> Option<(&'static str, &'a [&'static str])>
+        ensures some { IfSome result (λ s. moved self.now (texts path.now) ≡ s.0.now ∷ reverse (texts s.1.now)) }
+        ensures none { IfNone result (moved self.now (texts path.now) ≡ texts path.now) }
+    {
+        let (last, before) = path.split_last()?;
+        match self {
+            View::LastKey => Some((*last, &path[..0])),
+            View::Reversed => Some((*last, before)),
+            View::Part { .. } => None,
+        }
+    }
 }
 
-/// The bytes of a graph by last key: all paths that end in a key add up under that key alone. The root keeps its own
-/// bytes. What is held on the way is at most a few times what is returned. The only error is that memory runs out.
-pub fn by_last_key(alloc: Global, graph: &FlameGraph) -> Result<FlameGraph, AllocError>
-    ensures view { IfOk result (λ view. view ≡ by_last_key graph.now) }
-    ensures total { IfOk result (λ view. total view ≡ total graph.now) }
-    ensures sizes { IfOk result (λ view. (k : Key) → size_at view (k ∷ []) ≡ bytes_ending_in k graph.now) }
+/// Whether a path is one of some paths or below one.
+fn is_within(paths: &[Vec<&str>], path: &[&str]) -> bool
+    ensures { result ≡ is_within (paths_of paths.now) (texts path.now) }
 {
-    let mut gathered = Gathered {
-        view: bytes_alone(alloc, graph.self_size())?,
-        waiting: Vec::new(alloc),
-    };
-    let children = graph.children();
-    for child in children {
-        add_last_keys(alloc, &child.key, &child.graph, &mut gathered)?;
-    }
-    gathered.add_waiting()?;
-    Ok(gathered.view)
+    paths.iter().any(|start| path.starts_with(start.as_slice()))
 }
 
 /// The graph that has bytes at the reverse of a path alone.
@@ -331,46 +342,73 @@ fn graph_of_reversed(
     Ok(graph)
 }
 
-/// Adds the bytes of a path with a last key at the reversed path, if it has some. It is a call of its own, so that a
-/// level of the walk takes less of the stack.
+/// Adds what a view has of the bytes of a path. It is a call of its own, so that a level of the walk takes less of the
+/// stack.
 #[inline(never)]
-fn add_reversed_path(
-    alloc: Global,
-    path: &[&'static str],
-    key: &Key,
+fn add_path(
+    view: &View<'_>,
+    path: &Vec<&'static str>,
     bytes: usize,
     gathered: &mut Gathered,
 ) -> Result<(), AllocError>
     ensures { OnOk result (all_of gathered.new
-        ≡ reversed_onto (all_of gathered.old) ((texts path.now ++ key.now ∷ [], bytes) ∷ [])) }
+        ≡ viewed view.now (all_of gathered.old) ((texts path.now.items, bytes) ∷ [])) }
 {
-    if bytes == 0 {
+    let alloc = *path.allocator();
+    let path = path.as_slice();
+    if !view.has(path, bytes) {
         return Ok(());
     }
-    let graph = graph_of_reversed(alloc, path, bytes)?;
-    gathered.add(key.copy(), graph)
+    let Some((key, before)) = view.split(path) else {
+        return gathered.add_at(path, bytes);
+    };
+    gathered.add(Key::new(key), graph_of_reversed(alloc, before, bytes)?)
 }
 
-/// Adds the bytes of each path of a graph at the reversed path. Before its paths are the given keys, `key` last.
-fn add_reversed(
-    alloc: Global,
+/// Adds what a view has of a graph, each path after the given keys.
+fn add_all(
+    view: &View<'_>,
     path: &mut Vec<&'static str>,
-    key: &Key,
     graph: &FlameGraph,
     gathered: &mut Gathered,
 ) -> Result<(), AllocError>
     ensures path { OnOk result (path.new.items ≡ path.old.items) }
     ensures all { OnOk result (all_of gathered.new
-        ≡ reversed_onto (all_of gathered.old) (behind (texts path.old.items ++ key.now ∷ []) (entries graph.now))) }
+        ≡ viewed view.now (all_of gathered.old) (behind (texts path.old.items) (entries graph.now))) }
 {
     let children = graph.children();
-    add_reversed_path(alloc, path.as_slice(), key, graph.self_size(), gathered)?;
-    path.push(key.as_str())?;
+    add_path(view, path, graph.self_size(), gathered)?;
     for child in children {
-        add_reversed(alloc, path, &child.key, &child.graph, gathered)?;
+        path.push(child.key.as_str())?;
+        add_all(view, path, &child.graph, gathered)?;
+        path.pop();
     }
-    path.pop();
     Ok(())
+}
+
+/// A view of a graph.
+fn view_of(alloc: Global, view: &View<'_>, graph: &FlameGraph) -> Result<FlameGraph, AllocError>
+    ensures { IfOk result (λ made. made ≡ viewed view.now default (entries graph.now)) }
+{
+    let mut path: Vec<&'static str> = Vec::new(alloc);
+    let mut gathered = Gathered {
+        view: FlameGraph::default(alloc),
+        waiting: Vec::new(alloc),
+    };
+    add_all(view, &mut path, graph, &mut gathered)?;
+    gathered.add_waiting()?;
+    Ok(gathered.view)
+}
+
+/// The bytes of a graph by last key: all paths that end in a key add up under that key alone. The root keeps its own
+/// bytes. What is held on the way is at most a few times what is returned. The only error is that memory runs out.
+pub fn by_last_key(alloc: Global, graph: &FlameGraph) -> Result<FlameGraph, AllocError>
+    ensures view { IfOk result (λ view. view ≡ by_last_key graph.now) }
+    ensures total { IfOk result (λ view. total view ≡ total graph.now) }
+    ensures sizes { IfOk result (λ view. (k : Key) → size_at view (k ∷ []) ≡ bytes_ending_in k graph.now) }
+{
+    let view = view_of(alloc, &View::LastKey, graph)?;
+    Ok(view)
 }
 
 /// The graph with the keys of each path in reverse: which paths lead to a last key. Paths without bytes of their own
@@ -380,17 +418,44 @@ pub fn reverse(alloc: Global, graph: &FlameGraph) -> Result<FlameGraph, AllocErr
     ensures total { IfOk result (λ view. total view ≡ total graph.now) }
     ensures sizes { IfOk result (λ view. (p : Path) → size_at view p ≡ size_at graph.now (reverse p)) }
 {
-    let mut path: Vec<&'static str> = Vec::new(alloc);
-    let mut gathered = Gathered {
-        view: bytes_alone(alloc, graph.self_size())?,
-        waiting: Vec::new(alloc),
-    };
-    let children = graph.children();
-    for child in children {
-        add_reversed(alloc, &mut path, &child.key, &child.graph, &mut gathered)?;
-    }
-    gathered.add_waiting()?;
-    Ok(gathered.view)
+    let view = view_of(alloc, &View::Reversed, graph)?;
+    Ok(view)
+}
+
+/// The part of a graph at and below some paths, which keep their keys. Bytes within several of them count once. Paths
+/// without bytes of their own are left out. The only error is that memory runs out.
+#[tactic(auto, using(crate::proofs::Viewing::of_parts))]
+pub fn only(
+    alloc: Global,
+    graph: &FlameGraph,
+    paths: &[Vec<&str>],
+) -> Result<FlameGraph, AllocError>
+    ensures view { IfOk result (λ view. view ≡ only (paths_of paths.now) graph.now) }
+    ensures total { IfOk result (λ view. total view ≡ bytes_within (paths_of paths.now) graph.now) }
+    ensures sizes { IfOk result
+        (λ view. (p : Path) → size_at view p ≡ cond (is_within (paths_of paths.now) p) (size_at graph.now p) 0) }
+{
+    let inside = true;
+    let view = view_of(alloc, &View::Part { inside, paths }, graph)?;
+    Ok(view)
+}
+
+/// The part of a graph that is neither at nor below some paths. Paths without bytes of their own are left out. The only
+/// error is that memory runs out.
+#[tactic(auto, using(crate::proofs::Viewing::of_parts))]
+pub fn without(
+    alloc: Global,
+    graph: &FlameGraph,
+    paths: &[Vec<&str>],
+) -> Result<FlameGraph, AllocError>
+    ensures view { IfOk result (λ view. view ≡ without (paths_of paths.now) graph.now) }
+    ensures total { IfOk result (λ view. total view + bytes_within (paths_of paths.now) graph.now ≡ total graph.now) }
+    ensures sizes { IfOk result
+        (λ view. (p : Path) → size_at view p ≡ cond (is_within (paths_of paths.now) p) 0 (size_at graph.now p)) }
+{
+    let inside = false;
+    let view = view_of(alloc, &View::Part { inside, paths }, graph)?;
+    Ok(view)
 }
 
 /// The key that a table has in place of a key, or the key itself if it has none.
@@ -448,106 +513,4 @@ pub fn fold_keys(
         push_folded(names, &child.key, folded, &mut below)?;
     }
     put_together(alloc, graph.self_size(), below)
-}
-
-/// Whether a path is one of some paths or below one.
-fn is_within(paths: &[Vec<&str>], path: &[&str]) -> bool
-    ensures { result ≡ is_within (paths_of paths.now) (texts path.now) }
-{
-    paths.iter().any(|start| path.starts_with(start.as_slice()))
-}
-
-/// Adds the bytes of a path to a part, if it has some and belongs there. The only error is that memory runs out. It is
-/// a call of its own, so that a level of the walk takes less of the stack.
-#[inline(never)]
-fn add_chosen(
-    inside: bool,
-    paths: &[Vec<&str>],
-    path: &Vec<&'static str>,
-    bytes: usize,
-    view: &mut FlameGraph,
-) -> Result<(), AllocError>
-    requires { total view.old + bytes < 2 ^ 64 }
-    ensures { OnOk result (view.new
-        ≡ chosen_onto (is_chosen inside (paths_of paths.now)) view.old ((texts path.now.items, bytes) ∷ [])) }
-{
-    if bytes == 0 {
-        return Ok(());
-    }
-    if is_within(paths, path.as_slice()) != inside {
-        return Ok(());
-    }
-    add_at(view, path.as_slice(), bytes)
-}
-
-/// Adds the bytes of those paths of a graph that belong to a part, each after the given keys. The bytes of a part are
-/// at most those of the graph.
-fn add_all_chosen(
-    inside: bool,
-    paths: &[Vec<&str>],
-    path: &mut Vec<&'static str>,
-    graph: &FlameGraph,
-    view: &mut FlameGraph,
-) -> Result<(), AllocError>
-    requires { total view.old + total graph.now < 2 ^ 64 }
-    ensures path { OnOk result (path.new.items ≡ path.old.items) }
-    ensures view { OnOk result (view.new ≡ chosen_onto (is_chosen inside (paths_of paths.now)) view.old
-        (behind (texts path.old.items) (entries graph.now))) }
-{
-    let children = graph.children();
-    add_chosen(inside, paths, path, graph.self_size(), view)?;
-    for child in children {
-        path.push(child.key.as_str())?;
-        add_all_chosen(inside, paths, path, &child.graph, view)?;
-        path.pop();
-    }
-    Ok(())
-}
-
-/// The part of a graph within some paths, or that without them.
-fn part(
-    alloc: Global,
-    inside: bool,
-    paths: &[Vec<&str>],
-    graph: &FlameGraph,
-) -> Result<FlameGraph, AllocError>
-    ensures { IfOk result
-        (λ view. view ≡ chosen_onto (is_chosen inside (paths_of paths.now)) default (entries graph.now)) }
-{
-    let mut path: Vec<&'static str> = Vec::new(alloc);
-    let mut view = FlameGraph::default(alloc);
-    // The contract of `total_size` says that all bytes fit a `usize`.
-    let _all = graph.total_size();
-    add_all_chosen(inside, paths, &mut path, graph, &mut view)?;
-    Ok(view)
-}
-
-/// The part of a graph at and below some paths, which keep their keys. Bytes within several of them count once. Paths
-/// without bytes of their own are left out. The only error is that memory runs out.
-pub fn only(
-    alloc: Global,
-    graph: &FlameGraph,
-    paths: &[Vec<&str>],
-) -> Result<FlameGraph, AllocError>
-    ensures view { IfOk result (λ view. view ≡ only (paths_of paths.now) graph.now) }
-    ensures total { IfOk result (λ view. total view ≡ bytes_within (paths_of paths.now) graph.now) }
-    ensures sizes { IfOk result
-        (λ view. (p : Path) → size_at view p ≡ cond (is_within (paths_of paths.now) p) (size_at graph.now p) 0) }
-{
-    part(alloc, true, paths, graph)
-}
-
-/// The part of a graph that is neither at nor below some paths. Paths without bytes of their own are left out. The only
-/// error is that memory runs out.
-pub fn without(
-    alloc: Global,
-    graph: &FlameGraph,
-    paths: &[Vec<&str>],
-) -> Result<FlameGraph, AllocError>
-    ensures view { IfOk result (λ view. view ≡ without (paths_of paths.now) graph.now) }
-    ensures total { IfOk result (λ view. total view + bytes_within (paths_of paths.now) graph.now ≡ total graph.now) }
-    ensures sizes { IfOk result
-        (λ view. (p : Path) → size_at view p ≡ cond (is_within (paths_of paths.now) p) 0 (size_at graph.now p)) }
-{
-    part(alloc, false, paths, graph)
 }

@@ -1,7 +1,7 @@
 -- of graph_of_reversed: the step of its loop, and the result
 use Rattle.std.proofs.Common.{ap, ◌∙◌, arith, take_all, reverse}
 use Rattle.allocative_picture.proofs.Common.{graph_of_path, sum_of, under, texts}
-use Rattle.allocative_picture.proofs.Reversing.{reversed_more}
+use Rattle.allocative_picture.proofs.Viewing.{reversed_more}
 use Rattle.allocative_picture.proofs.views.graph_of_reversed.Goals as goal
 
 pub loop-key-preserved : goal.loop-key-preserved

@@ -3,7 +3,7 @@ use Rattle.std.proofs.Common.{List, ℕ, ◌∙◌, Bor, Vec, Global, rules, tes
 use Rattle.std.specs.List.{starts_with}
 use Rattle.std.proofs.lemmas.Iterator.{YieldsList-from_slice}
 use Rattle.std.proofs.lemmas.Iterator.Search.{any_from_yields_List}
-use Rattle.allocative_picture.proofs.Choosing.{is_same_text, within_starts}
+use Rattle.allocative_picture.proofs.Viewing.{is_same_text, within_starts}
 use Rattle.allocative_picture.proofs.views.is_within.Goals as goal
 
 pub returns : goal.returns

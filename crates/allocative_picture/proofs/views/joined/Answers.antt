@@ -3,14 +3,14 @@ use Rattle.std.proofs.Common.{◌≡◌, [], ◌∷◌, List, ap, sym, ◌∙◌
 use Rattle.std.proofs.lemmas.List.{nil_from_length}
 use Rattle.allocative_picture.proofs.Common.{Child, sum_of}
 use Rattle.allocative_picture.specs.Views.{joined}
-use Rattle.allocative_picture.proofs.Viewing.{joined_one, joined_turned}
+use Rattle.allocative_picture.proofs.Viewing.{joined_turned, onto_default}
 use Rattle.allocative_picture.proofs.views.joined.Goals as goal
 
 pub returns-in_default-pop_front : goal.returns-in_default-pop_front
 returns-in_default-pop_front c =
     let first = c.in-Some.child in
     let none : c.pop_front.new.self.items ≡ [] = search (rules, nil_from_length) in
-    sym (joined_one first c.total_size-all.ensures.tree) ∙ ap (λ (xs : List Child). joined (first ∷ xs)) (sym none)
+    sym (onto_default first.graph c.total_size-all.ensures.tree) ∙ ap (λ (xs : List Child). joined (first ∷ xs)) (sym none)
     ∙ ap joined (sym c.in-Some.ensures.items) ∙ c.loop-child.invariant
 
 pub loop-child-preserved : goal.loop-child-preserved
