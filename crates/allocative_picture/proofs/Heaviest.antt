@@ -199,34 +199,6 @@ keeps_pushed n f old new some room pushed es k = record {
       (omega (arith, length-map (heap_items old) weight_of, room)) pushed.items k.heaviest;
 }
 
--- ---- the paths of a graph
--- The paths of a child with their bytes, with some keys before its own.
-abbrev pub child_weights : Path → Child → List Weighed
-child_weights ks c = behind (ks ++ c.key ∷ []) (entries c.graph)
-
--- Putting a key before the paths is adding it at the end of the keys before them.
-behind-under : (ks : Path) (c : Child) (es : List Weighed) →
-    behind ks (under_rows c.key es) ≡ behind (ks ++ c.key ∷ []) es
-behind-under ks c [] = refl
-behind-under ks c (e ∷ es) = λ i. (sym (append_assoc ks (c.key ∷ []) e.0) i, e.1) ∷ behind-under ks c es i
-
-behind-rows : (ks : Path) (cs : List Child) → behind ks (rows_of cs) ≡ flat_map (child_weights ks) cs
-behind-rows ks [] = refl
-behind-rows ks (c ∷ cs) = map-append (λ (e : Weighed). (ks ++ e.0, e.1)) (rows_of_child c) (rows_of cs)
-    ∙ (λ i. behind-under ks c (entries c.graph) i ++ behind-rows ks cs i)
-
--- The paths of a node with their bytes are its own and those of its children.
-pub node_weights : (ks : Path) (n : ℕ) (cs : List Child) (g : Graph) → g ≡ node n cs → AreChildren cs →
-    behind ks (entries g) ≡ (ks, n) ∷ flat_map (child_weights ks) cs
-node_weights ks n cs g whole h =
-    ap (λ (x : Graph). behind ks (entries x)) whole ∙ ap (behind ks) (entries-node n cs h.sorted)
-    ∙ (λ i. (append-nil ks i, n) ∷ behind-rows ks cs i)
-
--- With no keys before them the paths are as they are.
-pub behind-none : (es : List Weighed) → behind [] es ≡ es
-behind-none [] = refl
-behind-none (e ∷ es) = ap (λ (xs : List Weighed). e ∷ xs) (behind-none es)
-
 -- Two steps that keep the heaviest are one.
 pub keeps_then : (n : ℕ) (a b : List Weighed) (x y z : BinaryHeap Heavy Global) → Keeps n a x y → Keeps n b y z →
     Keeps n (a ++ b) x z

@@ -20,6 +20,7 @@ use Rattle.allocative_graph.proofs.Graphs.{sum_of-commutes, sum_of-associates, s
 use Rattle.allocative_graph.proofs.Graphs.{added_up-permuted, total-added_up}
 use Rattle.allocative_graph.proofs.Nodes.{tree-path, node_leaf, added_node, added_sum}
 use Rattle.allocative_graph.proofs.Sums.{find-below_all}
+use Rattle.allocative_picture.proofs.Walking.{sum_if}
 use Rattle.allocative_graph.specs.Graph.{IsTree}
 use Rattle.allocative_picture.specs.Views.{bytes_alone, moved_onto, last_of, by_last_key, bytes_ending_in, reversed, part, is_within}
 use Rattle.allocative_picture.specs.Views.{only, without, bytes_within, paths_of, joined, GuidesChild, HasChildren, InStep, IsOutline}
@@ -28,12 +29,6 @@ use Rattle.allocative_picture.specs.Views.{only, without, bytes_within, paths_of
 -- A number that counts only if it is not 0 counts.
 counts : (b : Bool) (n : ℕ) → cond (nat_lt 0 n && b) n 0 ≡ cond b n 0
 counts b n = grind (arith, nat_tests)
-
--- A sum that counts only if a test passes.
-sum_if : (b : Bool) (w : Path × ℕ → ℕ) (es : Sizes) → sum_by (λ e. cond b (w e) 0) es ≡ cond b (sum_by w es) 0
-sum_if true w es = refl
-sum_if false w [] = refl
-sum_if false w (e ∷ es) = omega (arith, sum_by-cons (λ (x : Path × ℕ). 0) e es, sum_if false w es)
 
 module _ (keep : Path × ℕ → Bool) (f : Path → Path) where
   -- The graph with one entry more.

@@ -1,10 +1,15 @@
 -- Walks over the paths of a graph, each after some keys: its root, and the rows of its children one after another.
-use Rattle.std.proofs.Common.{◌≡◌, ℕ, ◌+◌, ◌<◌, List, [], ◌∷◌, ◌++◌, map, length, get_or, take, Bor, refl, sym, ap, ◌∙◌}
-use Rattle.std.proofs.Common.{append_assoc, append-nil}
-use Rattle.allocative_picture.proofs.Common.{Path, Sizes, Graph, Child, entries, node, AreChildren, texts, map-append}
+use Rattle.std.proofs.Common.{◌≡◌, ℕ, zero, suc, ◌+◌, ◌<◌, Bool, true, false, cond, is_eq, Less, List, [], ◌∷◌, ◌++◌, map, length}
+use Rattle.std.proofs.Common.{get_or, take, sum_by, Bor, refl, sym, ap, subst, ◌∙◌, arith, append_assoc, append-nil}
+use Rattle.allocative_picture.proofs.Common.{Path, Sizes, Key, Graph, Child, entries, node, AreChildren, InOrder, texts, map-append}
+use Rattle.allocative_picture.proofs.Common.{key_cmp, eq_by_cmp_equiv, nat_list_cmp_total, tied_itself, sum_by-cons, total, total_of}
+use Rattle.allocative_picture.proofs.Common.{sum_by_more}
+use Rattle.std.specs.Ordering.{eq_by_cmp}
+use Rattle.std.specs.List.Sorted.{IsStrictlySortedBy}
 use Rattle.std.proofs.lemmas.Simd.{map-map}
-use Rattle.allocative_graph.proofs.Children.{rows-more}
+use Rattle.allocative_graph.proofs.Children.{rows-more, rows-cons, Lacks, lacks-above, rises}
 use Rattle.allocative_graph.specs.Rows.{rows_of, rows_of_child}
+use Rattle.allocative_graph.specs.Representation.Children.{AllAbove}
 use Rattle.allocative_graph.specs.Representation.NodeRows.{entries-node}
 use Rattle.allocative_picture.specs.Table.{behind}
 
@@ -49,3 +54,55 @@ behind_more ks cs i d w at = rows_more (λ (e : Path × ℕ). (ks ++ e.0, e.1)) 
 pub behind_none : (es : Sizes) → behind [] es ≡ es
 behind_none [] = refl
 behind_none (e ∷ es) = ap (λ (xs : Sizes). e ∷ xs) (behind_none es)
+
+-- ---- sums over rows
+-- A sum that counts only if a test passes.
+pub sum_if : {X : Type 0} (b : Bool) (w : X → ℕ) (xs : List X) → sum_by (λ x. cond b (w x) 0) xs ≡ cond b (sum_by w xs) 0
+sum_if true w xs = refl
+sum_if false w [] = refl
+sum_if false w (x ∷ xs) = omega (arith, sum_by-cons (λ _. 0) x xs, sum_if false w xs)
+
+-- A sum over the rows of some children is the sum over each child's rows.
+pub rows_by_child : (w : Path × ℕ → ℕ) (cs : List Child) →
+    sum_by w (rows_of cs) ≡ sum_by (λ c. sum_by (λ e. w (c.key ∷ e.0, e.1)) (entries c.graph)) cs
+rows_by_child w [] = refl
+rows_by_child w (c ∷ cs) = omega (
+  arith,
+  rows-cons w c cs,
+  rows_by_child w cs,
+  sum_by-cons (λ (d : Child). sum_by (λ e. w (d.key ∷ e.0, e.1)) (entries d.graph)) c cs,
+)
+
+-- The bytes of the children up to a place, and of the child there.
+pub total_of_more : (cs : List Child) (i : ℕ) (d : Child) → i < length cs → d ≡ get_or cs i d →
+    total_of (take (i + 1) cs) ≡ total_of (take i cs) + total d.graph
+total_of_more cs i d h at = rw (sum_by_more (λ (c : Child). total c.graph) cs i d h, ← at) refl
+
+module _ (w : Child → ℕ) (k : Key) where
+  -- What w gives a child, if it has the key.
+  abbrev keyed : Child → ℕ
+  keyed c = cond (eq_by_cmp key_cmp k c.key) (w c) 0
+
+  none_keyed : (cs : List Child) → Lacks k cs → sum_by keyed cs ≡ 0
+  none_keyed [] h = refl
+  none_keyed (c ∷ cs) h =
+      let other : eq_by_cmp key_cmp k c.key ≡ false = h 0 c (omega arith) in
+      let rest = none_keyed cs (λ i d v. h (suc i) d (omega arith)) in
+      omega (arith, sum_by-cons keyed c cs, ap (λ b. cond b (w c) 0) other, rest)
+
+  -- One child alone has a key.
+  pub one_keyed : (cs : List Child) (i : ℕ) (d : Child) → InOrder cs → i < length cs → (get_or cs i d).key ≡ k →
+      sum_by keyed cs ≡ w (get_or cs i d)
+  unfolding IsStrictlySortedBy
+  one_keyed [] i d o v is = absurd (omega arith)
+  one_keyed (c ∷ cs) zero d o v is =
+      let same : eq_by_cmp key_cmp k c.key ≡ true =
+      subst (λ l. eq_by_cmp key_cmp k l ≡ true) (sym is) (ap is_eq (tied_itself nat_list_cmp_total k)) in
+      let rest = none_keyed cs (lacks-above k cs (subst (λ l. AllAbove cs l) is o.0)) in
+      omega (arith, sum_by-cons keyed c cs, ap (λ b. cond b (w c) 0) same, rest)
+  one_keyed (c ∷ cs) (suc i) d o v is =
+      let less = subst (λ l. key_cmp c.key l ≡ Less) is (rises (c ∷ cs) 0 (suc i) d o (omega arith) v) in
+      let other : eq_by_cmp key_cmp k c.key ≡ false =
+      (eq_by_cmp_equiv nat_list_cmp_total).symm k c.key ∙ ap is_eq less in
+      let rest = one_keyed cs i d o.1 (omega arith) is in
+      omega (arith, sum_by-cons keyed c cs, ap (λ b. cond b (w c) 0) other, rest)

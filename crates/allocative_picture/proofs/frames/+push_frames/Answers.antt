@@ -2,11 +2,11 @@
 use Rattle.std.proofs.Common.{◌≡◌, refl, ◌+◌, ◌<◌, ◌++◌, [], ◌∷◌, length, List, map, arith, ap, sym, subst, append_assoc}
 use Rattle.std.proofs.Common.{append-nil, ◌∙◌, filter, take, take_all}
 use Rattle.allocative_picture.proofs.Common.{is_drawn, len, Child, Path, total, FrameData}
-use Rattle.allocative_picture.proofs.Common.{frame_data, frame_behind, frame_from, filter-append, size_at, map-append}
+use Rattle.allocative_picture.proofs.Common.{frame_data, frame_behind, frame_from, filter-append, size_at}
 use Rattle.allocative_picture.proofs.Common.{total-node, texts, popped, mark_by, mark_with}
-use Rattle.allocative_graph.specs.Rows.{rows_of, rows_of_child}
-use Rattle.allocative_graph.proofs.Children.{rows-more}
-use Rattle.allocative_picture.proofs.Placing.{pushed_key, child_frames, node_frames, start_total}
+use Rattle.allocative_graph.specs.Rows.{rows_of}
+use Rattle.allocative_picture.proofs.Placing.{child_frame, node_frames, start_total}
+use Rattle.allocative_picture.proofs.Walking.{pushed_key, rows_more}
 use Rattle.allocative_picture.proofs.Starting.{start_of}
 use Rattle.allocative_picture.specs.Places.{bytes_before}
 use Rattle.allocative_picture.proofs.frames.+push_frames.Goals as goal
@@ -94,15 +94,13 @@ loop-index-preserved t c =
     rw (c.in_ok-push.ensures.items, c.loop-index.invariant.path) refl in
     let behind_it = pushed_key _ _ c.as_str.result d.key pushed c.as_str.ensures in
     let F = frame_behind o M c.args.before ks g in
-    let came = child_frames o M c.args.before ks g
-    n cs node.whole node.children i d c.index.result.now w c.index-children-index.is start in
-    let more : map F (rows_of (take (i + 1) cs)) ≡ map F (rows_of (take i cs)) ++ map F (rows_of_child d) =
-    ap (map F) (rows-more cs i d w ∙ (λ j. rows_of (take i cs) ++ rows_of_child (sym c.index-children-index.is j)))
-    ∙ map-append F (rows_of (take i cs)) (rows_of_child d) in
+    let more = rows_more F (frame_behind o M c.index.result.now (ks ++ d.key ∷ []) d.graph) cs i d w
+    c.index-children-index.is (child_frame o M c.args.before ks g n cs node.whole node.children i d c.index.result.now w
+    c.index-children-index.is start) in
     record {
       path = popped _ _ _ c.as_str.result _ c.pop.ensures.rest c.push_frames.new.path.ok.0
           (c.in_ok-push_frames.ensures.path ∙ pushed);
-      frames = rw (more, filter-append, ← append_assoc, ← c.loop-index.invariant.frames, ← came, ← behind_it)
+      frames = rw (more, filter-append, ← append_assoc, ← c.loop-index.invariant.frames, ← behind_it)
           c.in_ok-push_frames.ensures.frames;
     }
 

@@ -1,12 +1,13 @@
 -- of grown: a number fits, the start and the step of its loop, and its result
-use Rattle.std.proofs.Common.{◌≡◌, ℕ, ◌+◌, [], ◌∷◌, List, arith, ap, sym, ◌∙◌, take_all, flat_map, take, option_copied}
-use Rattle.allocative_picture.proofs.Common.{Child, Path, flat_map_more, fold-map, size_at, sum_by-append, sum_by-cons, total}
+use Rattle.std.proofs.Common.{◌≡◌, ℕ, ◌+◌, [], ◌∷◌, List, arith, ap, sym, ◌∙◌, take_all, map, take, option_copied}
+use Rattle.allocative_picture.proofs.Common.{Child, Path, fold-map, size_at, sum_by-append, sum_by-cons, total}
 use Rattle.allocative_picture.proofs.Common.{total-node, sum_by-take-le}
-use Rattle.allocative_picture.proofs.Placing.{bytes_of, total_of_more}
+use Rattle.allocative_graph.specs.Rows.{rows_of}
+use Rattle.allocative_picture.proofs.Placing.{bytes_of}
+use Rattle.allocative_picture.proofs.Walking.{behind_none, total_of_more}
 use Rattle.allocative_picture.specs.declared.table.Size.TheVariants.{Own}
 use Rattle.allocative_picture.specs.Table.{behind, growth_in, growths}
-use Rattle.allocative_picture.proofs.Growing.{child_grew, child_weighed, node_weighed}
-use Rattle.allocative_picture.proofs.Heaviest.{behind-none}
+use Rattle.allocative_picture.proofs.Growing.{child_grew, given, node_grew}
 use Rattle.allocative_picture.proofs.table.+grown.Goals as goal
 
 pub overflow_add-bytes : goal.overflow_add-bytes
@@ -35,20 +36,15 @@ loop-child-preserved t c =
     let d = c.child-item.result in
     let o = option_copied c.args.other in
     let u = option_copied c.below.result in
-    let grew = growth_in Own o g in
-    let child : child_weighed grew [] d ≡ behind (d.key ∷ []) (growths Own u d.graph) =
-    child_grew Own o u _ cs i d g [] c.children-children.ensures.whole c.children-children.ensures.children
-    (omega arith) c.child-item.is c.below.ensures.sizes c.below.ensures.totals in
-    let bytes : bytes_of (child_weighed grew [] d) ≡ c.grown-bytes.result =
-    ap bytes_of child
-    ∙ fold-map (λ n (e : Path × ℕ). n + e.1) (λ (e : Path × ℕ). (d.key ∷ e.0, e.1)) 0 (growths Own u d.graph)
+    let before = map (given (growth_in Own o g) []) (rows_of (take i cs)) in
+    let bytes : bytes_of (behind (d.key ∷ []) (growths Own u d.graph)) ≡ c.grown-bytes.result =
+    fold-map (λ n (e : Path × ℕ). n + e.1) (λ (e : Path × ℕ). (d.key ∷ e.0, e.1)) 0 (growths Own u d.graph)
     ∙ sym c.grown-bytes.ensures.sum in
-    let before = flat_map (child_weighed grew []) (take i cs) in
-    let more : bytes_of (flat_map (child_weighed grew []) (take (i + 1) cs)) ≡ bytes_of before + c.grown-bytes.result =
-    ap bytes_of (flat_map_more (child_weighed grew []) cs i d (omega arith) c.child-item.is)
-    ∙ sum_by-append (λ (e : Path × ℕ). e.1) before (child_weighed grew [] d) ∙ ap (λ n. bytes_of before + n) bytes in
+    let more = ap bytes_of (child_grew Own o u _ cs i d g [] c.children-children.ensures.whole
+    c.children-children.ensures.children (omega arith) c.child-item.is c.below.ensures.sizes c.below.ensures.totals)
+    ∙ sum_by-append (λ (e : Path × ℕ). e.1) before (behind (d.key ∷ []) (growths Own u d.graph)) in
     record {
-      sum = omega (arith, c.loop-child.invariant.sum, more);
+      sum = omega (arith, c.loop-child.invariant.sum, more, bytes);
       bound = omega (
         arith,
         c.loop-child.invariant.bound,
@@ -61,16 +57,17 @@ pub returns-clause-sum : goal.returns-clause-sum
 returns-clause-sum t c =
     let g = c.args.graph.now in
     let cs = c.children-children.result.now in
-    let grew = growth_in Own (option_copied c.args.other) g in
-    let rows = flat_map (child_weighed grew []) cs in
-    let all : bytes_of (growths Own (option_copied c.args.other) g) ≡ grew [] + bytes_of rows =
-    ap bytes_of (sym (behind-none (growths Own (option_copied c.args.other) g))
-    ∙ node_weighed grew [] _ cs g c.children-children.ensures.whole c.children-children.ensures.children)
-    ∙ sum_by-cons (λ (e : Path × ℕ). e.1) ([], grew []) rows in
-    c.loop-child.invariant.sum
-    ∙ ap (λ (xs : List Child). grew []
-    + bytes_of (flat_map (child_weighed grew []) xs)) (take_all c.loop-child.child-index cs (omega arith))
-    ∙ sym all
+    let o = option_copied c.args.other in
+    let rows = map (given (growth_in Own o g) []) (rows_of cs) in
+    omega (
+      arith,
+      c.loop-child.invariant.sum,
+      ap (λ (xs : List Child). bytes_of (map (given (growth_in Own o g) []) (rows_of xs)))
+          (take_all c.loop-child.child-index cs (omega arith)),
+      ap bytes_of (sym (behind_none (growths Own o g)) ∙ node_grew Own o [] _ cs g c.children-children.ensures.whole
+          c.children-children.ensures.children),
+      sum_by-cons (λ (e : Path × ℕ). e.1) ([], growth_in Own o g []) rows,
+    )
 
 pub returns-clause-bound : goal.returns-clause-bound
 returns-clause-bound t c =

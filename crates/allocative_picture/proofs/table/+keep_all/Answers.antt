@@ -1,10 +1,11 @@
--- of keep_all: the start and the step of its loop, and what is kept
-use Rattle.std.proofs.Common.{◌≡◌, refl, [], ◌∷◌, ◌++◌, List, arith, ap, sym, subst, ◌∙◌, take_all, flat_map, take, option_copied}
-use Rattle.allocative_picture.proofs.Common.{Child, Path, Sizes, texts, popped, flat_map_more}
-use Rattle.allocative_picture.proofs.Placing.{pushed_key}
+-- of keep_all: the step of its loop, and what is kept
+use Rattle.std.proofs.Common.{◌≡◌, [], ◌∷◌, ◌++◌, List, map, arith, ap, refl, sym, subst, ◌∙◌, take_all, take, option_copied}
+use Rattle.allocative_picture.proofs.Common.{Child, Sizes, texts, popped}
+use Rattle.allocative_graph.specs.Rows.{rows_of}
 use Rattle.allocative_picture.specs.Table.{Keeps, behind, growth_in, growths}
-use Rattle.allocative_picture.proofs.Growing.{child_grew, child_weighed, node_weighed}
+use Rattle.allocative_picture.proofs.Growing.{child_grew, given, node_grew}
 use Rattle.allocative_picture.proofs.Heaviest.{Weighed, keeps_then}
+use Rattle.allocative_picture.proofs.Walking.{pushed_key}
 use Rattle.allocative_picture.proofs.table.+keep_all.Goals as goal
 
 pub loop-child-preserved : goal.loop-child-preserved
@@ -20,33 +21,30 @@ loop-child-preserved t c =
     let new = c.keep_all.new.heaviest in
     let pushed : c.push.new.self.items ≡ c.args.path.now.items ++ c.as_str.result ∷ [] =
     rw (c.in_ok-push.ensures.items, c.loop-child.invariant.path) refl in
-    let behind_it = pushed_key _ _ c.as_str.result d.key pushed c.as_str.ensures in
-    let child : child_weighed grew ks d ≡ behind (ks ++ d.key ∷ []) (growths c.args.size u d.graph) =
-    child_grew c.args.size o u _ cs i d c.args.graph.now
-    ks c.children-children.ensures.whole c.children-children.ensures.children
-    (omega arith) c.child-item.is c.below-below.ensures.sizes c.below-below.ensures.totals in
-    let kept = subst (λ (es : Sizes). Keeps c.args.most es c.loop-child.heaviest new)
-    (ap (λ (p : Path). behind p (growths c.args.size u d.graph)) behind_it ∙ sym child) c.in_ok-keep_all.ensures.kept in
-    let step = keeps_then c.args.most (own ∷ flat_map (child_weighed grew ks) (take i cs))
-    (child_weighed grew ks d) c.args.heaviest.now c.loop-child.heaviest new
-    c.loop-child.invariant.kept kept in
+    let here = pushed_key _ _ c.as_str.result d.key pushed c.as_str.ensures in
+    let rows = child_grew c.args.size o u _ cs i d c.args.graph.now ks c.children-children.ensures.whole
+    c.children-children.ensures.children (omega arith) c.child-item.is c.below-below.ensures.sizes
+    c.below-below.ensures.totals in
     record {
       path = popped _ _ _ c.as_str.result _ c.pop.ensures.rest c.keep_all.new.path.ok.0
           (c.in_ok-keep_all.ensures.path ∙ pushed);
       kept = subst (λ (es : Sizes). Keeps c.args.most es c.args.heaviest.now new)
-          (ap (λ (es : Sizes). own ∷ es)
-          (sym (flat_map_more (child_weighed grew ks) cs i d (omega arith) c.child-item.is))) step;
+          ((λ j. own ∷ map (given grew ks) (rows_of (take i cs)) ++ behind (here j) (growths c.args.size u d.graph))
+          ∙ ap (λ (es : Sizes). own ∷ es) (sym rows))
+          (keeps_then c.args.most (own ∷ map (given grew ks) (rows_of (take i cs))) _ c.args.heaviest.now
+          c.loop-child.heaviest new c.loop-child.invariant.kept c.in_ok-keep_all.ensures.kept);
     }
 
 pub returns-clause-kept : goal.returns-clause-kept
 returns-clause-kept t c =
     let ks = texts c.args.path.now.items in
     let cs = c.children-children.result.now in
-    let grew = growth_in c.args.size (option_copied c.args.other) c.args.graph.now in
+    let o = option_copied c.args.other in
+    let grew = growth_in c.args.size o c.args.graph.now in
     let own : Weighed = (ks, grew []) in
     subst (λ (es : Sizes). Keeps c.args.most es c.args.heaviest.now c.loop-child.heaviest)
-    (ap (λ (xs : List Child). own ∷ flat_map (child_weighed grew ks) xs)
+    (ap (λ (xs : List Child). own ∷ map (given grew ks) (rows_of xs))
     (take_all c.loop-child.child-index cs (omega arith))
-    ∙ sym (node_weighed grew ks _ cs c.args.graph.now
-    c.children-children.ensures.whole c.children-children.ensures.children))
+    ∙ sym (node_grew c.args.size o ks _ cs c.args.graph.now c.children-children.ensures.whole
+    c.children-children.ensures.children))
     c.loop-child.invariant.kept
