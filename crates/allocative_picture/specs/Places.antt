@@ -40,22 +40,22 @@ child_place o c = place_key o (total c.graph) c.key
 abbrev pub bytes_before : Order → List Child → Child → ℕ
 bytes_before o cs c = sum_by (λ d. cond (is_lt (key_cmp (child_place o d) (child_place o c))) (total d.graph) 0) cs
 
--- The bytes of a child and its number.
-abbrev pub numbers_of : Place → ℕ × ℕ
-numbers_of p = (p.bytes.0, p.index)
+-- The place of a child: its bytes and its number.
+abbrev pub placed : Child → ℕ → Place
+placed c i = record { bytes = record { 0 = total c.graph }; index = i }
 
--- The bytes of some children, and their numbers from i on.
-abbrev pub numbered : ℕ → List Child → List (ℕ × ℕ)
+-- The places of some children, by their numbers from i on.
+abbrev pub numbered : ℕ → List Child → List Place
 numbered i [] = []
-numbered i (c ∷ cs) = (total c.graph, i) ∷ numbered (i + 1) cs
+numbered i (c ∷ cs) = placed c i ∷ numbered (i + 1) cs
 
 -- How two children are placed, by their bytes and numbers.
-abbrev pub place_cmp : Order → ℕ × ℕ → ℕ × ℕ → Ordering
-place_cmp order.Key x y = nat_cmp x.1 y.1
-place_cmp order.Size x y = ordering_then (nat_cmp y.0 x.0) (nat_cmp x.1 y.1)
+abbrev pub place_cmp : Order → Place → Place → Ordering
+place_cmp order.Key x y = nat_cmp x.index y.index
+place_cmp order.Size x y = ordering_then (nat_cmp y.bytes.0 x.bytes.0) (nat_cmp x.index y.index)
 
--- The numbers ys are those of the children, in the order in which these are drawn.
-pub record AreInOrder (o : Order) (cs : List Child) (ys : List (ℕ × ℕ)) : Type 0 where
+-- The places ys are those of the children, in the order in which these are drawn.
+pub record AreInOrder (o : Order) (cs : List Child) (ys : List Place) : Type 0 where
   pub same : IsPermutation (numbered 0 cs) ys
   pub rising : AllPairs (λ x y. place_cmp o x y ≡ Less) ys
 

@@ -1,8 +1,8 @@
 //! Where the boxes of a path's children begin.
-ghost use Rattle.std.specs.Prelude.{◌+◌, ◌^◌, ◌<◌, map, IfOk};
+ghost use Rattle.std.specs.Prelude.{◌+◌, ◌^◌, ◌<◌, IfOk};
 ghost use Rattle.allocative_graph.specs.Representation.Children.{InOrder};
 ghost use Rattle.allocative_graph.specs.Rows.{total_of};
-ghost use Rattle.allocative_picture.specs.Places.{AreInOrder, AreStarts, numbers_of};
+ghost use Rattle.allocative_picture.specs.Places.{AreInOrder, AreStarts};
 
 use crate::options::Order;
 use allocative_graph::flamegraph::Child;
@@ -19,7 +19,7 @@ struct Place {
 
 /// Some children in the order in which they are drawn.
 fn in_order(alloc: Global, order: Order, children: &[Child]) -> Result<Vec<Place>, AllocError>
-    ensures { IfOk result (λ places. AreInOrder order children.now (map numbers_of places.items)) }
+    ensures { IfOk result (λ places. AreInOrder order children.now places.items) }
 {
     let mut places = Vec::with_capacity(alloc, children.len())?;
     for (index, child) in children.iter().enumerate() {
