@@ -1,5 +1,5 @@
 -- Graphs with other keys: that a node is folded by its children, and that the total is kept.
-use Rattle.std.proofs.Common.{◌≡◌, ℕ, true, cond, ◌||◌, List, [], ◌∷◌, map, refl, sym, ap, ◌∙◌, arith, is_some}
+use Rattle.std.proofs.Common.{◌≡◌, ℕ, true, List, [], ◌∷◌, map, refl, sym, ap, ◌∙◌, arith, is_some}
 use Rattle.allocative_picture.proofs.Common.{Path, Sizes, Key, Graph, Child, default, total, sum_of, under, entries, node, AreChildren}
 use Rattle.allocative_picture.proofs.Common.{AllByRecursion, graph_of_path, sum_of_all, fold-append, fold-map, get-entries, find, path_cmp}
 use Rattle.allocative_picture.proofs.Common.{path_total}

@@ -1,9 +1,9 @@
 -- How boxes are placed relative to one another, which frames have a box, and how often a path occurs.
 use Rattle.std.proofs.Common.{◌≡◌, ℕ, zero, suc, ◌+◌, ◌*◌, ◌<◌, ◌≤◌, ◌&&◌, cond, List, [], ◌∷◌, ◌++◌, sum_by, refl, ap}
-use Rattle.std.proofs.Common.{◌∙◌, arith, true, Some, sym, subst, T, count_by, Ordering, Less, Equal, Greater, is_eq, is_lt}
-use Rattle.std.proofs.Common.{is_some, inl, inr, ◌-◌, ◌^◌, nat_cmp}
+use Rattle.std.proofs.Common.{◌∙◌, arith, true, Some, sym, subst, Ordering, Less, Equal, Greater, is_eq, is_lt}
+use Rattle.std.proofs.Common.{Option, None, is_some, inl, inr, ◌-◌, ◌^◌, nat_cmp}
 use Rattle.allocative_picture.proofs.Common.{ordering_then, ordering_reverse, entries, Path, key_cmp, path_cmp, total}
-use Rattle.allocative_picture.proofs.Common.{entries_sorted, is_sorted, below_all, is_same_path, tied_itself}
+use Rattle.allocative_picture.proofs.Common.{entries_sorted, tied_itself}
 use Rattle.std.specs.Ordering.{eq_by_cmp}
 use Rattle.allocative_picture.specs.Frames.{before_at}
 use Rattle.allocative_picture.specs.Places.{before_in, place, place_key, IsDrawnFirst}
@@ -13,11 +13,12 @@ use Rattle.std.specs.Cmp.{nat_cmp_is, nat_cmp_total}
 use Rattle.allocative_graph.proofs.Basics.{key_itself, is_eq-Equal}
 use Rattle.std.proofs.lemmas.Map.Lookups.{exact_bytes as key_same}
 use Rattle.allocative_picture.proofs.Common.{sum_by-cons, sum_by-le-sum_by, nat_list_cmp_total}
-use Rattle.allocative_picture.proofs.Common.{Key, begins, edge, get-entries, find, on_test, same_path, Graph, total_at}
+use Rattle.allocative_picture.proofs.Common.{Key, begins, edge, get-entries, find, on_test, Graph, total_at}
 use Rattle.allocative_graph.proofs.Graphs.{total_at-sum_of}
 use Rattle.std.proofs.Math.Nat.{mul-div_cancel_left, div-zero}
 use Rattle.allocative_picture.specs.Laws.{BoxesLaw, InsideLaw, OnceLaw, WithinLaw}
-use Rattle.allocative_picture.proofs.Placing.{less_than, in_order, never_first}
+use Rattle.allocative_picture.proofs.Placing.{never_first}
+use Rattle.allocative_picture.proofs.Walking.{at_found, found_sum}
 use Rattle.allocative_picture.proofs.Starting.{other_place}
 
 -- The bytes n of the path q, if q comes before p.
@@ -204,36 +205,14 @@ pub boxes_are : BoxesLaw
 boxes_are least unit all [] = refl
 boxes_are least unit all (r ∷ rs) = grind (arith, boxes_are least unit all rs)
 
--- How often a path occurs in a list of entries.
-abbrev times : Path → List (Path × ℕ) → ℕ
-times p es = count_by (λ e. is_same_path p e.0) es
-
--- A path occurs in a list as often as in its first entry and in the others.
-times-cons : (p : Path) (e : Path × ℕ) (es : List (Path × ℕ)) →
-    times p (e ∷ es) ≡ cond (is_same_path p e.0) 1 0 + times p es
-times-cons p e es = sum_by-cons (λ (x : Path × ℕ). cond (is_same_path p x.0) 1 0) e es
-
--- A path that comes before all entries is not among them.
-never : (p : Path) (es : List (Path × ℕ)) → T (below_all path_cmp p es) → times p es ≡ 0
-never p [] h = refl
-never p (e ∷ es) h = times-cons p e es ∙ (λ i. cond (is_eq ((less_than p e es h).0 i)) 1 0 + never p es
-    (less_than p e es h).1 i)
-
--- A path that is found in a sorted list occurs once.
-found_once : (p : Path) (es : List (Path × ℕ)) → T (is_sorted path_cmp es) → is_some (find path_cmp p es) ≡ true →
-    times p es ≡ 1
-found_once p [] h f = absurd (cc)
-found_once p (e ∷ es) h f =
-    let parts = in_order e es h in
-    times-cons p e es
-    ∙ on_test (λ b. is_some (cond b (Some e.1) (find path_cmp p es)) ≡ true → cond b 1 0 + times p es ≡ 1)
-    (is_same_path p e.0)
-    (λ same _. ap (λ n. 1 + n) (subst (λ k. times k es ≡ 0) (sym (same_path p e.0 same)) (never e.0 es parts.0)))
-    (λ _ g. ap (λ n. 0 + n) (found_once p es parts.1 g)) f
-
 -- A path of a graph occurs once among its entries.
 pub stands_once : OnceLaw
-stands_once g p h = found_once p (entries g) (entries_sorted g) (ap is_some (sym (get-entries g p)) ∙ h)
+stands_once g p h = found_sum (λ _. 1) p (entries g) (entries_sorted g)
+    ∙ one (find path_cmp p (entries g)) (ap is_some (sym (get-entries g p)) ∙ h)
+  where
+    one : (o : Option ℕ) → is_some o ≡ true → at_found (λ _. 1) o ≡ 1
+    one None h = absurd (cc)
+    one (Some n) h = refl
 
 -- The laws of boxes. That of a change is that of the totals of a sum.
 pub ruleset laws = (is_apart, boxes_are, stands_once, total_at-sum_of)

@@ -1,12 +1,10 @@
 -- The heaviest paths: what keeping one more leaves, and that all paths can be put into the order of a table.
-use Rattle.std.proofs.Common.{◌≡◌, ℕ, ◌+◌, ◌-◌, ◌<◌, ◌≤◌, zero, suc, true, false, cond, Bor, List, [], ◌∷◌, ◌++◌, map, length, get_or, take}
-use Rattle.std.proofs.Common.{AllPairs, IsPermutation, All, refl, sym, ap, subst, ◌∙◌, arith, is_lt, nat_cmp, flat_map, Greater}
+use Rattle.std.proofs.Common.{◌≡◌, ℕ, ◌+◌, ◌-◌, ◌<◌, ◌≤◌, zero, suc, true, false, Bor, List, [], ◌∷◌, ◌++◌, map, length, get_or, take}
+use Rattle.std.proofs.Common.{AllPairs, IsPermutation, All, refl, sym, ap, subst, ◌∙◌, arith, is_lt, nat_cmp, Greater}
 use Rattle.std.proofs.Common.{append_assoc, append-nil, Option, Some, None, IsSome, IfSome, Bool, nat_lt, filter}
-use Rattle.allocative_picture.proofs.Common.{Path, Child, Graph, entries, on_test, path_cmp, ordering_then, texts, node, AreChildren}
-use Rattle.allocative_picture.proofs.Common.{filter-append, map-append, length-map, get_or-map}
+use Rattle.allocative_picture.proofs.Common.{Path, on_test, path_cmp, ordering_then, texts}
+use Rattle.allocative_picture.proofs.Common.{filter-append, length-map, get_or-map}
 use Rattle.allocative_graph.proofs.Basics.{path_total}
-use Rattle.allocative_graph.specs.Rows.{under_rows, rows_of, rows_of_child}
-use Rattle.allocative_graph.specs.Representation.NodeRows.{entries-node}
 use Rattle.std.specs.Cmp.{IsTotalOrder, IsStrictWeakOrder}
 use Rattle.std.specs.Cmp.Lexicographic.{slice_cmp}
 use Rattle.std.specs.List.Sorted.{IsSortedBy}
@@ -26,7 +24,7 @@ use Rattle.std.proofs.lemmas.List.Kept.{AllPairs-cons}
 use Rattle.std.proofs.lemmas.Bool.Decides.{nat_tests}
 use Rattle.allocative_picture.specs.declared.table.Heavy.{Heavy}
 use Rattle.allocative_picture.specs.Table.{weight_cmp, weight_of, weights_of, heavy_cmp, IsNotAfter, AreHeaviest, IsKept}
-use Rattle.allocative_picture.specs.Table.{Keeps, IsPushed, IsTop, behind}
+use Rattle.allocative_picture.specs.Table.{Keeps, IsPushed, IsTop}
 
 -- A path with its bytes.
 abbrev pub Weighed : Type 0
@@ -212,47 +210,34 @@ pairs_head e es h = λ k d w. h zero (suc k) d (omega arith) (omega arith)
 pairs_tail : (e : Weighed) (es : List Weighed) → AllPairs IsNotAfter (e ∷ es) → AllPairs IsNotAfter es
 pairs_tail e es h = λ i j d before within. h (suc i) (suc j) d (omega arith) (omega arith)
 
--- The path e at its place among others.
-put_in : Weighed → List Weighed → List Weighed
-put_in e [] = e ∷ []
-put_in e (f ∷ fs) = cond (is_lt (weight_cmp f e)) (f ∷ put_in e fs) (e ∷ f ∷ fs)
-
-put_in-same : (e : Weighed) (fs : List Weighed) → IsPermutation (e ∷ fs) (put_in e fs)
-unfolding put_in
-put_in-same e [] = IsPermutation-refl _
-put_in-same e (f ∷ fs) =
-    on_test (λ b. IsPermutation (e ∷ f ∷ fs) (cond b (f ∷ put_in e fs) (e ∷ f ∷ fs))) (is_lt (weight_cmp f e))
-    (λ _. IsPermutation-trans _ _ _ (IsPermutation-middle (e ∷ []) f fs)
-    (IsPermutation-cons f (e ∷ fs) (put_in e fs) (put_in-same e fs)))
-    (λ _. IsPermutation-refl _)
-
-put_in-falls : (e : Weighed) (fs : List Weighed) → AllPairs IsNotAfter fs → AllPairs IsNotAfter (put_in e fs)
-unfolding put_in
-put_in-falls e [] h = AllPairs-cons IsNotAfter e [] (All-nil (IsNotAfter e)) h
-put_in-falls e (f ∷ fs) h =
-    on_test (λ b. AllPairs IsNotAfter (cond b (f ∷ put_in e fs) (e ∷ f ∷ fs))) (is_lt (weight_cmp f e))
-    (λ before. AllPairs-cons IsNotAfter f (put_in e fs)
-    (All-permutation (IsNotAfter f) (e ∷ fs) (put_in e fs) (put_in-same e fs)
-    (All-cons (IsNotAfter f) e fs (weights.one_way f e before) (pairs_head f fs h)))
-    (put_in-falls e fs (pairs_tail f fs h)))
-    (λ no. AllPairs-cons IsNotAfter e (f ∷ fs) (All-cons (IsNotAfter e) f fs no
-    (All-weaker (IsNotAfter f) (IsNotAfter e) (λ g k. not_after e f g no k) fs (pairs_head f fs h))) h)
-
 -- Some paths in the order of a table.
-in_order : List Weighed → List Weighed
-in_order [] = []
-in_order (e ∷ es) = put_in e (in_order es)
+abbrev Ordered : List Weighed → Type 0
+Ordered es = (rows : List Weighed) × IsPermutation es rows × AllPairs IsNotAfter rows
 
-in_order-same : (es : List Weighed) → IsPermutation es (in_order es)
-unfolding in_order
-in_order-same [] = IsPermutation-refl _
-in_order-same (e ∷ es) =
-    IsPermutation-trans _ _ _ (IsPermutation-cons e es (in_order es) (in_order-same es)) (put_in-same e (in_order es))
+-- The path e at its place among others.
+put_in : (e : Weighed) (fs : List Weighed) → AllPairs IsNotAfter fs → Ordered (e ∷ fs)
+put_in e [] h = (e ∷ [], IsPermutation-refl _, AllPairs-cons IsNotAfter e [] (All-nil (IsNotAfter e)) h)
+put_in e (f ∷ fs) h =
+    on_test (λ b. Ordered (e ∷ f ∷ fs)) (is_lt (weight_cmp f e))
+    (λ before. let made = put_in e fs (pairs_tail f fs h) in (
+      f ∷ made.0,
+      IsPermutation-trans _ _ _ (IsPermutation-middle (e ∷ []) f fs) (IsPermutation-cons f (e ∷ fs) made.0 made.1),
+      AllPairs-cons IsNotAfter f made.0 (All-permutation (IsNotAfter f) (e ∷ fs) made.0 made.1
+          (All-cons (IsNotAfter f) e fs (weights.one_way f e before) (pairs_head f fs h))) made.2,
+    ))
+    (λ no. (
+      e ∷ f ∷ fs,
+      IsPermutation-refl _,
+      AllPairs-cons IsNotAfter e (f ∷ fs) (All-cons (IsNotAfter e) f fs no
+          (All-weaker (IsNotAfter f) (IsNotAfter e) (λ g k. not_after e f g no k) fs (pairs_head f fs h))) h,
+    ))
 
-in_order-falls : (es : List Weighed) → AllPairs IsNotAfter (in_order es)
-unfolding in_order
-in_order-falls [] = λ i j d before within. absurd (omega arith)
-in_order-falls (e ∷ es) = put_in-falls e (in_order es) (in_order-falls es)
+in_order : (es : List Weighed) → Ordered es
+in_order [] = ([], IsPermutation-refl _, λ i j d before within. absurd (omega arith))
+in_order (e ∷ es) =
+    let rest = in_order es in
+    let made = put_in e rest.0 rest.2 in
+    (made.0, IsPermutation-trans _ _ _ (IsPermutation-cons e es rest.0 rest.1) made.1, made.2)
 
 -- Two lists in order are one if no path of the first is after one of the second.
 pairs-append : (es fs : List Weighed) → AllPairs IsNotAfter es → AllPairs IsNotAfter fs →
@@ -293,22 +278,23 @@ take_empty (suc n) es h = All-take (λ (e : Weighed). e.1 ≡ 0) (suc n) es (h (
 pub top_of_heaviest : (n : ℕ) (es kept sorted : List Weighed) → AreHeaviest n es kept → IsPermutation kept sorted →
     AllPairs IsNotAfter sorted → IsTop n es sorted
 top_of_heaviest n es kept sorted h same falls =
-    let rest = in_order h.rest in
+    let others = in_order h.rest in
+    let rest = others.0 in
     let count : length sorted ≡ length kept = length_permutation kept sorted same in
     let more = n - length sorted in
     let sum : length sorted + more ≡ n = omega (arith, count, h.within) in
     let empty : All (λ (e : Weighed). e.1 ≡ 0) (take more rest) = take_empty more rest
     (λ some. All-permutation (λ (e : Weighed). e.1 ≡ 0) h.rest rest
-    (in_order-same h.rest) (h.empty (omega (arith, some, count)))) in
+    others.1 (h.empty (omega (arith, some, count)))) in
     let heavy = All-permutation (λ (e : Weighed). 0 < e.1) kept sorted same h.heavy in
     record {
       rows = sorted ++ rest;
       same = IsPermutation-trans _ _ _ h.same (IsPermutation-trans
           _ _ _ (IsPermutation-append_left h.rest kept sorted same)
-          (IsPermutation-append_right sorted h.rest rest (in_order-same h.rest)));
-      falling = pairs-append sorted rest falls (in_order-falls h.rest)
+          (IsPermutation-append_right sorted h.rest rest others.1));
+      falling = pairs-append sorted rest falls others.2
           (All-permutation (λ (f : Weighed). All (λ (e : Weighed). IsNotAfter e f) sorted) h.rest rest
-          (in_order-same h.rest)
+          others.1
           (λ k d w. All-permutation (λ (e : Weighed). IsNotAfter e (get_or h.rest k d)) kept sorted same
           (h.after k d w)));
       is = sym (ap (λ m. filter has_bytes (take m (sorted ++ rest))) (sym sum)

@@ -1,6 +1,6 @@
 -- The frames of a graph: the bytes before each, that of its root and then those of its children.
 use Rattle.std.proofs.Common.{◌≡◌, ℕ, ◌+◌, ◌<◌, ◌≤◌, cond, false, List, [], ◌∷◌, ◌++◌, map, sum_by, length, refl, sym, ap, subst, ◌∙◌}
-use Rattle.std.proofs.Common.{append_assoc, append-nil, T, arith, get_or, is_lt, is_eq, Bool, true, Less, Equal, Greater, Ordering, All}
+use Rattle.std.proofs.Common.{append_assoc, append-nil, arith, get_or, is_lt, is_eq, Bool, true, Less, Equal, Greater, Ordering, All}
 use Rattle.allocative_picture.proofs.Common.{entries, is_sorted, below_all, Path, Key, key_cmp, ordering_then}
 use Rattle.allocative_picture.proofs.Common.{path_cmp, Graph, total_at, frame_of, frame_behind, len, eq_by_cmp_equiv, nat_list_cmp_total}
 use Rattle.allocative_picture.proofs.Common.{Child, total, total_of, sum_by-le-sum_by, FrameData, frame_from, sum_by-cons}
@@ -9,7 +9,6 @@ use Rattle.allocative_picture.proofs.Starting.{other_place}
 use Rattle.allocative_picture.proofs.Walking.{node_rows, one_keyed, rows_by_child, sum_if}
 use Rattle.allocative_graph.proofs.Basics.{is_eq-Equal, key_itself}
 use Rattle.allocative_graph.proofs.Nodes.{total_at-child}
-use Rattle.allocative_graph.proofs.Sums.{is_lt-Less}
 use Rattle.allocative_graph.specs.Rows.{rows_of}
 use Rattle.allocative_graph.specs.Representation.NodeRows.{entries-node}
 use Rattle.std.specs.List.{remove}
@@ -26,16 +25,6 @@ use Rattle.allocative_picture.specs.declared.options.Order.{Order}
 -- The bytes of some entries together.
 abbrev pub bytes_of : Sizes → ℕ
 bytes_of es = sum_by (λ e. e.1) es
-
--- A path that is less than all entries is less than the first one and than all others.
-pub less_than : (p : Path) (e : Path × ℕ) (es : Sizes) → T (below_all path_cmp p (e ∷ es)) →
-    (path_cmp p e.0 ≡ Less) × T (below_all path_cmp p es)
-less_than p e es h = (is_lt-Less _ (first _ (below_all path_cmp p es) h), second (is_lt (path_cmp p e.0)) _ h)
-
--- In a sorted list, the path of the first entry is less than all others, and these are sorted.
-pub in_order : (e : Path × ℕ) (es : Sizes) → T (is_sorted path_cmp (e ∷ es)) →
-    T (below_all path_cmp e.0 es) × T (is_sorted path_cmp es)
-in_order e es h = (first _ (is_sorted path_cmp es) h, second (below_all path_cmp e.0 es) _ h)
 
 -- ---- the frames of a node
 -- No path comes before the root.

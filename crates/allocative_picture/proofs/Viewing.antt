@@ -1,7 +1,7 @@
 -- Views: their totals, the bytes at their paths, and the graphs that are added on the way.
-use Rattle.std.proofs.Common.{◌≡◌, ℕ, zero, suc, ◌+◌, ◌-◌, ◌&&◌, ◌||◌, inl, inr, Bool, true, false, not, cond, T, List, [], ◌∷◌, ◌++◌, reverse}
-use Rattle.std.proofs.Common.{length, map, sum_by, codes, refl, sym, ap, ◌∙◌, arith, Equal, nat_lt, nat_eq, unwrap_or, Bor, Vec, Global}
-use Rattle.std.proofs.Common.{get_or, take, ◌<◌}
+use Rattle.std.proofs.Common.{◌≡◌, ℕ, zero, suc, ◌+◌, ◌-◌, ◌&&◌, ◌||◌, inl, inr, Bool, true, not, cond, List, [], ◌∷◌, ◌++◌, reverse}
+use Rattle.std.proofs.Common.{length, sum_by, codes, refl, sym, ap, ◌∙◌, arith, Equal, nat_lt, nat_eq, unwrap_or, Bor, Vec, Global}
+use Rattle.std.proofs.Common.{get_or, take, ◌<◌, Option, Some, None}
 use Rattle.std.specs.Cmp.{tied_then, both_ways}
 use Rattle.std.specs.Cmp.Lexicographic.{pointwise, texts_ties}
 use Rattle.std.specs.List.{starts_with}
@@ -9,21 +9,20 @@ use Rattle.std.proofs.lemmas.Bool.Decides.{nat_tests}
 use Rattle.std.proofs.lemmas.List.{take_more, reverse-append, reverse-reverse}
 use Rattle.std.proofs.lemmas.List.Sorted.{IsPermutation-to_front}
 use Rattle.allocative_picture.proofs.Common.{Path, Sizes, Key, Graph, Child, default, size_at, total, total_of, sum_of, under}
-use Rattle.allocative_picture.proofs.Common.{entries, entries_sorted, get-entries, find, is_sorted, below_all, path_cmp, key_cmp}
-use Rattle.allocative_picture.proofs.Common.{is_same_path, same_path, first, second, texts, begins, list_any, ends_in}
+use Rattle.allocative_picture.proofs.Common.{entries, entries_sorted, get-entries, find, path_cmp, key_cmp}
+use Rattle.allocative_picture.proofs.Common.{is_same_path, same_path, texts, begins, list_any, ends_in}
 use Rattle.allocative_picture.proofs.Common.{graph_of_path, total-path, size_at-path, sum_by-cons, fold-append, map-append}
-use Rattle.allocative_picture.proofs.Common.{sum_of_all, total_of-cons, total-node, node, AreChildren}
+use Rattle.allocative_picture.proofs.Common.{sum_of_all, total_of-cons, node, AreChildren}
 use Rattle.allocative_graph.proofs.Basics.{and-true, same_path_itself}
 use Rattle.allocative_graph.proofs.Children.{first_below, others, one_child, merged_same, merged_second, node_of_one}
 use Rattle.allocative_graph.proofs.Graphs.{total-sum_of, size_at-sum_of, size_at-default, total-default, total-all, total-under}
 use Rattle.allocative_graph.proofs.Graphs.{sum_of-commutes, sum_of-associates, sum_of-default, added_up, added_up-onto}
 use Rattle.allocative_graph.proofs.Graphs.{added_up-permuted, total-added_up}
 use Rattle.allocative_graph.proofs.Nodes.{tree-path, node_leaf, added_node, added_sum}
-use Rattle.allocative_graph.proofs.Sums.{find-below_all}
-use Rattle.allocative_picture.proofs.Walking.{sum_if}
+use Rattle.allocative_picture.proofs.Walking.{at_found, found_sum, node_total, sum_if}
 use Rattle.allocative_graph.specs.Graph.{IsTree}
 use Rattle.allocative_picture.specs.Views.{bytes_alone, moved_onto, last_of, by_last_key, bytes_ending_in, reversed, part, is_within}
-use Rattle.allocative_picture.specs.Views.{only, without, bytes_within, paths_of, joined, GuidesChild, HasChildren, InStep, IsOutline}
+use Rattle.allocative_picture.specs.Views.{only, without, bytes_within, paths_of, joined, GuidesChild, InStep, IsOutline}
 
 -- ---- paths that move
 -- A number that counts only if it is not 0 counts.
@@ -69,18 +68,14 @@ module _ (keep : Path × ℕ → Bool) (f : Path → Path) where
       size_at (moved_onto keep f default (entries g)) p ≡ sum_by (added_at p) (entries g)
   size_at-view g p = omega (arith, size_at-moved default (entries g) p, size_at-default p)
 
--- Of rows in order, those of one path have the bytes that are found there.
-bytes_found : (q : Path) (es : Sizes) → T (is_sorted path_cmp es) →
-    sum_by (λ e. cond (is_same_path q e.0) e.1 0) es ≡ unwrap_or (find path_cmp q es) 0
-bytes_found q [] h = refl
-bytes_found q (e ∷ es) h =
-    let rest = bytes_found q es (second (below_all path_cmp e.0 es) _ h) in
-    let none = find-below_all path_cmp e.0 es (first (below_all path_cmp e.0 es) (is_sorted path_cmp es) h) in
-    grind (arith, rest, none, same_path q e.0, sum_by-cons (λ (x : Path × ℕ). cond (is_same_path q x.0) x.1 0) e es)
-
 -- The entries of one path have its bytes.
 bytes_at : (g : Graph) (q : Path) → sum_by (λ e. cond (is_same_path q e.0) e.1 0) (entries g) ≡ size_at g q
-bytes_at g q = bytes_found q (entries g) (entries_sorted g) ∙ ap (λ o. unwrap_or o 0) (sym (get-entries g q))
+bytes_at g q = found_sum (λ n. n) q (entries g) (entries_sorted g) ∙ own (find path_cmp q (entries g))
+    ∙ ap (λ o. unwrap_or o 0) (sym (get-entries g q))
+  where
+    own : (o : Option ℕ) → at_found (λ n. n) o ≡ unwrap_or o 0
+    own None = refl
+    own (Some n) = refl
 
 -- ---- by last key
 -- The last key of a path is alone the path of a key if the path ends in it.
@@ -261,10 +256,6 @@ total-step R same (c ∷ cs) [] h = absurd h
 total-step R same (c ∷ cs) (d ∷ ds) ((key, of), rest) =
     omega (arith, total_of-cons c cs, total_of-cons d ds, same c d.graph of, total-step R same cs ds rest)
 
--- The total of a graph is that of its root and of its children.
-total-children : (g : Graph) (cs : List Child) → HasChildren g cs → total g ≡ size_at g [] + total_of cs
-total-children g cs h = ap total h.whole ∙ total-node (size_at g []) cs h.children.sorted
-
 -- An outline keeps the total.
 pub total-outline : (l n : ℕ) (u g h : Graph) → IsOutline l n u g h → total h ≡ total g
 unfolding IsOutline
@@ -278,7 +269,7 @@ total-outline (suc l) n u g h (us, cs, a, b, inl (more, o, sub, e)) =
       total-under (codes "{}") o,
       total-outline l n (joined us) (joined cs) o sub,
       total-joined cs,
-      total-children g cs b,
+      node_total g cs b.whole b.children,
     )
 total-outline (suc l) n u g h (us, cs, a, b, inr (few, ds, step, e)) =
     let R : Child → Graph → Type 0 = λ c o. (x : Graph) × GuidesChild u c x × IsOutline l n x c.graph o in
@@ -288,5 +279,5 @@ total-outline (suc l) n u g h (us, cs, a, b, inr (few, ds, step, e)) =
       total-all (bytes_alone (size_at g [])) ds,
       total-path [] (size_at g []),
       total-step R (λ c o of. total-outline l n of.0 c.graph o of.2) cs ds step,
-      total-children g cs b,
+      node_total g cs b.whole b.children,
     )

@@ -1,13 +1,14 @@
 -- Walks over the paths of a graph, each after some keys: its root, and the rows of its children one after another.
 use Rattle.std.proofs.Common.{◌≡◌, ℕ, zero, suc, ◌+◌, ◌<◌, Bool, true, false, cond, is_eq, Less, List, [], ◌∷◌, ◌++◌, map, length}
-use Rattle.std.proofs.Common.{get_or, take, sum_by, Bor, refl, sym, ap, subst, ◌∙◌, arith, append_assoc, append-nil}
+use Rattle.std.proofs.Common.{get_or, take, sum_by, Bor, refl, sym, ap, subst, ◌∙◌, arith, append_assoc, append-nil, Option, Some, None, T}
 use Rattle.allocative_picture.proofs.Common.{Path, Sizes, Key, Graph, Child, entries, node, AreChildren, InOrder, texts, map-append}
 use Rattle.allocative_picture.proofs.Common.{key_cmp, eq_by_cmp_equiv, nat_list_cmp_total, tied_itself, sum_by-cons, total, total_of}
-use Rattle.allocative_picture.proofs.Common.{sum_by_more}
+use Rattle.allocative_picture.proofs.Common.{sum_by_more, find, is_sorted, below_all, path_cmp, is_same_path, same_path, first, second, size_at, total-node}
 use Rattle.std.specs.Ordering.{eq_by_cmp}
 use Rattle.std.specs.List.Sorted.{IsStrictlySortedBy}
 use Rattle.std.proofs.lemmas.Simd.{map-map}
 use Rattle.allocative_graph.proofs.Children.{rows-more, rows-cons, Lacks, lacks-above, rises}
+use Rattle.allocative_graph.proofs.Sums.{find-below_all}
 use Rattle.allocative_graph.specs.Rows.{rows_of, rows_of_child}
 use Rattle.allocative_graph.specs.Representation.Children.{AllAbove}
 use Rattle.allocative_graph.specs.Representation.NodeRows.{entries-node}
@@ -106,3 +107,25 @@ module _ (w : Child → ℕ) (k : Key) where
       (eq_by_cmp_equiv nat_list_cmp_total).symm k c.key ∙ ap is_eq less in
       let rest = one_keyed cs i d o.1 (omega arith) is in
       omega (arith, sum_by-cons keyed c cs, ap (λ b. cond b (w c) 0) other, rest)
+
+-- ---- the entries of one path
+-- What w gives a number that is found, and otherwise none.
+abbrev pub at_found : (ℕ → ℕ) → Option ℕ → ℕ
+at_found w None = 0
+at_found w (Some n) = w n
+
+-- Of rows in order, one path has what w gives the number that is found there.
+pub found_sum : (w : ℕ → ℕ) (q : Path) (es : Sizes) → T (is_sorted path_cmp es) →
+    sum_by (λ e. cond (is_same_path q e.0) (w e.1) 0) es ≡ at_found w (find path_cmp q es)
+found_sum w q [] h = refl
+found_sum w q (e ∷ es) h =
+    let rest = found_sum w q es (second (below_all path_cmp e.0 es) _ h) in
+    let none : at_found w (find path_cmp e.0 es) ≡ 0 =
+    ap (at_found w) (find-below_all path_cmp e.0 es (first (below_all path_cmp e.0 es) (is_sorted path_cmp es) h)) in
+    grind (arith, rest, none, same_path q e.0, sum_by-cons (λ (x : Path × ℕ). cond (is_same_path q x.0) (w x.1) 0) e es)
+
+-- ---- totals
+-- The bytes of a node are those of its root and of its children.
+pub node_total : (g : Graph) (cs : List Child) → g ≡ node (size_at g []) cs → AreChildren cs →
+    total g ≡ size_at g [] + total_of cs
+node_total g cs whole h = ap total whole ∙ total-node (size_at g []) cs h.sorted

@@ -1,12 +1,12 @@
 -- of push_frames: what starts and push_frames require, the step of its loop, and the frames
 use Rattle.std.proofs.Common.{◌≡◌, refl, ◌+◌, ◌<◌, ◌++◌, [], ◌∷◌, length, List, map, arith, ap, sym, subst, append_assoc}
-use Rattle.std.proofs.Common.{append-nil, ◌∙◌, filter, take, take_all}
+use Rattle.std.proofs.Common.{append-nil, ◌∙◌, filter, take_all}
 use Rattle.allocative_picture.proofs.Common.{is_drawn, len, Child, Path, total, FrameData}
 use Rattle.allocative_picture.proofs.Common.{frame_data, frame_behind, frame_from, filter-append, size_at}
-use Rattle.allocative_picture.proofs.Common.{total-node, texts, popped, mark_by, mark_with}
+use Rattle.allocative_picture.proofs.Common.{texts, popped, mark_by, mark_with}
 use Rattle.allocative_graph.specs.Rows.{rows_of}
 use Rattle.allocative_picture.proofs.Placing.{child_frame, node_frames, start_total}
-use Rattle.allocative_picture.proofs.Walking.{pushed_key, rows_more}
+use Rattle.allocative_picture.proofs.Walking.{node_total, pushed_key, rows_more}
 use Rattle.allocative_picture.proofs.Starting.{start_of}
 use Rattle.allocative_picture.specs.Places.{bytes_before}
 use Rattle.allocative_picture.proofs.frames.+push_frames.Goals as goal
@@ -20,8 +20,7 @@ overflow_add-first t c =
       arith,
       c.self_size.ensures,
       c.requires.fits,
-      ap total node.whole,
-      total-node (size_at g []) c.children-children.result.now node.children.sorted,
+      node_total g c.children-children.result.now node.whole node.children,
     )
 
 pub starts-requires-clause-fits : goal.starts-requires-clause-fits
@@ -32,8 +31,7 @@ starts-requires-clause-fits t c =
       arith,
       c.self_size.ensures,
       c.requires.fits,
-      ap total node.whole,
-      total-node (size_at g []) c.children-children.result.now node.children.sorted,
+      node_total g c.children-children.result.now node.whole node.children,
     )
 
 -- A child has fewer paths, and its bytes fit with those before it.
@@ -64,8 +62,7 @@ push_frames-requires t c =
           start,
           start_total o cs i d w c.index-children-index.is,
           c.requires.fits,
-          ap total node.whole,
-          total-node (size_at g []) cs node.children.sorted,
+          node_total g cs node.whole node.children,
         ),
         λ p. ap (λ (q : Path). M (q ++ p)) behind_it ∙ ap M (append_assoc ks (d.key ∷ []) p)
             ∙ c.requires.other (d.key ∷ p)

@@ -1,10 +1,10 @@
 -- of grown: a number fits, the start and the step of its loop, and its result
 use Rattle.std.proofs.Common.{◌≡◌, ℕ, ◌+◌, [], ◌∷◌, List, arith, ap, sym, ◌∙◌, take_all, map, take, option_copied}
-use Rattle.allocative_picture.proofs.Common.{Child, Path, fold-map, size_at, sum_by-append, sum_by-cons, total}
-use Rattle.allocative_picture.proofs.Common.{total-node, sum_by-take-le}
+use Rattle.allocative_picture.proofs.Common.{Child, Path, fold-map, sum_by-append, sum_by-cons, total}
+use Rattle.allocative_picture.proofs.Common.{sum_by-take-le}
 use Rattle.allocative_graph.specs.Rows.{rows_of}
 use Rattle.allocative_picture.proofs.Placing.{bytes_of}
-use Rattle.allocative_picture.proofs.Walking.{behind_none, total_of_more}
+use Rattle.allocative_picture.proofs.Walking.{behind_none, node_total, total_of_more}
 use Rattle.allocative_picture.specs.declared.table.Size.TheVariants.{Own}
 use Rattle.allocative_picture.specs.Table.{behind, growth_in, growths}
 use Rattle.allocative_picture.proofs.Growing.{child_grew, given, node_grew}
@@ -18,8 +18,7 @@ overflow_add-bytes t c =
     let d = c.child-item.result in
     omega (
       arith,
-      ap total c.children-children.ensures.whole,
-      total-node (size_at g []) cs c.children-children.ensures.children.sorted,
+      node_total g cs c.children-children.ensures.whole c.children-children.ensures.children,
       c.total_size-all.ensures.total,
       c.loop-child.invariant.bound,
       c.grown-bytes.ensures.bound,
@@ -75,8 +74,7 @@ returns-clause-bound t c =
     let cs = c.children-children.result.now in
     omega (
       arith,
-      ap total c.children-children.ensures.whole,
-      total-node (size_at g []) cs c.children-children.ensures.children.sorted,
+      node_total g cs c.children-children.ensures.whole c.children-children.ensures.children,
       c.loop-child.invariant.bound,
       sum_by-take-le (λ (x : Child). total x.graph) cs c.loop-child.child-index,
     )

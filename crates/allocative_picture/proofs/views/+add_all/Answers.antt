@@ -1,6 +1,6 @@
 -- of add_all: the step of its loop, and what is added
 use Rattle.std.proofs.Common.{◌≡◌, [], ◌∷◌, ◌++◌, List, arith, ap, refl, sym, ◌∙◌, take_all, take}
-use Rattle.allocative_picture.proofs.Common.{Child, Sizes, entries, size_at, texts, popped}
+use Rattle.allocative_picture.proofs.Common.{Child, entries, size_at, texts, popped}
 use Rattle.allocative_graph.specs.Rows.{rows_of}
 use Rattle.allocative_picture.specs.Views.{all_of, is_kept, moved, viewed}
 use Rattle.allocative_picture.specs.Table.{behind}
