@@ -71,7 +71,8 @@ module _ (f : Key → Key) where
   rows-folded h (c ∷ cs) trees =
       fold-append (λ (x : Graph) (e : Path × ℕ). sum_of x (made e)) h (rows_of_child c) (rows_of cs)
       ∙ ap (λ (x : Graph). added_up made x (rows_of cs))
-      (fold-map (λ (x : Graph) (e : Path × ℕ). sum_of x (made e)) (λ (e : Path × ℕ). (c.key ∷ e.0, e.1)) h (entries c.graph)
+      (fold-map (λ (x : Graph) (e : Path × ℕ). sum_of x (made e)) (λ (e : Path × ℕ). (c.key ∷ e.0, e.1)) h
+      (entries c.graph)
       ∙ added-under (f c.key) h (entries c.graph) (ap is_some (sym (get-entries c.graph [])) ∙ trees.0.root))
       ∙ rows-folded (sum_of h (under (f c.key) (folded f c.graph))) cs trees.1
 

@@ -13,7 +13,7 @@ use Rattle.allocative_graph.specs.Representation.NodeRows.{entries-node}
 use Rattle.allocative_graph.proofs.Children.{rows-cons, get-under}
 use Rattle.allocative_graph.proofs.Nodes.{size_under-found, total_at-child}
 use Rattle.allocative_picture.proofs.Geometry.{stands_once}
-use Rattle.allocative_picture.proofs.Walking.{node_rows, one_keyed, rows_by_child, rows_more, sum_if}
+use Rattle.allocative_picture.proofs.Walking.{child_has, node_rows, one_keyed, rows_by_child, rows_more, sum_if}
 use Rattle.allocative_picture.specs.declared.table.Size.{Size}
 use Rattle.allocative_picture.specs.declared.table.Size.TheVariants.{Own, Total}
 use Rattle.allocative_picture.specs.Table.{behind, children_at, growth_in, growths, weight_in, weights, weighed}
@@ -123,20 +123,14 @@ child_grew s o u n cs i d g ks whole h w at own_before whole_before =
     (λ (e : Path × ℕ). (child ++ e.0, e.1)) (λ (e : Path × ℕ). (e.0, growth_in s u d.graph e.0)) (entries d.graph)))
   where
     sizes : (p : Path) → size_at g (d.key ∷ p) ≡ size_at d.graph p
-    sizes p = ap (λ (x : Graph). size_at x (d.key ∷ p)) whole
-        ∙ ap (λ (m : Option ℕ). unwrap_or m 0) (get-under n cs d.key p h.sorted
-        ∙ size_under-found d.key p cs i d h.sorted w (ap (λ (x : Child). x.key) (sym at)))
-        ∙ ap (λ (x : Child). size_at x.graph p) (sym at)
+    sizes = child_has size_at n cs g i d whole at (λ p. ap (λ (m : Option ℕ). unwrap_or m 0)
+        (get-under n cs (get_or cs i d).key p h.sorted ∙ size_under-found (get_or cs i d).key p cs i d h.sorted w refl))
 
     totals : (p : Path) → total_at g (d.key ∷ p) ≡ total_at d.graph p
-    totals p = ap (λ (x : Graph). total_at x (d.key ∷ p)) whole
-        ∙ subst (λ (x : Child). total_at (node n cs) (x.key ∷ p)
-        ≡ total_at x.graph p) (sym at) (total_at-child n cs i d p h.sorted w)
+    totals = child_has total_at n cs g i d whole at (λ p. total_at-child n cs i d p h.sorted w)
 
     children : (p : Path) → children_at g (d.key ∷ p) ≡ children_at d.graph p
-    children p = ap (λ (x : Graph). children_at x (d.key ∷ p)) whole
-        ∙ subst (λ (x : Child). children_at (node n cs) (x.key ∷ p)
-        ≡ children_at x.graph p) (sym at) (children_at-child n cs i d p h.sorted w)
+    children = child_has children_at n cs g i d whole at (λ p. children_at-child n cs i d p h.sorted w)
 
     each : (p : Path) → growth_in s o g (d.key ∷ p) ≡ growth_in s u d.graph p
     each p = growth-same s o u g d.graph (d.key ∷ p) p (sizes p) (totals p) (children p) (own_before p) (whole_before p)

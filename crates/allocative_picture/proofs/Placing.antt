@@ -6,7 +6,7 @@ use Rattle.allocative_picture.proofs.Common.{path_cmp, Graph, total_at, frame_of
 use Rattle.allocative_picture.proofs.Common.{Child, total, total_of, sum_by-le-sum_by, FrameData, frame_from, sum_by-cons}
 use Rattle.allocative_picture.proofs.Common.{node, first, second, Sizes, length-map, len-entries, AreChildren, drop-map, take_rest}
 use Rattle.allocative_picture.proofs.Starting.{other_place}
-use Rattle.allocative_picture.proofs.Walking.{node_rows, one_keyed, rows_by_child, sum_if}
+use Rattle.allocative_picture.proofs.Walking.{child_has, node_rows, one_keyed, rows_by_child, sum_if}
 use Rattle.allocative_graph.proofs.Basics.{is_eq-Equal, key_itself}
 use Rattle.allocative_graph.proofs.Nodes.{total_at-child}
 use Rattle.allocative_graph.specs.Rows.{rows_of}
@@ -115,18 +115,23 @@ module _ (o : Order) (M : Path → Mark) (b : ℕ) (ks : Path) (g : Graph) (n : 
   child_total i d p w = ap (λ (x : Graph). total_at x ((get_or cs i d).key ∷ p)) whole
       ∙ total_at-child n cs i d p children.sorted w
 
+  child_bytes : (i : ℕ) (c : Child) → i < length cs → c ≡ get_or cs i c → (p : Path) →
+      total_at g (c.key ∷ p) ≡ total_at c.graph p
+  child_bytes i c w at =
+      child_has total_at n cs g i c whole at (λ p. total_at-child n cs i c p children.sorted w)
+
   -- Before a path of a child are the bytes of the root, of the children drawn first, and those before it in the child.
   before-child : (i : ℕ) (c : Child) (p : Path) → i < length cs → c ≡ get_or cs i c →
       before_at o g (c.key ∷ p) ≡ n + bytes_before o cs c + before_at o c.graph p
   before-child i c p w at =
       let f = total_at g in
-      let here : (q : Path) → f (c.key ∷ q) ≡ total_at c.graph q =
-      λ q. (λ t. f ((at t).key ∷ q)) ∙ child_total i c q w ∙ (λ t. total_at (sym at t).graph q) in
-      let split = sum_split (drawn o f c p) (λ d. cond (is_lt (key_cmp (child_place o d) (child_place o c))) (total d.graph) 0)
-      (λ d. cond (eq_by_cmp key_cmp c.key d.key) (drawn o f c p d) 0) cs
-      (λ j d v. of_child o f c p (get_or cs j d) ∙ (λ t. cond (is_lt
-      (key_cmp (place_key o (child_total j d [] v t) (get_or cs j d).key) (place_key o (here [] t) c.key)))
-      (total (get_or cs j d).graph) 0 + cond (eq_by_cmp key_cmp c.key (get_or cs j d).key) (drawn o f c p (get_or cs j d)) 0)) in
+      let here = child_bytes i c w at in
+      let first : Child → Ordering → ℕ = λ d r. cond (is_lt r) (total d.graph) 0 in
+      let its : Child → ℕ = λ d. cond (eq_by_cmp key_cmp c.key d.key) (drawn o f c p d) 0 in
+      let split = sum_split (drawn o f c p) (λ d. first d (key_cmp (child_place o d) (child_place o c))) its cs
+      (λ j d v. of_child o f c p (get_or cs j d) ∙ (λ t. first (get_or cs j d)
+      (key_cmp (place_key o (child_total j d [] v t) (get_or cs j d).key) (place_key o (here [] t) c.key))
+      + its (get_or cs j d))) in
       let own = one_keyed (drawn o f c p) c.key cs i c children.sorted w (ap (λ (x : Child). x.key) (sym at))
       ∙ ap (drawn o f c p) (sym at) ∙ itself o f c p here in
       ap (λ (es : Sizes). before_in o f es (c.key ∷ p)) (ap entries whole ∙ entries-node n cs children.sorted)
@@ -146,7 +151,7 @@ module _ (o : Order) (M : Path → Mark) (b : ℕ) (ks : Path) (g : Graph) (n : 
       let before : start + before_at o c.graph e.0 ≡ b + before_at o g (c.key ∷ e.0) =
       omega (arith, is, before-child i c e.0 w at) in
       let bytes : total_at g (c.key ∷ e.0) ≡ total_at c.graph e.0 =
-      (λ t. total_at g ((at t).key ∷ e.0)) ∙ child_total i c e.0 w ∙ (λ t. total_at (sym at t).graph e.0) in
+      child_bytes i c w at e.0 in
       λ t. frame_from M (sym before t)
       (record { path = sym (append_assoc ks (c.key ∷ []) e.0) t; self_size = e.1; total_size = bytes t })
 

@@ -108,22 +108,17 @@ pub other_place : (o : Order) (m n : ℕ) (k l : Key) → is_eq (key_cmp k l) �
 other_place order.Key m n k l h = h
 other_place order.Size m n k l h = then_other (nat_cmp (2 ^ 64 - m) (2 ^ 64 - n)) (key_cmp k l) h
 
--- What is neither less nor equal is greater.
-turned : (r : Ordering) → is_lt r ≡ false → is_eq r ≡ false → ordering_reverse r ≡ Less
-turned Less h k = cc
-turned Equal h k = cc
-turned Greater h k = refl
-
--- Numbers that differ do not compare as equal.
-pub other_number : (m n : ℕ) → (m == n) ≡ false → is_eq (nat_cmp n m) ≡ false
-other_number m n h = grind (arith, nat_tests)
-
 -- A lesser number differs.
 less_differ : (m n : ℕ) → nat_cmp m n ≡ Less → (m == n) ≡ false
 less_differ m n h = grind (arith, nat_tests)
 
 number_turned : (m n : ℕ) → (m == n) ≡ (n == m)
 number_turned m n = grind (arith, nat_tests)
+
+-- What is not drawn before another child is drawn after it, if their numbers differ.
+drawn_after : (m n i j : ℕ) → (i == j) ≡ false → is_lt (ordering_then (nat_cmp m n) (nat_cmp j i)) ≡ false →
+    ordering_then (nat_cmp n m) (nat_cmp i j) ≡ Less
+drawn_after m n i j other h = grind (arith, nat_tests)
 
 -- By size the children are in order once they are sorted.
 pub by_size : (cs : List Child) (ys : List Place) → IsPermutation (numbered 0 cs) ys →
@@ -133,12 +128,9 @@ by_size cs ys same up = record {
   rising = λ i j x low high.
       let a = get_or ys i x in
       let b = get_or ys j x in
-      (places_total order.Size).antisymm a b
-      ∙ turned (place_cmp order.Size b a)
+      drawn_after (bytes_in a) (bytes_in b) a.index b.index (apart_from_distinct same_number ys i j x differ low high)
       (sorted_far (λ p q. is_lt (place_cmp order.Size p q))
-      (ranks_by (places_total order.Size) (λ (p : Place). p)) ys up i j x (omega (arith, low)) high)
-      (then_other (nat_cmp (bytes_in a) (bytes_in b)) (nat_cmp b.index a.index)
-      (other_number a.index b.index (apart_from_distinct same_number ys i j x differ low high)));
+      (ranks_by (places_total order.Size) (λ (p : Place). p)) ys up i j x (omega (arith, low)) high);
 }
   where
     differ : IsDistinct same_number ys
@@ -187,19 +179,15 @@ module _ (R : Place → Place → Ordering) (o : IsTotalOrder R) where
 -- Keys of children compare as their places.
 pub number-key : (cs : List Child) (i j : ℕ) (d : Child) → InOrder cs → i < length cs → j < length cs →
     key_cmp (get_or cs i d).key (get_or cs j d).key ≡ nat_cmp i j
-number-key cs i j d o v w = by (cases_lt i j)
-  where
-    by : (i < j) ⊎ (j ≤ i) → key_cmp (get_or cs i d).key (get_or cs j d).key ≡ nat_cmp i j
-    by (inl low) = rises cs i j d o low w ∙ nat_cmp_is i j Less low
-    by (inr high) = at (cases_lt j i)
-      where
-        at : (j < i) ⊎ (i ≤ j) → key_cmp (get_or cs i d).key (get_or cs j d).key ≡ nat_cmp i j
-        at (inl more) = nat_list_cmp_total.antisymm (get_or cs i d).key (get_or cs j d).key
-            ∙ ap ordering_reverse (rises cs j i d o more v) ∙ nat_cmp_is i j Greater more
-        at (inr few) = let e : i ≡ j = omega (arith, high, few) in
-            ap (λ k. key_cmp (get_or cs k d).key (get_or cs j d).key) e
-            ∙ tied_itself nat_list_cmp_total (get_or cs j d).key
-            ∙ nat_cmp_is i j Equal e
+number-key cs i j d o v w =
+    let k = (get_or cs i d).key in
+    let l = (get_or cs j d).key in
+    let up : i < j → key_cmp k l ≡ Less = λ low. rises cs i j d o low w in
+    let down : j < i → key_cmp k l ≡ Greater =
+    λ low. nat_list_cmp_total.antisymm k l ∙ ap ordering_reverse (rises cs j i d o low v) in
+    let same : i ≡ j → key_cmp k l ≡ Equal = λ e. ap (λ n. key_cmp (get_or cs n d).key l) e
+    ∙ tied_itself nat_list_cmp_total l in
+    grind (arith, nat_tests, up, down, same)
 
 -- More bytes leave less room.
 room : (m n : ℕ) → m < 2 ^ 64 → n < 2 ^ 64 → nat_cmp (2 ^ 64 - m) (2 ^ 64 - n) ≡ nat_cmp n m
@@ -303,8 +291,8 @@ module _ (o : Order) (b : ℕ) (cs : List Child) (sorted : InOrder cs) (fits : t
 
 -- The start of a child behind the bytes b and the n bytes of the root.
 pub start_of : (o : Order) (cs : List Child) (i : ℕ) (c : Child) (b m n start : ℕ) {starts : List ℕ} →
-    AreStarts o (b + m) cs starts →
-    i < length cs → c ≡ get_or cs i c → m ≡ n → start ≡ get_or starts i start → start ≡ b + n + bytes_before o cs c
+    AreStarts o (b + m) cs starts → i < length cs → c ≡ get_or cs i c → m ≡ n → start ≡ get_or starts i start →
+    start ≡ b + n + bytes_before o cs c
 start_of o cs i c b m n start {starts} h w at own is =
     let c_is = ap (bytes_before o cs) at in
     omega (arith, is, get_or_default starts i start 0 (omega (arith, h.many, w)), h.each i c w, own, c_is)

@@ -161,7 +161,8 @@ total-only ps g = total-part (is_within ps) g
 pub total-without : (ps : List Path) (g : Graph) → total (without ps g) + bytes_within ps g ≡ total g
 total-without ps g = omega (arith, total-part (λ p. not (is_within ps p)) g, halves (is_within ps) (entries g))
 
-pub size_at-only : (ps : List Path) (g : Graph) (p : Path) → size_at (only ps g) p ≡ cond (is_within ps p) (size_at g p) 0
+pub size_at-only : (ps : List Path) (g : Graph) (p : Path) →
+    size_at (only ps g) p ≡ cond (is_within ps p) (size_at g p) 0
 size_at-only ps g p = size_at-part (is_within ps) g p
 
 pub size_at-without : (ps : List Path) (g : Graph) (p : Path) →
@@ -191,16 +192,20 @@ within_starts (p ∷ ps) q = λ i. begins-starts p.items q i || within_starts ps
 pub onto_default : (g : Graph) → IsTree g → sum_of default g ≡ g
 onto_default g t = sum_of-commutes default g ∙ sum_of-default g t
 
--- One key more is put before the keys that came before it.
-pub reversed_more : (ks : List (Bor (List ℕ))) (i : ℕ) (d : Bor (List ℕ)) (k : Key) (n : ℕ) → i < length ks →
-    k ≡ (get_or ks i d).now →
-    sum_of default (under k (graph_of_path (reverse (texts (take i ks))) n))
-    ≡ graph_of_path (reverse (texts (take (i + 1) ks))) n
-reversed_more ks i d k n within at =
-    onto_default _ (tree-path (k ∷ reverse (texts (take i ks))) n)
-    ∙ ap (λ (p : Path). graph_of_path p n) (sym (ap reverse
-    (ap texts (take_more ks i d within) ∙ map-append (λ (x : Bor (List ℕ)). x.now) (take i ks) (get_or ks i d ∷ [])
-    ∙ ap (λ (x : Key). texts (take i ks) ++ x ∷ []) (sym at)) ∙ reverse-append (texts (take i ks)) (k ∷ [])))
+-- The keys of texts in reverse are the texts in reverse.
+texts-reverse : (ks : List (Bor (List ℕ))) → texts (reverse ks) ≡ reverse (texts ks)
+texts-reverse [] = refl
+texts-reverse (k ∷ ks) =
+    ap texts (reverse-append (k ∷ []) ks) ∙ map-append (λ (x : Bor (List ℕ)). x.now) (reverse ks) (k ∷ [])
+    ∙ ap (λ p. p ++ k.now ∷ []) (texts-reverse ks) ∙ sym (reverse-append (k.now ∷ []) (texts ks))
+
+-- Bytes at a reversed path alone.
+pub reversed_alone : (ks : List (Bor (List ℕ))) (n : ℕ) →
+    sum_of default (graph_of_path (texts (reverse ks)) n) ≡ graph_of_path (reverse (texts ks)) n
+reversed_alone ks n = onto_default _ (tree-path (texts (reverse ks)) n) ∙ ap (λ p. graph_of_path p n) (texts-reverse ks)
+
+-- The empty graph has no bytes.
+pub ruleset empty = (total-default)
 
 -- The last key of a path that ends in a key is that key.
 pub last_after : (p : Path) (k : Key) → last_of (p ++ k ∷ []) ≡ k ∷ []

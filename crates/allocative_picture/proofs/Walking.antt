@@ -47,7 +47,8 @@ node_behind ks n cs g whole h = node_rows (λ (e : Path × ℕ). (ks ++ e.0, e.1
 
 -- The paths of one child more stand behind its key too.
 pub behind_more : (ks : Path) (cs : List Child) (i : ℕ) (d : Child) → i < length cs → d ≡ get_or cs i d →
-    behind ks (rows_of (take (i + 1) cs)) ≡ behind ks (rows_of (take i cs)) ++ behind (ks ++ d.key ∷ []) (entries d.graph)
+    behind ks (rows_of (take (i + 1) cs))
+    ≡ behind ks (rows_of (take i cs)) ++ behind (ks ++ d.key ∷ []) (entries d.graph)
 behind_more ks cs i d w at = rows_more (λ (e : Path × ℕ). (ks ++ e.0, e.1)) (λ e. ((ks ++ d.key ∷ []) ++ e.0, e.1))
     cs i d w at (λ e i. (sym (append_assoc ks (d.key ∷ []) e.0) i, e.1))
 
@@ -58,7 +59,8 @@ behind_none (e ∷ es) = ap (λ (xs : Sizes). e ∷ xs) (behind_none es)
 
 -- ---- sums over rows
 -- A sum that counts only if a test passes.
-pub sum_if : {X : Type 0} (b : Bool) (w : X → ℕ) (xs : List X) → sum_by (λ x. cond b (w x) 0) xs ≡ cond b (sum_by w xs) 0
+pub sum_if : {X : Type 0} (b : Bool) (w : X → ℕ) (xs : List X) →
+    sum_by (λ x. cond b (w x) 0) xs ≡ cond b (sum_by w xs) 0
 sum_if true w xs = refl
 sum_if false w [] = refl
 sum_if false w (x ∷ xs) = omega (arith, sum_by-cons (λ _. 0) x xs, sum_if false w xs)
@@ -124,7 +126,15 @@ found_sum w q (e ∷ es) h =
     ap (at_found w) (find-below_all path_cmp e.0 es (first (below_all path_cmp e.0 es) (is_sorted path_cmp es) h)) in
     grind (arith, rest, none, same_path q e.0, sum_by-cons (λ (x : Path × ℕ). cond (is_same_path q x.0) (w x.1) 0) e es)
 
--- ---- totals
+-- ---- what a node has of a child
+-- If a node has for the path of a child what the child has, so it is with the graph of the node.
+pub child_has : {X : Type 0} (F : Graph → Path → X) (n : ℕ) (cs : List Child) (g : Graph) (i : ℕ) (d : Child) →
+    g ≡ node n cs → d ≡ get_or cs i d →
+    ((p : Path) → F (node n cs) ((get_or cs i d).key ∷ p) ≡ F (get_or cs i d).graph p) → (p : Path) →
+    F g (d.key ∷ p) ≡ F d.graph p
+child_has F n cs g i d whole at same p = ap (λ (x : Graph). F x (d.key ∷ p)) whole
+    ∙ subst (λ (x : Child). F (node n cs) (x.key ∷ p) ≡ F x.graph p) (sym at) (same p)
+
 -- The bytes of a node are those of its root and of its children.
 pub node_total : (g : Graph) (cs : List Child) → g ≡ node (size_at g []) cs → AreChildren cs →
     total g ≡ size_at g [] + total_of cs

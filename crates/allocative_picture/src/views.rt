@@ -326,6 +326,7 @@ fn is_within(paths: &[Vec<&str>], path: &[&str]) -> bool
 }
 
 /// The graph that has bytes at the reverse of a path alone.
+#[tactic(auto, using(crate::proofs::Viewing::empty))]
 fn graph_of_reversed(
     alloc: Global,
     path: &[&'static str],
@@ -333,12 +334,10 @@ fn graph_of_reversed(
 ) -> Result<FlameGraph, AllocError>
     ensures { IfOk result (λ graph. graph ≡ graph_of_path (reverse (texts path.now)) bytes) }
 {
-    let mut graph = bytes_alone(alloc, bytes)?;
-    for key in path {
-        let mut outer = FlameGraph::default(alloc);
-        put(alloc, &mut outer, &Key::new(*key), &mut graph)?;
-        graph = outer;
-    }
+    let mut keys = Vec::from_slice(alloc, path)?;
+    keys.as_mut_slice().reverse();
+    let mut graph = FlameGraph::default(alloc);
+    add_at(&mut graph, keys.as_slice(), bytes)?;
     Ok(graph)
 }
 

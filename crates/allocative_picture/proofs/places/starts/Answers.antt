@@ -10,7 +10,8 @@ use Rattle.allocative_picture.proofs.places.starts.Goals as goal
 pub index_mut-requires : goal.index_mut-requires
 index_mut-requires c =
     let ys = c.deref-place-items.result.now in
-    let h : AreInOrder c.args.order c.args.children.now ys = rw c.deref-place-items.ensures.value c.in_ok-places.ensures in
+    let h : AreInOrder c.args.order c.args.children.now ys =
+    rw c.deref-place-items.ensures.value c.in_ok-places.ensures in
     omega (
       arith,
       c.loop-place.invariant.many,
@@ -20,7 +21,8 @@ index_mut-requires c =
 pub overflow_add-next : goal.overflow_add-next
 overflow_add-next c =
     let ys = c.deref-place-items.result.now in
-    let h : AreInOrder c.args.order c.args.children.now ys = rw c.deref-place-items.ensures.value c.in_ok-places.ensures in
+    let h : AreInOrder c.args.order c.args.children.now ys =
+    rw c.deref-place-items.ensures.value c.in_ok-places.ensures in
     omega (
       arith,
       c.requires.fits,

@@ -10,7 +10,7 @@ abbrev pub invariant-loop-place : goal.invariant-loop-place
 invariant-loop-place l = record {
   many : length l.starts.items ≡ length l.children;
   next : l.next ≡ l.first + sum_by bytes_in (take l.place-index l.place-items);
-  each : All (λ (x : Place).
-      get_or l.starts.items x.index 0 ≡ l.first + bytes_before l.fn.order l.children (get_or l.children x.index no_child))
+  each : All (λ (x : Place). get_or l.starts.items x.index 0
+      ≡ l.first + bytes_before l.fn.order l.children (get_or l.children x.index no_child))
       (take l.place-index l.place-items);
 }

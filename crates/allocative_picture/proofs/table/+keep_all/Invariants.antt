@@ -16,5 +16,6 @@ invariant-loop-child l =
     let grew = growth_in l.size (option_copied l.other) l.graph in record {
       path : l.path.items ≡ l.fn.path.items;
       kept : Keeps l.most ((texts l.fn.path.items, grew [])
-          ∷ map (given grew (texts l.fn.path.items)) (rows_of (take l.child-index l.children))) l.fn.heaviest l.heaviest;
+          ∷ map (given grew (texts l.fn.path.items)) (rows_of (take l.child-index l.children)))
+          l.fn.heaviest l.heaviest;
     }

@@ -8,4 +8,5 @@ pub returns-clause-total : goal.returns-clause-total
 returns-clause-total c = ap total c.in_ok-view.ensures ∙ total-by_last_key c.args.graph.now
 
 pub returns-clause-sizes : goal.returns-clause-sizes
-returns-clause-sizes c = λ k. ap (λ (h : Graph). size_at h (k ∷ [])) c.in_ok-view.ensures ∙ size_at-by_last_key c.args.graph.now k
+returns-clause-sizes c = λ k. ap (λ (h : Graph). size_at h (k ∷ [])) c.in_ok-view.ensures
+    ∙ size_at-by_last_key c.args.graph.now k

@@ -1,14 +1,17 @@
--- of graph_of_reversed: the step of its loop, and the result
-use Rattle.std.proofs.Common.{ap, ◌∙◌, arith, take_all, reverse}
-use Rattle.allocative_picture.proofs.Common.{graph_of_path, sum_of, under, texts}
-use Rattle.allocative_picture.proofs.Viewing.{reversed_more}
+-- of graph_of_reversed: the result
+use Rattle.std.proofs.Common.{◌≡◌, ◌++◌, length, take, drop, reverse, ap, ◌∙◌, arith}
+use Rattle.std.proofs.Math.Seq.{take-append_seam}
+use Rattle.allocative_picture.proofs.Common.{graph_of_path, sum_of, texts}
+use Rattle.allocative_picture.proofs.Viewing.{reversed_alone}
 use Rattle.allocative_picture.proofs.views.graph_of_reversed.Goals as goal
 
-pub loop-key-preserved : goal.loop-key-preserved
-loop-key-preserved c =
-    c.in_ok-put.ensures.sum ∙ (λ j. sum_of (c.default-outer.ensures j) (under c.new.result (c.loop-key.invariant j)))
-    ∙ reversed_more c.args.path.now c.loop-key.key-index _ c.new.result c.args.bytes (omega arith) c.new.ensures
-
 pub returns : goal.returns
-returns c = c.loop-key.invariant ∙ ap (λ ks. graph_of_path (reverse (texts ks)) c.args.bytes) (take_all
-    c.loop-key.key-index c.args.path.now (omega arith))
+returns c =
+    let new = c.reverse.new.self in
+    let rest = drop (length new) c.in_ok-keys.keys.items in
+    let many : c.in_ok-keys.keys.len ≡ length new = omega (arith, c.reverse.ensures.len, c.as_mut_slice.ensures.len) in
+    let keys = c.as_slice.ensures.value ∙ (λ i. take (many i) (new ++ rest)) ∙ take-append_seam new rest
+    ∙ c.reverse.ensures.after ∙ ap reverse (c.as_mut_slice.ensures.value ∙ c.in_ok-keys.ensures.items) in
+    c.in_ok-add_at.ensures.sum
+    ∙ (λ i. sum_of (c.default-graph.ensures i) (graph_of_path (texts (keys i)) c.args.bytes))
+    ∙ reversed_alone c.args.path.now c.args.bytes
