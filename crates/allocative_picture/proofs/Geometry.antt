@@ -1,7 +1,7 @@
 -- How boxes are placed relative to one another, which frames have a box, and how often a path occurs.
 use Rattle.std.proofs.Common.{◌≡◌, ℕ, zero, suc, ◌+◌, ◌*◌, ◌<◌, ◌≤◌, ◌&&◌, cond, List, [], ◌∷◌, ◌++◌, sum_by, refl, ap}
 use Rattle.std.proofs.Common.{◌∙◌, arith, true, Some, sym, subst, Ordering, Less, Equal, Greater, is_eq, is_lt}
-use Rattle.std.proofs.Common.{Option, None, is_some, inl, inr, ◌-◌, ◌^◌, nat_cmp}
+use Rattle.std.proofs.Common.{Option, None, get_or, is_some, inl, inr, ◌-◌, ◌^◌, nat_cmp}
 use Rattle.allocative_picture.proofs.Common.{ordering_then, ordering_reverse, entries, Path, key_cmp, path_cmp, total}
 use Rattle.allocative_picture.proofs.Common.{entries_sorted, tied_itself}
 use Rattle.std.specs.Ordering.{eq_by_cmp}
@@ -18,7 +18,7 @@ use Rattle.allocative_graph.proofs.Graphs.{total_at-sum_of}
 use Rattle.std.proofs.Math.Nat.{mul-div_cancel_left, div-zero}
 use Rattle.allocative_picture.specs.Laws.{BoxesLaw, InsideLaw, OnceLaw, WithinLaw}
 use Rattle.allocative_picture.proofs.Placing.{never_first}
-use Rattle.allocative_picture.proofs.Walking.{at_found, found_sum}
+use Rattle.allocative_picture.proofs.Walking.{at_found, found_sum, sum_split}
 use Rattle.allocative_picture.proofs.Starting.{other_place}
 
 -- The bytes n of the path q, if q comes before p.
@@ -120,18 +120,8 @@ module _ (o : Order) (f : Path → ℕ) where
   -- The bytes before a path, and those of it and of all paths below it.
   reached : (p : Path) (rs : List (Path × ℕ)) →
       before_in o f rs p + sum_by (λ e. cond (begins p e.0) e.1 0) rs ≡ sum_by (reaches p) rs
-  reached p [] = omega arith
-  reached p (r ∷ rs) =
-      let below : cond (begins (place o f p) (place o f r.0)) r.1 0 ≡ cond (begins p r.0) r.1 0 =
-      ap (λ b. cond b r.1 0) (begins-place o f p r.0) in
-      omega (
-        arith,
-        below,
-        sum_by-cons (lowers p) r rs,
-        sum_by-cons (λ e. cond (begins p e.0) e.1 0) r rs,
-        sum_by-cons (reaches p) r rs,
-        reached p rs,
-      )
+  reached p rs = sym (sum_split (reaches p) (lowers p) (λ e. cond (begins p e.0) e.1 0) rs
+      (λ i d w. let e = get_or rs i d in ap (λ b. lowers p e + cond b e.1 0) (begins-place o f p e.0)))
 
   -- What is drawn before a path is drawn before those below it, and what these reach the path reaches.
   longer-place : (p : Path) (k : Key) (e : Path × ℕ) →
@@ -158,12 +148,12 @@ edges-le (suc n) a b h = edge-le (suc n) a b (omega arith) h
 
 module _ (o : Order) (g : Graph) where
   -- A box does not begin before that of its parent.
-  starts_inside : (p : Path) (k : Key) → edge (total g) (before_at o g p) ≤ edge (total g) (before_at o g (p ++ k ∷ []))
+  pub starts_inside : (p : Path) (k : Key) → edge (total g) (before_at o g p) ≤ edge (total g) (before_at o g (p ++ k ∷ []))
   starts_inside p k = edges-le (total g) _ _ (sum_by-le-sum_by (lowers o (total_at g) p)
       (lowers o (total_at g) (p ++ k ∷ [])) (entries g) (λ e. (longer-place o (total_at g) p k e).0))
 
   -- A box does not end behind that of its parent.
-  ends_inside : (p : Path) (k : Key) →
+  pub ends_inside : (p : Path) (k : Key) →
       edge (total g) (before_at o g (p ++ k ∷ []) + total_at g (p ++ k ∷ []))
       ≤ edge (total g) (before_at o g p + total_at g p)
   ends_inside p k =
@@ -185,20 +175,12 @@ module _ (o : Order) (g : Graph) where
       (beside-place o (total_at g) p k l h)))
 
   -- No box ends past the right edge.
-  is_within : (p : Path) → 0 < total g → edge (total g) (before_at o g p + total_at g p) ≤ 1000000
+  pub is_within : (p : Path) → 0 < total g → edge (total g) (before_at o g p + total_at g p) ≤ 1000000
   is_within p some =
       let le = sum_by-le-sum_by (reaches o (total_at g) p) (λ e. e.1) (entries g)
       (λ e. once e.1 (place o (total_at g) e.0) (place o (total_at g) p)) in
       let right = edges-le (total g) _ (total g) (rw (← reached o (total_at g) p (entries g)) at le) in
       omega (arith, mul-div_cancel_left 1000000 some, right)
-
--- Each box is inside that of its parent, for every order.
-pub all_inside : InsideLaw
-all_inside o M g p k = record { starts = starts_inside o g p k; ends = ends_inside o g p k }
-
--- Each box is within the picture, for every order.
-pub all_within : WithinLaw
-all_within o M g p some = is_within o g p some
 
 -- The boxes of some frames are the elements of those that are wide enough.
 pub boxes_are : BoxesLaw

@@ -122,15 +122,11 @@ child_grew s o u n cs i d g ks whole h w at own_before whole_before =
     ∙ ap (λ (es : Sizes). map F (rows_of (take i cs)) ++ es) (sym (map-map
     (λ (e : Path × ℕ). (child ++ e.0, e.1)) (λ (e : Path × ℕ). (e.0, growth_in s u d.graph e.0)) (entries d.graph)))
   where
-    sizes : (p : Path) → size_at g (d.key ∷ p) ≡ size_at d.graph p
-    sizes = child_has size_at n cs g i d whole at (λ p. ap (λ (m : Option ℕ). unwrap_or m 0)
-        (get-under n cs (get_or cs i d).key p h.sorted ∙ size_under-found (get_or cs i d).key p cs i d h.sorted w refl))
-
-    totals : (p : Path) → total_at g (d.key ∷ p) ≡ total_at d.graph p
-    totals = child_has total_at n cs g i d whole at (λ p. total_at-child n cs i d p h.sorted w)
-
-    children : (p : Path) → children_at g (d.key ∷ p) ≡ children_at d.graph p
-    children = child_has children_at n cs g i d whole at (λ p. children_at-child n cs i d p h.sorted w)
-
     each : (p : Path) → growth_in s o g (d.key ∷ p) ≡ growth_in s u d.graph p
-    each p = growth-same s o u g d.graph (d.key ∷ p) p (sizes p) (totals p) (children p) (own_before p) (whole_before p)
+    each p = growth-same s o u g d.graph (d.key ∷ p) p
+        (child_has size_at n cs g i d whole at (λ q. ap (λ (m : Option ℕ). unwrap_or m 0)
+        (get-under n cs (get_or cs i d).key q h.sorted
+        ∙ size_under-found (get_or cs i d).key q cs i d h.sorted w refl)) p)
+        (child_has total_at n cs g i d whole at (λ q. total_at-child n cs i d q h.sorted w) p)
+        (child_has children_at n cs g i d whole at (λ q. children_at-child n cs i d q h.sorted w) p)
+        (own_before p) (whole_before p)

@@ -15,7 +15,7 @@ use Rattle.std.proofs.lemmas.Cmp.{nat_cmp_total, on_total, then_total, back_tota
 use Rattle.std.proofs.Math.Seq.{take-append-add}
 use Rattle.std.proofs.lemmas.List.Sorted.{IsPermutation-refl, IsPermutation-sym, IsPermutation-cons, IsPermutation-trans}
 use Rattle.std.proofs.lemmas.List.Sorted.{IsPermutation-append_left, IsPermutation-append_right, IsPermutation-middle}
-use Rattle.std.proofs.lemmas.List.Sorted.{IsPermutation-to_front, IsPermutation-map, length_permutation, ranks_by, sorted_far}
+use Rattle.std.proofs.lemmas.List.Sorted.{IsPermutation-push_more, IsPermutation-map, length_permutation, ranks_by, sorted_far}
 use Rattle.std.proofs.lemmas.List.Sorted.{All-permutation}
 use Rattle.std.proofs.lemmas.List.{get_or_default}
 use Rattle.std.proofs.lemmas.List.Elements.{All-nil, All-cons, All-head, All-tail, All-weaker, All-append}
@@ -69,9 +69,8 @@ kept_dropped : (n : ℕ) (es kept : List Weighed) (f : Weighed) → AreHeaviest 
     (length kept < n → f.1 ≡ 0) → AreHeaviest n (es ++ f ∷ []) kept
 kept_dropped n es kept f h after empty = record {
   rest = f ∷ h.rest;
-  same = IsPermutation-trans _ _ _ (IsPermutation-to_front es f)
-      (IsPermutation-trans _ _ _ (IsPermutation-cons f es (kept ++ h.rest) h.same)
-      (IsPermutation-sym _ _ (IsPermutation-middle kept f h.rest)));
+  same = IsPermutation-push_more es (kept ++ h.rest) _ f h.same
+      (IsPermutation-sym _ _ (IsPermutation-middle kept f h.rest));
   within = h.within;
   heavy = h.heavy;
   after = All-cons (λ (g : Weighed). All (λ (e : Weighed). IsNotAfter e g) kept) f h.rest after h.after;
@@ -83,9 +82,8 @@ kept_pushed : (n : ℕ) (es kept kept' : List Weighed) (f : Weighed) → 0 < f.1
     IsPermutation (f ∷ kept) kept' → AreHeaviest n es kept → AreHeaviest n (es ++ f ∷ []) kept'
 kept_pushed n es kept kept' f some room same h = record {
   rest = h.rest;
-  same = IsPermutation-trans _ _ _ (IsPermutation-to_front es f)
-      (IsPermutation-trans _ _ _ (IsPermutation-cons f es (kept ++ h.rest) h.same)
-      (IsPermutation-append_left h.rest (f ∷ kept) kept' same));
+  same = IsPermutation-push_more es (kept ++ h.rest) _ f h.same
+      (IsPermutation-append_left h.rest (f ∷ kept) kept' same);
   within = omega (arith, length_permutation (f ∷ kept) kept' same, room);
   heavy = All-permutation (λ (e : Weighed). 0 < e.1)
       (f ∷ kept) kept' same (All-cons (λ (e : Weighed). 0 < e.1) f kept some h.heavy);
@@ -110,13 +108,12 @@ kept_replaced n es kept less kept' m f full some split last before same h =
     λ P p a. All-permutation P (f ∷ less) kept' same (All-cons P f less p a) in
     record {
       rest = m ∷ h.rest;
-      same = IsPermutation-trans _ _ _ (IsPermutation-to_front es f)
-          (IsPermutation-trans _ _ _ (IsPermutation-cons f es (kept ++ h.rest) h.same)
+      same = IsPermutation-push_more es (kept ++ h.rest) _ f h.same
           (IsPermutation-trans _ _ _ (IsPermutation-cons f
           (kept ++ h.rest) ((m ∷ less) ++ h.rest) (IsPermutation-append_left h.rest kept (m ∷ less) split))
           (IsPermutation-trans _ _ _ (IsPermutation-middle (f ∷ []) m (less ++ h.rest))
           (IsPermutation-trans _ _ _ (IsPermutation-sym _ _ (IsPermutation-middle (f ∷ less) m h.rest))
-          (IsPermutation-append_left (m ∷ h.rest) (f ∷ less) kept' same)))));
+          (IsPermutation-append_left (m ∷ h.rest) (f ∷ less) kept' same))));
       within = omega (arith, count, h.within);
       heavy = made (λ (e : Weighed). 0 < e.1) some (All-tail
           (λ (e : Weighed). 0 < e.1) m less (split_all (λ (e : Weighed). 0 < e.1) h.heavy));

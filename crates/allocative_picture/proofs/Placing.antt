@@ -6,7 +6,7 @@ use Rattle.allocative_picture.proofs.Common.{path_cmp, Graph, total_at, frame_of
 use Rattle.allocative_picture.proofs.Common.{Child, total, total_of, sum_by-le-sum_by, FrameData, frame_from, sum_by-cons}
 use Rattle.allocative_picture.proofs.Common.{node, first, second, Sizes, length-map, len-entries, AreChildren, drop-map, take_rest}
 use Rattle.allocative_picture.proofs.Starting.{other_place}
-use Rattle.allocative_picture.proofs.Walking.{child_has, node_rows, one_keyed, rows_by_child, sum_if}
+use Rattle.allocative_picture.proofs.Walking.{child_has, node_rows, one_keyed, rows_by_child, sum_if, sum_split}
 use Rattle.allocative_graph.proofs.Basics.{is_eq-Equal, key_itself}
 use Rattle.allocative_graph.proofs.Nodes.{total_at-child}
 use Rattle.allocative_graph.specs.Rows.{rows_of}
@@ -34,14 +34,8 @@ never_first n (l ∷ q) = refl
 
 -- No bytes are drawn before the root.
 before-root : (o : Order) (f : Path → ℕ) (es : Sizes) → before_in o f es [] ≡ 0
-before-root o f [] = refl
-before-root o f (e ∷ es) =
-    omega (
-      arith,
-      sum_by-cons (λ (x : Path × ℕ). cond (is_lt (path_cmp (place o f x.0) [])) x.1 0) e es,
-      never_first e.1 (place o f e.0),
-      before-root o f es,
-    )
+before-root o f es =
+    (λ i. sum_by (λ e. never_first e.1 (place o f e.0) i) es) ∙ sum_if false (λ (e : Path × ℕ). e.1) es
 
 -- The bytes of some entries whose places come before that of p, if r says how the keys before both are placed.
 abbrev before_by : Order → (Path → ℕ) → (Path → ℕ) → Path → Ordering → Sizes → ℕ
@@ -53,19 +47,6 @@ beside_child : (o : Order) (u v : Path → ℕ) (p : Path) (r : Ordering) (es : 
 beside_child o u v p Less es h = refl
 beside_child o u v p Equal es h = cc
 beside_child o u v p Greater es h = sum_if false (λ (e : Path × ℕ). e.1) es
-
--- A sum of sums is the sum of both.
-sum_split : (f a b : Child → ℕ) (cs : List Child) → All (λ c. f c ≡ a c + b c) cs →
-    sum_by f cs ≡ sum_by a cs + sum_by b cs
-sum_split f a b [] h = refl
-sum_split f a b (c ∷ cs) h = omega (
-  arith,
-  sum_by-cons f c cs,
-  sum_by-cons a c cs,
-  sum_by-cons b c cs,
-  All-head (λ (d : Child). f d ≡ a d + b d) c cs h,
-  sum_split f a b cs (All-tail (λ (d : Child). f d ≡ a d + b d) c cs h),
-)
 
 module _ (o : Order) (f : Path → ℕ) (c : Child) (p : Path) where
   -- The bytes of an entry that are drawn before a path of the child c.

@@ -1,5 +1,5 @@
 -- Views: their totals, the bytes at their paths, and the graphs that are added on the way.
-use Rattle.std.proofs.Common.{◌≡◌, ℕ, zero, suc, ◌+◌, ◌-◌, ◌&&◌, ◌||◌, inl, inr, Bool, true, not, cond, List, [], ◌∷◌, ◌++◌, reverse}
+use Rattle.std.proofs.Common.{◌≡◌, ℕ, zero, suc, ◌+◌, ◌-◌, ◌&&◌, ◌||◌, inl, inr, Bool, true, false, not, cond, List, [], ◌∷◌, ◌++◌, reverse}
 use Rattle.std.proofs.Common.{length, sum_by, codes, refl, sym, ap, ◌∙◌, arith, Equal, nat_lt, nat_eq, unwrap_or, Bor, Vec, Global}
 use Rattle.std.proofs.Common.{get_or, take, ◌<◌, Option, Some, None}
 use Rattle.std.specs.Cmp.{tied_then, both_ways}
@@ -19,7 +19,7 @@ use Rattle.allocative_graph.proofs.Graphs.{total-sum_of, size_at-sum_of, size_at
 use Rattle.allocative_graph.proofs.Graphs.{sum_of-commutes, sum_of-associates, sum_of-default, added_up, added_up-onto}
 use Rattle.allocative_graph.proofs.Graphs.{added_up-permuted, total-added_up}
 use Rattle.allocative_graph.proofs.Nodes.{tree-path, node_leaf, added_node, added_sum}
-use Rattle.allocative_picture.proofs.Walking.{at_found, found_sum, node_total, sum_if}
+use Rattle.allocative_picture.proofs.Walking.{at_found, found_sum, node_total, sum_if, sum_split}
 use Rattle.allocative_graph.specs.Graph.{IsTree}
 use Rattle.allocative_picture.specs.Views.{bytes_alone, moved_onto, last_of, by_last_key, bytes_ending_in, reversed, part, is_within}
 use Rattle.allocative_picture.specs.Views.{only, without, bytes_within, paths_of, joined, GuidesChild, InStep, IsOutline}
@@ -144,15 +144,12 @@ module _ (test : Path → Bool) (g : Graph) where
 -- What passes a test and what does not are all.
 halves : (test : Path → Bool) (es : Sizes) →
     sum_by (λ e. cond (not (test e.0)) e.1 0) es + sum_by (λ e. cond (test e.0) e.1 0) es ≡ sum_by (λ e. e.1) es
-halves test [] = refl
-halves test (e ∷ es) =
-    grind (
-      arith,
-      halves test es,
-      sum_by-cons (λ (x : Path × ℕ). cond (not (test x.0)) x.1 0) e es,
-      sum_by-cons (λ (x : Path × ℕ). cond (test x.0) x.1 0) e es,
-      sum_by-cons (λ (x : Path × ℕ). x.1) e es,
-    )
+halves test es = sym (sum_split (λ (e : Path × ℕ). e.1) (λ e. cond (not (test e.0)) e.1 0) (λ e. cond (test e.0) e.1 0) es
+    (λ i d w. each (test (get_or es i d).0) (get_or es i d).1))
+  where
+    each : (b : Bool) (n : ℕ) → n ≡ cond (not b) n 0 + cond b n 0
+    each true n = omega arith
+    each false n = omega arith
 
 -- The part within some paths has their bytes, and that without them has all others.
 pub total-only : (ps : List Path) (g : Graph) → total (only ps g) ≡ bytes_within ps g
@@ -206,14 +203,6 @@ reversed_alone ks n = onto_default _ (tree-path (texts (reverse ks)) n) ∙ ap (
 
 -- The empty graph has no bytes.
 pub ruleset empty = (total-default)
-
--- The last key of a path that ends in a key is that key.
-pub last_after : (p : Path) (k : Key) → last_of (p ++ k ∷ []) ≡ k ∷ []
-last_after [] k = refl
-last_after (l ∷ []) k = refl
-last_after (l ∷ m ∷ p) k =
-    let e : length (l ∷ m ∷ p ++ k ∷ []) - 1 ≡ suc (length (m ∷ p ++ k ∷ []) - 1) = omega arith in
-    rw e (last_after (m ∷ p) k)
 
 -- A graph may be added before some children or to their sum.
 pub before_waiting : (g h : Graph) (cs : List Child) → sum_of_all (sum_of g h) cs ≡ sum_of (sum_of_all g cs) h

@@ -1,11 +1,12 @@
 -- Walks over the paths of a graph, each after some keys: its root, and the rows of its children one after another.
 use Rattle.std.proofs.Common.{◌≡◌, ℕ, zero, suc, ◌+◌, ◌<◌, Bool, true, false, cond, is_eq, Less, List, [], ◌∷◌, ◌++◌, map, length}
-use Rattle.std.proofs.Common.{get_or, take, sum_by, Bor, refl, sym, ap, subst, ◌∙◌, arith, append_assoc, append-nil, Option, Some, None, T}
+use Rattle.std.proofs.Common.{get_or, take, sum_by, Bor, refl, sym, ap, subst, ◌∙◌, arith, append_assoc, append-nil, Option, Some, None, T, All}
 use Rattle.allocative_picture.proofs.Common.{Path, Sizes, Key, Graph, Child, entries, node, AreChildren, InOrder, texts, map-append}
 use Rattle.allocative_picture.proofs.Common.{key_cmp, eq_by_cmp_equiv, nat_list_cmp_total, tied_itself, sum_by-cons, total, total_of}
 use Rattle.allocative_picture.proofs.Common.{sum_by_more, find, is_sorted, below_all, path_cmp, is_same_path, same_path, first, second, size_at, total-node}
 use Rattle.std.specs.Ordering.{eq_by_cmp}
 use Rattle.std.specs.List.Sorted.{IsStrictlySortedBy}
+use Rattle.std.proofs.lemmas.List.Elements.{All-head, All-tail}
 use Rattle.std.proofs.lemmas.Simd.{map-map}
 use Rattle.allocative_graph.proofs.Children.{rows-more, rows-cons, Lacks, lacks-above, rises}
 use Rattle.allocative_graph.proofs.Sums.{find-below_all}
@@ -64,6 +65,15 @@ pub sum_if : {X : Type 0} (b : Bool) (w : X → ℕ) (xs : List X) →
 sum_if true w xs = refl
 sum_if false w [] = refl
 sum_if false w (x ∷ xs) = omega (arith, sum_by-cons (λ _. 0) x xs, sum_if false w xs)
+
+-- A sum of sums is the sum of both.
+pub sum_split : {X : Type 0} (f a b : X → ℕ) (xs : List X) → All (λ x. f x ≡ a x + b x) xs →
+    sum_by f xs ≡ sum_by a xs + sum_by b xs
+sum_split f a b [] h = refl
+sum_split f a b (x ∷ xs) h =
+    let here = All-head (λ y. f y ≡ a y + b y) x xs h in
+    let rest = sum_split f a b xs (All-tail (λ y. f y ≡ a y + b y) x xs h) in
+    omega (arith, sum_by-cons f x xs, sum_by-cons a x xs, sum_by-cons b x xs, here, rest)
 
 -- A sum over the rows of some children is the sum over each child's rows.
 pub rows_by_child : (w : Path × ℕ → ℕ) (cs : List Child) →

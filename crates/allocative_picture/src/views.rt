@@ -25,15 +25,6 @@ fn add_bytes(view: &mut FlameGraph, bytes: usize) -> Result<(), AllocError>
     view.add_self(bytes).map_err(|_| AllocError)
 }
 
-/// A graph whose root alone has bytes.
-fn bytes_alone(alloc: Global, bytes: usize) -> Result<FlameGraph, AllocError>
-    ensures { IfOk result (λ graph. graph ≡ bytes_alone bytes) }
-{
-    let mut graph = FlameGraph::default(alloc);
-    add_bytes(&mut graph, bytes)?;
-    Ok(graph)
-}
-
 /// Adds a graph with a key before its paths, and leaves an empty graph in its place. The bytes of all views together
 /// are those of one graph, so the only error is that memory runs out.
 #[inline(never)]
@@ -490,7 +481,8 @@ fn push_folded(
 fn put_together(alloc: Global, bytes: usize, children: Vec<Child>) -> Result<FlameGraph, AllocError>
     ensures { IfOk result (λ graph. graph ≡ sum_of_all (bytes_alone bytes) children.items) }
 {
-    let mut graph = bytes_alone(alloc, bytes)?;
+    let mut graph = FlameGraph::default(alloc);
+    add_bytes(&mut graph, bytes)?;
     graph.add_children(children).map_err(|_| AllocError)?;
     Ok(graph)
 }
