@@ -14,7 +14,7 @@ use Rattle.std.specs.declared.alloc.Global.{Global}
 use Rattle.std.proofs.lemmas.Cmp.{nat_cmp_total, on_total, then_total, back_total, tied_itself}
 use Rattle.std.proofs.Math.Seq.{take-append-add}
 use Rattle.std.proofs.lemmas.List.Sorted.{IsPermutation-refl, IsPermutation-sym, IsPermutation-cons, IsPermutation-trans}
-use Rattle.std.proofs.lemmas.List.Sorted.{IsPermutation-append_left, IsPermutation-append_right, IsPermutation-middle}
+use Rattle.std.proofs.lemmas.List.Sorted.{IsPermutation-append, IsPermutation-append_left, IsPermutation-middle}
 use Rattle.std.proofs.lemmas.List.Sorted.{IsPermutation-push_more, IsPermutation-map, length_permutation, ranks_by, sorted_far}
 use Rattle.std.proofs.lemmas.List.Sorted.{All-permutation}
 use Rattle.std.proofs.lemmas.List.{get_or_default}
@@ -64,8 +64,18 @@ pub heavy_cmp-weights : (x y : Heavy) → heavy_cmp x y ≡ weight_cmp (weight_o
 heavy_cmp-weights x y = ap (ordering_then (nat_cmp y.bytes.0 x.bytes.0)) (slice_cmp-texts x.path.items y.path.items)
 
 -- ---- one path more
+abbrev HasBytes : Weighed → Type 0
+HasBytes e = 0 < e.1
+
+abbrev IsEmpty : Weighed → Type 0
+IsEmpty e = e.1 ≡ 0
+
+-- None of some paths is after f.
+abbrev NoneAfter : List Weighed → Weighed → Type 0
+NoneAfter kept f = All (λ e. IsNotAfter e f) kept
+
 -- A path that is not kept is one of the rest.
-kept_dropped : (n : ℕ) (es kept : List Weighed) (f : Weighed) → AreHeaviest n es kept → All (λ e. IsNotAfter e f) kept →
+kept_dropped : (n : ℕ) (es kept : List Weighed) (f : Weighed) → AreHeaviest n es kept → NoneAfter kept f →
     (length kept < n → f.1 ≡ 0) → AreHeaviest n (es ++ f ∷ []) kept
 kept_dropped n es kept f h after empty = record {
   rest = f ∷ h.rest;
@@ -73,8 +83,8 @@ kept_dropped n es kept f h after empty = record {
       (IsPermutation-sym _ _ (IsPermutation-middle kept f h.rest));
   within = h.within;
   heavy = h.heavy;
-  after = All-cons (λ (g : Weighed). All (λ (e : Weighed). IsNotAfter e g) kept) f h.rest after h.after;
-  empty = λ few. All-cons (λ (g : Weighed). g.1 ≡ 0) f h.rest (empty few) (h.empty few);
+  after = All-cons (NoneAfter kept) f h.rest after h.after;
+  empty = λ few. All-cons IsEmpty f h.rest (empty few) (h.empty few);
 }
 
 -- A path with bytes is kept if there is room.
@@ -85,18 +95,16 @@ kept_pushed n es kept kept' f some room same h = record {
   same = IsPermutation-push_more es (kept ++ h.rest) _ f h.same
       (IsPermutation-append_left h.rest (f ∷ kept) kept' same);
   within = omega (arith, length_permutation (f ∷ kept) kept' same, room);
-  heavy = All-permutation (λ (e : Weighed). 0 < e.1)
-      (f ∷ kept) kept' same (All-cons (λ (e : Weighed). 0 < e.1) f kept some h.heavy);
-  after = λ k d w. let g = get_or h.rest k d in
-      All-permutation (λ (e : Weighed). IsNotAfter e g) (f ∷ kept) kept' same
-      (All-cons (λ (e : Weighed). IsNotAfter e g) f kept
-      (not_after_empty f g some (h.empty room k d w)) (h.after k d w));
+  heavy = All-permutation HasBytes (f ∷ kept) kept' same (All-cons HasBytes f kept some h.heavy);
+  after = λ k d w. let P : Weighed → Type 0 = λ e. IsNotAfter e (get_or h.rest k d) in
+      All-permutation P (f ∷ kept) kept' same
+      (All-cons P f kept (not_after_empty f (get_or h.rest k d) some (h.empty room k d w)) (h.after k d w));
   empty = λ few. h.empty room;
 }
 
 -- If there is no room, a path that comes before the last of those kept replaces it.
 kept_replaced : (n : ℕ) (es kept less kept' : List Weighed) (m f : Weighed) → n ≤ length kept → 0 < f.1 →
-    IsPermutation kept (m ∷ less) → All (λ e. IsNotAfter e m) less → is_lt (weight_cmp f m) ≡ true →
+    IsPermutation kept (m ∷ less) → NoneAfter less m → is_lt (weight_cmp f m) ≡ true →
     IsPermutation (f ∷ less) kept' → AreHeaviest n es kept → AreHeaviest n (es ++ f ∷ []) kept'
 kept_replaced n es kept less kept' m f full some split last before same h =
     let first : IsNotAfter f m = weights.one_way f m before in
@@ -115,10 +123,8 @@ kept_replaced n es kept less kept' m f full some split last before same h =
           (IsPermutation-trans _ _ _ (IsPermutation-sym _ _ (IsPermutation-middle (f ∷ less) m h.rest))
           (IsPermutation-append_left (m ∷ h.rest) (f ∷ less) kept' same))));
       within = omega (arith, count, h.within);
-      heavy = made (λ (e : Weighed). 0 < e.1) some (All-tail
-          (λ (e : Weighed). 0 < e.1) m less (split_all (λ (e : Weighed). 0 < e.1) h.heavy));
-      after = All-cons (λ (g : Weighed). All
-          (λ (e : Weighed). IsNotAfter e g) kept') m h.rest (made (λ (e : Weighed). IsNotAfter e m) first last)
+      heavy = made HasBytes some (All-tail HasBytes m less (split_all HasBytes h.heavy));
+      after = All-cons (NoneAfter kept') m h.rest (made (λ (e : Weighed). IsNotAfter e m) first last)
           (λ k d w. let g = get_or h.rest k d in let P : Weighed → Type 0 = λ e. IsNotAfter e g in
           let all = split_all P (h.after k d w) in
           made P (not_after f m g first (All-head P m less all)) (All-tail P m less all));
@@ -136,7 +142,7 @@ keeps_empty n p b heap none es k = record {
 
 -- If there is no room, a path that comes after all is not kept.
 pub keeps_full : (n : ℕ) (f : Weighed) (heap : BinaryHeap Heavy Global) → n ≤ length (heap_items heap) →
-    (IsHeap heavy_cmp (heap_items heap) → All (λ e. IsNotAfter e f) (weights_of heap)) → Keeps n (f ∷ []) heap heap
+    (IsHeap heavy_cmp (heap_items heap) → NoneAfter (weights_of heap) f) → Keeps n (f ∷ []) heap heap
 keeps_full n f heap full after es k = record {
   ordered = k.ordered;
   heaviest = kept_dropped n es (weights_of heap) f k.heaviest (after k.ordered)
@@ -145,14 +151,13 @@ keeps_full n f heap full after es k = record {
 
 -- If the last path of a heap does not come after f, none does.
 pub none_after : (heap : BinaryHeap Heavy Global) (last : Heavy) (f : Weighed) →
-    IsUpperBound heavy_cmp last (heap_items heap) →
-    IsNotAfter (weight_of last) f → All (λ e. IsNotAfter e f) (weights_of heap)
+    IsUpperBound heavy_cmp last (heap_items heap) → IsNotAfter (weight_of last) f → NoneAfter (weights_of heap) f
 none_after heap last f bound later =
+    let P : Heavy → Type 0 = λ x. is_lt (heavy_cmp last x) ≡ false in
     All-map (λ (e : Weighed). IsNotAfter e f) weight_of (heap_items heap)
-    (All-weaker (λ (x : Heavy). is_lt (heavy_cmp last x) ≡ false) (λ (x : Heavy). IsNotAfter (weight_of x) f)
+    (All-weaker P (λ (x : Heavy). IsNotAfter (weight_of x) f)
     (λ x u. not_after (weight_of x) (weight_of last) f (ap is_lt (sym (heavy_cmp-weights last x)) ∙ u) later)
-    (heap_items heap)
-    (All-from_recursion (λ (x : Heavy). is_lt (heavy_cmp last x) ≡ false) (heap_items heap) bound))
+    (heap_items heap) (All-from_recursion P (heap_items heap) bound))
 
 -- If there is no room, a path that comes before the last replaces it.
 pub keeps_replaced : (n : ℕ) (f : Weighed) (last : Heavy) (r : Option Heavy) (old less new : BinaryHeap Heavy Global) →
@@ -180,9 +185,9 @@ none_kept n heap none = subst (λ hs. AreHeaviest n [] (map weight_of hs)) (sym 
   rest = [];
   same = IsPermutation-refl [];
   within = omega arith;
-  heavy = All-nil (λ (e : Weighed). 0 < e.1);
-  after = All-nil (λ (f : Weighed). All (λ (e : Weighed). IsNotAfter e f) []);
-  empty = λ few. All-nil (λ (f : Weighed). f.1 ≡ 0);
+  heavy = All-nil HasBytes;
+  after = All-nil (NoneAfter []);
+  empty = λ few. All-nil IsEmpty;
 })
 
 -- With room, a path with bytes is kept.
@@ -238,7 +243,7 @@ in_order (e ∷ es) =
 
 -- Two lists in order are one if no path of the first is after one of the second.
 pairs-append : (es fs : List Weighed) → AllPairs IsNotAfter es → AllPairs IsNotAfter fs →
-    All (λ f. All (λ e. IsNotAfter e f) es) fs → AllPairs IsNotAfter (es ++ fs)
+    All (NoneAfter es) fs → AllPairs IsNotAfter (es ++ fs)
 pairs-append [] fs a b c = b
 pairs-append (e ∷ es) fs a b c = AllPairs-cons IsNotAfter e (es ++ fs)
     (All-append (IsNotAfter e) es fs (pairs_head e es a)
@@ -254,22 +259,22 @@ has_bytes e = nat_lt 0 e.1
 all_stay : (es : List Weighed) → All (λ e. 0 < e.1) es → filter has_bytes es ≡ es
 all_stay [] h = refl
 all_stay (e ∷ es) h =
-    let some : 0 < e.1 = All-head (λ (x : Weighed). 0 < x.1) e es h in
-    let rest = all_stay es (All-tail (λ (x : Weighed). 0 < x.1) e es h) in
+    let some : 0 < e.1 = All-head HasBytes e es h in
+    let rest = all_stay es (All-tail HasBytes e es h) in
     grind (arith, nat_tests, some, rest)
 
 -- Of paths without bytes none stays.
 none_stays : (es : List Weighed) → All (λ e. e.1 ≡ 0) es → filter has_bytes es ≡ []
 none_stays [] h = refl
 none_stays (e ∷ es) h =
-    let none : e.1 ≡ 0 = All-head (λ (x : Weighed). x.1 ≡ 0) e es h in
-    let rest = none_stays es (All-tail (λ (x : Weighed). x.1 ≡ 0) e es h) in
+    let none : e.1 ≡ 0 = All-head IsEmpty e es h in
+    let rest = none_stays es (All-tail IsEmpty e es h) in
     grind (arith, none, rest)
 
 -- If paths have no bytes, or none of them is taken, none that is taken has.
 take_empty : (n : ℕ) (es : List Weighed) → (0 < n → All (λ e. e.1 ≡ 0) es) → All (λ e. e.1 ≡ 0) (take n es)
 take_empty zero es h = λ k d w. absurd (omega arith)
-take_empty (suc n) es h = All-take (λ (e : Weighed). e.1 ≡ 0) (suc n) es (h (omega arith))
+take_empty (suc n) es h = All-take IsEmpty (suc n) es (h (omega arith))
 
 -- The heaviest paths in order are the first ones of all paths in order.
 pub top_of_heaviest : (n : ℕ) (es kept sorted : List Weighed) → AreHeaviest n es kept → IsPermutation kept sorted →
@@ -280,18 +285,13 @@ top_of_heaviest n es kept sorted h same falls =
     let count : length sorted ≡ length kept = length_permutation kept sorted same in
     let more = n - length sorted in
     let sum : length sorted + more ≡ n = omega (arith, count, h.within) in
-    let empty : All (λ (e : Weighed). e.1 ≡ 0) (take more rest) = take_empty more rest
-    (λ some. All-permutation (λ (e : Weighed). e.1 ≡ 0) h.rest rest
-    others.1 (h.empty (omega (arith, some, count)))) in
-    let heavy = All-permutation (λ (e : Weighed). 0 < e.1) kept sorted same h.heavy in
+    let empty : All IsEmpty (take more rest) = take_empty more rest
+    (λ some. All-permutation IsEmpty h.rest rest others.1 (h.empty (omega (arith, some, count)))) in
+    let heavy = All-permutation HasBytes kept sorted same h.heavy in
     record {
       rows = sorted ++ rest;
-      same = IsPermutation-trans _ _ _ h.same (IsPermutation-trans
-          _ _ _ (IsPermutation-append_left h.rest kept sorted same)
-          (IsPermutation-append_right sorted h.rest rest others.1));
-      falling = pairs-append sorted rest falls others.2
-          (All-permutation (λ (f : Weighed). All (λ (e : Weighed). IsNotAfter e f) sorted) h.rest rest
-          others.1
+      same = IsPermutation-trans _ _ _ h.same (IsPermutation-append kept sorted h.rest rest same others.1);
+      falling = pairs-append sorted rest falls others.2 (All-permutation (NoneAfter sorted) h.rest rest others.1
           (λ k d w. All-permutation (λ (e : Weighed). IsNotAfter e (get_or h.rest k d)) kept sorted same
           (h.after k d w)));
       is = sym (ap (λ m. filter has_bytes (take m (sorted ++ rest))) (sym sum)

@@ -1,5 +1,5 @@
 -- The children of a path in the order in which they are drawn, and how many bytes come before each.
-use Rattle.std.proofs.Common.{◌≡◌, ℕ, zero, suc, ◌+◌, ◌-◌, ◌<◌, ◌≤◌, ◌^◌, ◌==◌, ◌⊎◌, inl, inr, false, cond, List, [], ◌∷◌, ◌++◌, length}
+use Rattle.std.proofs.Common.{◌≡◌, ℕ, zero, suc, ◌+◌, ◌-◌, ◌<◌, ◌≤◌, ◌^◌, ◌==◌, ◌⊎◌, inl, inr, true, false, cond, List, [], ◌∷◌, ◌++◌, length}
 use Rattle.std.proofs.Common.{Bool, set, get_or, take, sum_by, refl, sym, ap, subst, ◌∙◌, arith, is_lt, is_eq, nat_cmp, AllPairs, IsPermutation, All}
 use Rattle.std.proofs.Common.{Ordering, Less, Equal, Greater}
 use Rattle.allocative_picture.proofs.Common.{Child, Key, InOrder, total, total_of, key_cmp, ordering_then, ordering_reverse, default}
@@ -139,55 +139,46 @@ by_size cs ys same up = record {
         (λ i j x low high. less_differ _ _ (numbered-differ cs i j x low high)))
 
 -- ---- the bytes before a child
--- In a rising list, what is less than an element is what comes before it.
-module _ (R : Place → Place → Ordering) (o : IsTotalOrder R) where
-  -- The bytes of an element that is less than y.
-  abbrev lower : Place → Place → ℕ
-  lower y x = cond (is_lt (R x y)) (bytes_in x) 0
-
-  none_lower : (y : Place) (zs : List Place) →
-      ((k : ℕ) → k < length zs → R y (get_or zs k y) ≡ Less) → sum_by (lower y) zs ≡ 0
-  none_lower y [] h = refl
-  none_lower y (z ∷ zs) h =
-      let here : lower y z ≡ 0 =
-      ap (λ r. cond (is_lt r) (bytes_in z) 0) (o.antisymm z y ∙ ap ordering_reverse (h 0 (omega arith))) in
-      omega (arith, sum_by-cons (lower y) z zs, here, none_lower y zs (λ k w. h (suc k) (omega (arith, w))))
-
-  pub sum_before : (ys : List Place) (j : ℕ) (x : Place) → AllPairs (λ a b. R a b ≡ Less) ys → j < length ys →
-      sum_by (lower (get_or ys j x)) ys ≡ sum_by bytes_in (take j ys)
-  sum_before [] j x up w = absurd (omega arith)
-  sum_before (y ∷ ys) zero x up w =
-      let here : lower y y ≡ 0 = ap (λ r. cond (is_lt r) (bytes_in y) 0) (tied_itself o y) in
-      omega (
-        arith,
-        sum_by-cons (lower y) y ys,
-        here,
-        none_lower y ys (λ k v. up 0 (suc k) y (omega arith) (omega (arith, v))),
-      )
-  sum_before (y ∷ ys) (suc j) x up w =
-      let z = get_or ys j x in
-      let here : lower z y ≡ bytes_in y = ap (λ r. cond (is_lt r) (bytes_in y) 0) (up 0 (suc j) x (omega arith) w) in
-      omega (
-        arith,
-        sum_by-cons (lower z) y ys,
-        here,
-        sum_before ys j x (λ i k v low high. up (suc i) (suc k) v (omega (arith, low)) (omega (arith, high)))
-            (omega (arith, w)),
-        sum_by-cons bytes_in y (take j ys),
-      )
-
--- Keys of children compare as their places.
-pub number-key : (cs : List Child) (i j : ℕ) (d : Child) → InOrder cs → i < length cs → j < length cs →
-    key_cmp (get_or cs i d).key (get_or cs j d).key ≡ nat_cmp i j
-number-key cs i j d o v w =
-    let k = (get_or cs i d).key in
-    let l = (get_or cs j d).key in
-    let up : i < j → key_cmp k l ≡ Less = λ low. rises cs i j d o low w in
-    let down : j < i → key_cmp k l ≡ Greater =
-    λ low. nat_list_cmp_total.antisymm k l ∙ ap ordering_reverse (rises cs j i d o low v) in
-    let same : i ≡ j → key_cmp k l ≡ Equal = λ e. ap (λ n. key_cmp (get_or cs n d).key l) e
-    ∙ tied_itself nat_list_cmp_total l in
+-- In a rising list, elements compare as their places.
+rank : {A K : Type 0} {R : K → K → Ordering} (o : IsTotalOrder R) (key : A → K) (xs : List A) (d : A) →
+    ((i j : ℕ) → i < j → j < length xs → R (key (get_or xs i d)) (key (get_or xs j d)) ≡ Less) → (i j : ℕ) →
+    i < length xs → j < length xs → R (key (get_or xs i d)) (key (get_or xs j d)) ≡ nat_cmp i j
+rank {R = R} o key xs d rise i j v w =
+    let k = key (get_or xs i d) in
+    let l = key (get_or xs j d) in
+    let up : i < j → R k l ≡ Less = λ low. rise i j low w in
+    let down : j < i → R k l ≡ Greater = λ low. o.antisymm k l ∙ ap ordering_reverse (rise j i low v) in
+    let same : i ≡ j → R k l ≡ Equal = λ e. ap (λ n. R (key (get_or xs n d)) l) e ∙ tied_itself o l in
     grind (arith, nat_tests, up, down, same)
+
+less_suc : (k j : ℕ) → is_lt (nat_cmp (suc k) (suc j)) ≡ is_lt (nat_cmp k j)
+less_suc k j = grind (arith, nat_tests)
+
+-- If a test passes up to a place, what passes is what stands before that place.
+sum_before : (test : Place → Bool) (ys : List Place) (j : ℕ) (x : Place) →
+    ((k : ℕ) → k < length ys → test (get_or ys k x) ≡ is_lt (nat_cmp k j)) →
+    sum_by (λ y. cond (test y) (bytes_in y) 0) ys ≡ sum_by bytes_in (take j ys)
+sum_before test [] zero x h = refl
+sum_before test [] (suc j) x h = refl
+sum_before test (y ∷ ys) zero x h = omega (
+  arith,
+  sum_by-cons (λ z. cond (test z) (bytes_in z) 0) y ys,
+  ap (λ b. cond b (bytes_in y) 0) (h 0 (omega arith)),
+  sum_before test ys zero x (λ k w. h (suc k) (omega arith) ∙ first k),
+)
+  where
+    first : (k : ℕ) → is_lt (nat_cmp (suc k) 0) ≡ is_lt (nat_cmp k 0)
+    first k = grind (arith, nat_tests)
+sum_before test (y ∷ ys) (suc j) x h = omega (
+  arith,
+  sum_by-cons (λ z. cond (test z) (bytes_in z) 0) y ys,
+  ap (λ b. cond b (bytes_in y) 0) (h 0 (omega arith) ∙ some j),
+  sum_before test ys j x (λ k w. h (suc k) (omega arith) ∙ less_suc k j),
+  sum_by-cons bytes_in y (take j ys),
+)
+  where
+    some : (j : ℕ) → is_lt (nat_cmp 0 (suc j)) ≡ true
+    some j = grind (arith, nat_tests)
 
 -- More bytes leave less room.
 room : (m n : ℕ) → m < 2 ^ 64 → n < 2 ^ 64 → nat_cmp (2 ^ 64 - m) (2 ^ 64 - n) ≡ nat_cmp n m
@@ -228,6 +219,10 @@ sum_within cs ys i x same w =
 
 module _ (o : Order) (b : ℕ) (cs : List Child) (sorted : InOrder cs) (fits : total_of cs < 2 ^ 64) (ys : List Place)
     (h : AreInOrder o cs ys) where
+  -- The bytes of a place that is drawn before y.
+  abbrev lower : Place → Place → ℕ
+  lower y x = cond (is_lt (place_cmp o x y)) (bytes_in x) 0
+
   -- In the order in which they are drawn, the bytes before a child are those of the places before its own.
   starts_at : (j : ℕ) (x : Place) → j < length ys →
       sum_by bytes_in (take j ys) ≡ bytes_before o cs (get_or cs (get_or ys j x).index no_child)
@@ -237,16 +232,18 @@ module _ (o : Order) (b : ℕ) (cs : List Child) (sorted : InOrder cs) (fits : t
       let is = of_children cs ys h.same j x w in
       let R = place_cmp o in
       let c = get_or cs n no_child in
-      sym (sum_before R (places_total o) ys j x h.rising w)
-      ∙ sum_by-IsPermutation (lower R (places_total o) y) (numbered 0 cs) ys h.same
-      ∙ sum_same (lower R (places_total o) y)
+      sym (sum_before (λ z. is_lt (R z y)) ys j x (λ k v. ap is_lt (rank (places_total o) (λ (z : Place). z) ys x
+      (λ a b low high. h.rising a b x low high) k j v w)))
+      ∙ sum_by-IsPermutation (lower y) (numbered 0 cs) ys h.same
+      ∙ sum_same (lower y)
       (λ (d : Child). cond (is_lt (key_cmp (child_place o d) (child_place o c))) (total d.graph) 0)
       (numbered 0 cs) cs x no_child (length-numbered 0 cs)
-      (λ m v. (λ t. lower R (places_total o) (is.1 t) (numbered-at cs m no_child x v t))
+      (λ m v. (λ t. lower (is.1 t) (numbered-at cs m no_child x v t))
       ∙ ap (λ r. cond (is_lt r) (total (get_or cs m no_child).graph) 0)
       (placed_as o (total (get_or cs m no_child).graph) (total c.graph) m n (get_or cs m no_child).key c.key
       (omega (arith, one_total cs m no_child v, fits)) (omega (arith, one_total cs n no_child is.0, fits))
-      (number-key cs m n no_child sorted v is.0)))
+      (rank nat_list_cmp_total (λ (d : Child). d.key) cs no_child (λ a b low high. rises cs a b no_child sorted low high)
+      m n v is.0)))
 
   -- The list has the start of a child.
   abbrev pub HasStart : List ℕ → Place → Type 0

@@ -86,7 +86,7 @@ rows_by_child w (c ∷ cs) = omega (
   sum_by-cons (λ (d : Child). sum_by (λ e. w (d.key ∷ e.0, e.1)) (entries d.graph)) c cs,
 )
 
--- The bytes of the children up to a place, and of the child there.
+-- The bytes of the children up to a place, and of the child there, are those of the children up to the next one.
 pub total_of_more : (cs : List Child) (i : ℕ) (d : Child) → i < length cs → d ≡ get_or cs i d →
     total_of (take (i + 1) cs) ≡ total_of (take i cs) + total d.graph
 total_of_more cs i d h at = rw (sum_by_more (λ (c : Child). total c.graph) cs i d h, ← at) refl

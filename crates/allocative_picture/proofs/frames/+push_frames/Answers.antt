@@ -13,26 +13,20 @@ use Rattle.allocative_picture.proofs.frames.+push_frames.Goals as goal
 
 -- The bytes of a graph are those of its root and of its children.
 pub overflow_add-first : goal.overflow_add-first
-overflow_add-first t c =
-    let g = c.args.graph.now in
-    let node = c.children-children.ensures in
-    omega (
-      arith,
-      c.self_size.ensures,
-      c.requires.fits,
-      node_total g c.children-children.result.now node.whole node.children,
-    )
+overflow_add-first t c = omega (
+  arith,
+  c.self_size.ensures,
+  c.requires.fits,
+  node_total c.args.graph.now _ c.children-children.ensures.whole c.children-children.ensures.children,
+)
 
 pub starts-requires-clause-fits : goal.starts-requires-clause-fits
-starts-requires-clause-fits t c =
-    let g = c.args.graph.now in
-    let node = c.children-children.ensures in
-    omega (
-      arith,
-      c.self_size.ensures,
-      c.requires.fits,
-      node_total g c.children-children.result.now node.whole node.children,
-    )
+starts-requires-clause-fits t c = omega (
+  arith,
+  c.self_size.ensures,
+  c.requires.fits,
+  node_total c.args.graph.now _ c.children-children.ensures.whole c.children-children.ensures.children,
+)
 
 -- A child has fewer paths, and its bytes fit with those before it.
 pub push_frames-requires : goal.push_frames-requires
