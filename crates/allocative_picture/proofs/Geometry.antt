@@ -12,11 +12,11 @@ use Rattle.allocative_picture.specs.declared.options.Order.TheVariants as order
 use Rattle.std.specs.Cmp.{nat_cmp_is, nat_cmp_total}
 use Rattle.allocative_graph.proofs.Basics.{key_itself, is_eq-Equal}
 use Rattle.std.proofs.lemmas.Map.Lookups.{exact_bytes as key_same}
-use Rattle.allocative_picture.proofs.Common.{sum_by-cons, sum_by-le-sum_by, nat_list_cmp_total}
+use Rattle.allocative_picture.proofs.Common.{sum_by-le-sum_by, nat_list_cmp_total}
 use Rattle.allocative_picture.proofs.Common.{Key, begins, edge, get-entries, find, on_test, Graph, total_at}
 use Rattle.allocative_graph.proofs.Graphs.{total_at-sum_of}
 use Rattle.std.proofs.Math.Nat.{mul-div_cancel_left, div-zero}
-use Rattle.allocative_picture.specs.Laws.{BoxesLaw, InsideLaw, OnceLaw, WithinLaw}
+use Rattle.allocative_picture.specs.Laws.{BoxesLaw, OnceLaw}
 use Rattle.allocative_picture.proofs.Placing.{never_first}
 use Rattle.allocative_picture.proofs.Walking.{at_found, found_sum, sum_split}
 use Rattle.allocative_picture.proofs.Starting.{other_place}
@@ -148,7 +148,8 @@ edges-le (suc n) a b h = edge-le (suc n) a b (omega arith) h
 
 module _ (o : Order) (g : Graph) where
   -- A box does not begin before that of its parent.
-  pub starts_inside : (p : Path) (k : Key) → edge (total g) (before_at o g p) ≤ edge (total g) (before_at o g (p ++ k ∷ []))
+  pub starts_inside : (p : Path) (k : Key) →
+      edge (total g) (before_at o g p) ≤ edge (total g) (before_at o g (p ++ k ∷ []))
   starts_inside p k = edges-le (total g) _ _ (sum_by-le-sum_by (lowers o (total_at g) p)
       (lowers o (total_at g) (p ++ k ∷ [])) (entries g) (λ e. (longer-place o (total_at g) p k e).0))
 

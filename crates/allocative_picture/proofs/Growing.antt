@@ -1,6 +1,6 @@
 -- By how much paths grew: the children of a path, and the paths of a node from those of its children.
 use Rattle.std.proofs.Common.{◌≡◌, ℕ, ◌+◌, ◌<◌, ◌-◌, ◌==◌, ◌&&◌, Bool, true, false, cond, List, [], ◌∷◌, ◌++◌}
-use Rattle.std.proofs.Common.{length, map, get_or, refl, sym, ap, subst, ◌∙◌, arith, append_assoc, append-nil, count_by, take}
+use Rattle.std.proofs.Common.{length, map, get_or, refl, sym, ap, ◌∙◌, arith, append_assoc, append-nil, count_by, take}
 use Rattle.std.proofs.Common.{unwrap_or, Option, None, sum_by}
 use Rattle.allocative_picture.proofs.Common.{Path, Key, Child, Graph, Sizes, entries, node, AreChildren, InOrder}
 use Rattle.allocative_picture.proofs.Common.{key_cmp, sum_by-cons, size_at, total_at, is_same_path, size_in, total_in, AllByRecursion}

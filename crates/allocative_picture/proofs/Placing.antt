@@ -1,6 +1,6 @@
 -- The frames of a graph: the bytes before each, that of its root and then those of its children.
 use Rattle.std.proofs.Common.{◌≡◌, ℕ, ◌+◌, ◌<◌, ◌≤◌, cond, false, List, [], ◌∷◌, ◌++◌, map, sum_by, length, refl, sym, ap, subst, ◌∙◌}
-use Rattle.std.proofs.Common.{append_assoc, append-nil, arith, get_or, is_lt, is_eq, Bool, true, Less, Equal, Greater, Ordering, All}
+use Rattle.std.proofs.Common.{append_assoc, append-nil, arith, get_or, is_lt, is_eq, Bool, true, Less, Equal, Greater, Ordering}
 use Rattle.allocative_picture.proofs.Common.{entries, is_sorted, below_all, Path, Key, key_cmp, ordering_then}
 use Rattle.allocative_picture.proofs.Common.{path_cmp, Graph, total_at, frame_of, frame_behind, len, eq_by_cmp_equiv, nat_list_cmp_total}
 use Rattle.allocative_picture.proofs.Common.{Child, total, total_of, sum_by-le-sum_by, FrameData, frame_from, sum_by-cons}
@@ -13,7 +13,6 @@ use Rattle.allocative_graph.specs.Rows.{rows_of}
 use Rattle.allocative_graph.specs.Representation.NodeRows.{entries-node}
 use Rattle.std.specs.List.{remove}
 use Rattle.std.specs.Ordering.{eq_by_cmp}
-use Rattle.std.proofs.lemmas.List.Elements.{All-head, All-tail}
 use Rattle.std.proofs.lemmas.List.Sums.{sum_by-remove}
 use Rattle.std.proofs.lemmas.Map.Lookups.{exact_bytes as key_same}
 use Rattle.std.proofs.lemmas.Option.{slice_get-map}

@@ -1,6 +1,6 @@
 -- The children of a path in the order in which they are drawn, and how many bytes come before each.
 use Rattle.std.proofs.Common.{◌≡◌, ℕ, zero, suc, ◌+◌, ◌-◌, ◌<◌, ◌≤◌, ◌^◌, ◌==◌, ◌⊎◌, inl, inr, true, false, cond, List, [], ◌∷◌, ◌++◌, length}
-use Rattle.std.proofs.Common.{Bool, set, get_or, take, sum_by, refl, sym, ap, subst, ◌∙◌, arith, is_lt, is_eq, nat_cmp, AllPairs, IsPermutation, All}
+use Rattle.std.proofs.Common.{Bool, set, get_or, take, sum_by, refl, sym, ap, subst, ◌∙◌, arith, is_lt, is_eq, nat_cmp, IsPermutation, All}
 use Rattle.std.proofs.Common.{Ordering, Less, Equal, Greater}
 use Rattle.allocative_picture.proofs.Common.{Child, Key, InOrder, total, total_of, key_cmp, ordering_then, ordering_reverse, default}
 use Rattle.allocative_picture.proofs.Common.{nat_list_cmp_total, tied_itself, sum_by-cons, sum_by-IsPermutation, sum_by_more_le}
@@ -9,7 +9,7 @@ use Rattle.std.specs.Cmp.{IsTotalOrder, nat_cmp_is}
 use Rattle.std.specs.List.{IsDistinct}
 use Rattle.std.specs.List.Sorted.{IsSorted}
 use Rattle.std.proofs.lemmas.Cmp.{nat_cmp_total, on_total, then_total, back_total}
-use Rattle.std.proofs.lemmas.Bool.{cases_eq, cases_lt}
+use Rattle.std.proofs.lemmas.Bool.{cases_eq}
 use Rattle.std.proofs.lemmas.List.{get_or-set_same, get_or-set_other, get_or_default, take_more}
 use Rattle.std.proofs.lemmas.List.Elements.{All-nil, All-cons, All-append, All-weaker}
 use Rattle.std.proofs.lemmas.Bool.Decides.{nat_tests}
@@ -242,8 +242,8 @@ module _ (o : Order) (b : ℕ) (cs : List Child) (sorted : InOrder cs) (fits : t
       ∙ ap (λ r. cond (is_lt r) (total (get_or cs m no_child).graph) 0)
       (placed_as o (total (get_or cs m no_child).graph) (total c.graph) m n (get_or cs m no_child).key c.key
       (omega (arith, one_total cs m no_child v, fits)) (omega (arith, one_total cs n no_child is.0, fits))
-      (rank nat_list_cmp_total (λ (d : Child). d.key) cs no_child (λ a b low high. rises cs a b no_child sorted low high)
-      m n v is.0)))
+      (rank nat_list_cmp_total (λ (d : Child). d.key) cs no_child
+      (λ a b low high. rises cs a b no_child sorted low high) m n v is.0)))
 
   -- The list has the start of a child.
   abbrev pub HasStart : List ℕ → Place → Type 0
@@ -277,7 +277,8 @@ module _ (o : Order) (b : ℕ) (cs : List Child) (sorted : InOrder cs) (fits : t
   -- Once all have, they are the starts.
   pub starts_all : (starts : List ℕ) → length starts ≡ length cs → All (HasStart starts) ys → AreStarts o b cs starts
   starts_all starts many all =
-      let back = All-permutation (HasStart starts) ys (numbered 0 cs) (IsPermutation-sym (numbered 0 cs) ys h.same) all in
+      let back = All-permutation (HasStart starts) ys (numbered 0 cs) (IsPermutation-sym (numbered 0 cs) ys h.same)
+      all in
       record {
         many = many;
         each = λ i d w.

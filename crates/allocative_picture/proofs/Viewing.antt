@@ -1,12 +1,12 @@
 -- Views: their totals, the bytes at their paths, and the graphs that are added on the way.
 use Rattle.std.proofs.Common.{◌≡◌, ℕ, zero, suc, ◌+◌, ◌-◌, ◌&&◌, ◌||◌, inl, inr, Bool, true, false, not, cond, List, [], ◌∷◌, ◌++◌, reverse}
 use Rattle.std.proofs.Common.{length, sum_by, codes, refl, sym, ap, ◌∙◌, arith, Equal, nat_lt, nat_eq, unwrap_or, Bor, Vec, Global}
-use Rattle.std.proofs.Common.{get_or, take, ◌<◌, Option, Some, None}
+use Rattle.std.proofs.Common.{get_or, Option, Some, None}
 use Rattle.std.specs.Cmp.{tied_then, both_ways}
 use Rattle.std.specs.Cmp.Lexicographic.{pointwise, texts_ties}
 use Rattle.std.specs.List.{starts_with}
 use Rattle.std.proofs.lemmas.Bool.Decides.{nat_tests}
-use Rattle.std.proofs.lemmas.List.{take_more, reverse-append, reverse-reverse}
+use Rattle.std.proofs.lemmas.List.{reverse-append, reverse-reverse}
 use Rattle.std.proofs.lemmas.List.Sorted.{IsPermutation-to_front}
 use Rattle.allocative_picture.proofs.Common.{Path, Sizes, Key, Graph, Child, default, size_at, total, total_of, sum_of, under}
 use Rattle.allocative_picture.proofs.Common.{entries, entries_sorted, get-entries, find, path_cmp, key_cmp}
@@ -144,7 +144,8 @@ module _ (test : Path → Bool) (g : Graph) where
 -- What passes a test and what does not are all.
 halves : (test : Path → Bool) (es : Sizes) →
     sum_by (λ e. cond (not (test e.0)) e.1 0) es + sum_by (λ e. cond (test e.0) e.1 0) es ≡ sum_by (λ e. e.1) es
-halves test es = sym (sum_split (λ (e : Path × ℕ). e.1) (λ e. cond (not (test e.0)) e.1 0) (λ e. cond (test e.0) e.1 0) es
+halves test es = sym (sum_split (λ (e : Path × ℕ). e.1)
+    (λ e. cond (not (test e.0)) e.1 0) (λ e. cond (test e.0) e.1 0) es
     (λ i d w. each (test (get_or es i d).0) (get_or es i d).1))
   where
     each : (b : Bool) (n : ℕ) → n ≡ cond (not b) n 0 + cond b n 0

@@ -11,7 +11,8 @@ returns-in_default-pop_front c =
     let first = c.in-Some.child in
     let none : c.pop_front.new.self.items ≡ [] = search (rules, nil_from_length) in
     sym (onto_default first.graph c.total_size-all.ensures.tree)
-    ∙ ap (λ (xs : List Child). joined (first ∷ xs)) (sym none) ∙ ap joined (sym c.in-Some.ensures.items) ∙ c.loop-child.invariant
+    ∙ ap (λ (xs : List Child). joined (first ∷ xs)) (sym none)
+    ∙ ap joined (sym c.in-Some.ensures.items) ∙ c.loop-child.invariant
 
 pub loop-child-preserved : goal.loop-child-preserved
 loop-child-preserved c =
