@@ -277,7 +277,7 @@ take_empty zero es h = λ k d w. absurd (omega arith)
 take_empty (suc n) es h = All-take IsEmpty (suc n) es (h (omega arith))
 
 -- The heaviest paths in order are the first ones of all paths in order.
-pub top_of_heaviest : (n : ℕ) (es kept sorted : List Weighed) → AreHeaviest n es kept → IsPermutation kept sorted →
+top_of_heaviest : (n : ℕ) (es kept sorted : List Weighed) → AreHeaviest n es kept → IsPermutation kept sorted →
     AllPairs IsNotAfter sorted → IsTop n es sorted
 top_of_heaviest n es kept sorted h same falls =
     let others = in_order h.rest in
@@ -302,7 +302,7 @@ top_of_heaviest n es kept sorted h same falls =
     }
 
 -- Heavy paths that are sorted are in the order of a table.
-pub falls : (hs : List Heavy) → IsSortedBy (λ x y. is_lt (heavy_cmp x y)) hs → AllPairs IsNotAfter (map weight_of hs)
+falls : (hs : List Heavy) → IsSortedBy (λ x y. is_lt (heavy_cmp x y)) hs → AllPairs IsNotAfter (map weight_of hs)
 falls [] s i j d before within = absurd (omega arith)
 falls (r ∷ rs) s i j d before within =
     let short : j < length (r ∷ rs) = omega (arith, within, length-map (r ∷ rs) weight_of) in
@@ -310,3 +310,10 @@ falls (r ∷ rs) s i j d before within =
     (sorted_far (λ x y. is_lt (weight_cmp (weight_of x) (weight_of y))) (ranks_by weights_total weight_of) (r ∷ rs)
     (λ k e low high. ap is_lt (sym (heavy_cmp-weights (get_or (r ∷ rs) (k + 1) e) (get_or (r ∷ rs) k e)))
     ∙ s k e low high) i j r (omega arith) short)
+
+-- A heap of the heaviest paths, sorted, is in the order of a table.
+pub top_of_heap : (n : ℕ) (es : List Weighed) (heap : BinaryHeap Heavy Global) (sorted : List Heavy) →
+    IsKept n es heap → IsPermutation (heap_items heap) sorted → IsSortedBy (λ x y. is_lt (heavy_cmp x y)) sorted →
+    IsTop n es (map weight_of sorted)
+top_of_heap n es heap sorted h same s =
+    top_of_heaviest n es (weights_of heap) _ h.heaviest (IsPermutation-map weight_of _ sorted same) (falls sorted s)

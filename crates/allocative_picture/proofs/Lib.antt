@@ -1,4 +1,5 @@
 pub mod Common
+pub mod Joining
 pub mod Escaping
 pub mod Starting
 pub mod Placing

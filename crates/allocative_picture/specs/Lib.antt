@@ -5,4 +5,5 @@ pub mod Picture
 pub mod Places
 pub mod Views
 pub mod Table
+pub mod History
 pub mod Laws

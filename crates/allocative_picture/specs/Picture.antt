@@ -66,24 +66,43 @@ warning_lines y (w ∷ ws) = warning_line y w ++ warning_lines (y + 16) ws
 abbrev pub bottom : List FrameData → ℕ
 bottom ws = 64 + 18 * levels ws
 
--- The picture of n paths, if the frames are those that have a box: its beginning, the heading, the legend, the boxes,
--- the warnings and the end.
-unfoldable pub drawing_of : Subject → Options → List FrameData → ℕ → List ℕ
-drawing_of s o ws n =
-    opening (bottom ws + 8 + 16 * length o.warned.now + (legend_of s).1) (escaped o.title.now)
-    ++ heading (escaped o.title.now) (escaped o.unit.now) s (length ws) n ++ (legend_of s).0
+-- The height in pixels of the picture of the frames that have a box.
+abbrev pub height_of : Subject → Options → List FrameData → ℕ
+height_of s o ws = bottom ws + 8 + 16 * length o.warned.now + (legend_of s).1
+
+-- What stands between the beginning and the end of the picture of n paths, if the frames are those that have a box: the
+-- heading, the legend, the boxes and the warnings. The title is markup.
+unfoldable pub content_of : List ℕ → Subject → Options → List FrameData → ℕ → List ℕ
+content_of title s o ws n =
+    heading title (escaped o.unit.now) s (length ws) n ++ (legend_of s).0
     ++ flat_map (element (escaped o.unit.now) (all_of s)) ws
     ++ warning_lines (bottom ws + 14) (map warning_of o.warned.now)
-    ++ CLOSING.now
+
+-- The picture of n paths, if the frames are those that have a box.
+unfoldable pub drawing_of : Subject → Options → List FrameData → ℕ → List ℕ
+drawing_of s o ws n =
+    opening (height_of s o ws) (escaped o.title.now) ++ content_of (escaped o.title.now) s o ws n ++ CLOSING.now
+
+-- Those of some frames that are wide enough for a box.
+abbrev pub wide_of : Subject → Options → List FrameData → List FrameData
+wide_of s o rs = filter (is_drawn o.narrowest (all_of s)) rs
 
 -- The picture of some frames, one for each path.
 abbrev pub drawing : Subject → Options → List FrameData → List ℕ
-drawing s o rs = drawing_of s o (filter (is_drawn o.narrowest (all_of s)) rs) (length rs)
+drawing s o rs = drawing_of s o (wide_of s o rs) (length rs)
 
 -- The picture of a flame graph is drawn from its frames, and marks the paths that have a warning.
 abbrev pub profile_drawing : Options → Graph → List ℕ
 profile_drawing o g = drawing (Profile (total g)) o (frames_of o.order (warned_mark (map warning_of o.warned.now)) g)
 
--- The picture of the change from g to h is drawn from the frames of their sum, each marked with its bytes in g.
+-- The subject of the picture of the change from g to h.
+abbrev pub change_of : Graph → Graph → Subject
+change_of g h = Change (total g) (total h)
+
+-- The frames of the change from g to h: those of their sum, each marked with its bytes in g.
+abbrev pub change_frames : Options → Graph → Graph → List FrameData
+change_frames o g h = frames_of o.order (mark_by Earlier g) (sum_of g h)
+
+-- The picture of the change from g to h.
 abbrev pub change_drawing : Options → Graph → Graph → List ℕ
-change_drawing o g h = drawing (Change (total g) (total h)) o (frames_of o.order (mark_by Earlier g) (sum_of g h))
+change_drawing o g h = drawing (change_of g h) o (change_frames o g h)

@@ -66,6 +66,11 @@ weights s g = weighed (weight_in s g) (entries g)
 abbrev pub growths : Size → Option Graph → Graph → List (Path × ℕ)
 growths s o g = weighed (growth_in s o g) (entries g)
 
+-- The paths of g and those of h with the bytes by which they grew or shrank from g to h by their own size. A path of
+-- both did one of the two at most.
+abbrev pub changes : Graph → Graph → List (Path × ℕ)
+changes g h = growths Own (Some g) h ++ growths Own (Some h) g
+
 -- The bytes by which paths grew by their own size, all together.
 abbrev pub grown : Option Graph → Graph → ℕ
 grown o g = sum_by (λ e. e.1) (growths Own o g)

@@ -58,7 +58,7 @@ impl Subject {
 
 /// The subject of a picture and its unit, printed as its totals.
 #[derive(Clone, Copy)]
-struct Totals<'a>(Subject, &'a str);
+pub(crate) struct Totals<'a>(pub Subject, pub &'a str);
 
 #[tactic(auto, unfolding(crate::specs::Picture::subject_text))]
 impl fmt::Display for Totals<'_> {

@@ -4,7 +4,7 @@ ghost use Rattle.std.specs.Ordering.{is_lt};
 ghost use Rattle.allocative_graph.specs.Format.{AppendsText};
 ghost use Rattle.allocative_graph.specs.Graph.{total};
 ghost use Rattle.allocative_graph.specs.Path.{texts};
-ghost use Rattle.allocative_picture.specs.Table.{IsGrowthTable, IsPushed, IsTable, IsTop, Keeps, behind, growth_in, growth_line, growth_text, grown, growths, is_passed_over, size_of, table_line, weight_cmp, weight_of};
+ghost use Rattle.allocative_picture.specs.Table.{IsGrowthTable, IsPushed, IsTable, IsTop, Keeps, behind, changes, growth_in, growth_line, growth_text, grown, growths, is_passed_over, size_of, table_line, weight_cmp, weight_of};
 
 use crate::boxes::edge;
 use crate::figures::Percent;
@@ -38,9 +38,9 @@ impl Size {
 
 /// A path and its bytes. The path that a table shows first is the least.
 #[derive(PartialEq, Eq, PartialOrd, Ord, Drop)]
-struct Heavy {
+pub(crate) struct Heavy {
     bytes: Reverse<usize>,
-    path: Vec<&'static str>,
+    pub(crate) path: Vec<&'static str>,
 }
 
 /// Whether a table shows a path with so many bytes before another.
@@ -176,6 +176,23 @@ fn heaviest(
     let mut heaviest = BinaryHeap::new(alloc);
     keep_all(size, graph, other, &mut path, most, &mut heaviest)?;
     Ok(heaviest.into_sorted_vec())
+}
+
+/// The paths that grew or shrank most from one graph to another by their own size, at most so many, in the order of a
+/// table.
+pub(crate) fn most_changed(
+    alloc: Global,
+    before: &FlameGraph,
+    after: &FlameGraph,
+    most: usize,
+) -> Result<Vec<Heavy>, AllocError>
+    ensures { IfOk result (λ top. IsTop most (changes before.now after.now) (map weight_of top.items)) }
+{
+    let mut path: Vec<&'static str> = Vec::new(alloc);
+    let mut heap = BinaryHeap::new(alloc);
+    keep_all(Size::Own, after, Some(before), &mut path, most, &mut heap)?;
+    keep_all(Size::Own, before, Some(after), &mut path, most, &mut heap)?;
+    Ok(heap.into_sorted_vec())
 }
 
 /// Appends the line of a path.
