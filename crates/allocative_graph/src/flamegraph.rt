@@ -1,5 +1,5 @@
 //! Flame graphs: maps from paths of keys to sizes.
-ghost use Rattle.std.specs.Prelude.{◌≡◌, ◌+◌, ◌^◌, ◌<◌, ◌≤◌, ◌↔◌, ◌++◌, [], ◌∷◌, IfOk, IfErr, IfSome, IfNone, OnOk, OnErr, IsErrOf, MatchResult, string_bytes, length, is_ok, map, flat_map};
+ghost use Rattle.std.specs.Prelude.{◌≡◌, ◌+◌, ◌^◌, ◌<◌, ◌≤◌, ◌↔◌, ◌++◌, [], ◌∷◌, IfOk, IfErr, IfSome, IfNone, OnOk, OnErr, IsErrOf, MatchResult, string_bytes, length, is_ok, map, flat_map, take};
 ghost use Rattle.std.specs.List.{insert};
 ghost use Rattle.std.specs.Bool.{OnTrue};
 ghost use Rattle.std.specs.Option.{SomeIff};
@@ -461,14 +461,33 @@ fn push_line(path: &str, size: usize, text: &mut String) -> Result<(), AllocErro
 
 /// Appends the keys to the text, with `;` between them. It returns an error only when memory runs out, and then the
 /// text is as it was.
-#[tactic(auto, using(crate::proofs::Text::joined_by_semicolons))]
 pub fn push_path(keys: &[&str], text: &mut String) -> Result<(), AllocError>
     ensures { MatchResult result
         (λ _. AppendsText text.old text.new (joined (texts keys.now)))
         (λ _. string_bytes text.new ≡ string_bytes text.old) }
 {
-    let path = keys.join(*text.allocator(), ";")?;
-    text.push_str(path.as_str())
+    let length = text.len();
+    let Err(error) = push_keys(keys, text) else {
+        return Ok(());
+    };
+    text.truncate(length);
+    Err(error)
+}
+
+// Appends the keys to the text, with `;` between them. After an error the text may have some of them.
+fn push_keys(keys: &[&str], text: &mut String) -> Result<(), AllocError>
+    ensures keys { OnOk result (AppendsText text.old text.new (joined (texts keys.now))) }
+    ensures start { OnErr result (take (length (string_bytes text.old)) (string_bytes text.new) ≡ string_bytes text.old) }
+{
+    match keys {
+        [] => Ok(()),
+        [key] => text.push_str(key),
+        [key, rest @ ..] => {
+            text.push_str(key)?;
+            text.push(';')?;
+            push_keys(rest, text)
+        }
+    }
 }
 
 // The place of the key among the children, or else the place where it belongs. One comparison recognizes the last key
