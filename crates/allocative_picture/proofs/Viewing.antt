@@ -21,7 +21,7 @@ use Rattle.allocative_graph.proofs.Graphs.{added_up-permuted, total-added_up}
 use Rattle.allocative_graph.proofs.Nodes.{tree-path, node_leaf, added_node, added_sum}
 use Rattle.allocative_picture.proofs.Walking.{at_found, found_sum, node_total, sum_if, sum_split}
 use Rattle.allocative_graph.specs.Graph.{IsTree}
-use Rattle.allocative_picture.specs.Views.{bytes_alone, moved_onto, last_of, by_last_key, bytes_ending_in, reversed, part, is_within}
+use Rattle.allocative_picture.specs.Views.{bytes_alone, moved_onto, last_of, by_last_key, bytes_ending_in, reversed, chosen_onto, is_within}
 use Rattle.allocative_picture.specs.Views.{only, without, bytes_within, paths_of, joined, GuidesChild, InStep, IsOutline}
 
 -- ---- paths that move
@@ -126,12 +126,12 @@ reversed_twice g p = size_at-reversed (reversed g) p
 -- ---- parts
 module _ (test : Path → Bool) (g : Graph) where
   -- A part has the bytes of the paths that pass the test.
-  total-part : total (part test g) ≡ sum_by (λ e. cond (test e.0) e.1 0) (entries g)
+  total-part : total (chosen_onto test default (entries g)) ≡ sum_by (λ e. cond (test e.0) e.1 0) (entries g)
   total-part = total-view (λ e. nat_lt 0 e.1 && test e.0) (λ p. p) g
       ∙ (λ i. sum_by (λ e. counts (test e.0) e.1 i) (entries g))
 
   -- The paths that pass the test keep their bytes, and others have none.
-  size_at-part : (p : Path) → size_at (part test g) p ≡ cond (test p) (size_at g p) 0
+  size_at-part : (p : Path) → size_at (chosen_onto test default (entries g)) p ≡ cond (test p) (size_at g p) 0
   size_at-part p = size_at-view (λ e. nat_lt 0 e.1 && test e.0) (λ p. p) g p
       ∙ (λ i. sum_by (λ e. each e i) (entries g))
       ∙ sum_if (test p) (λ e. cond (is_same_path p e.0) e.1 0) (entries g) ∙ ap (λ n. cond (test p) n 0) (bytes_at g p)
@@ -166,8 +166,6 @@ size_at-only ps g p = size_at-part (is_within ps) g p
 pub size_at-without : (ps : List Path) (g : Graph) (p : Path) →
     size_at (without ps g) p ≡ cond (is_within ps p) 0 (size_at g p)
 size_at-without ps g p = let e = size_at-part (λ q. not (is_within ps q)) g p in grind (arith, e)
-
-pub ruleset of_parts = (total-only, total-without, size_at-only, size_at-without)
 
 -- Whether two texts are one.
 abbrev pub is_same_text : Bor (List ℕ) → Bor (List ℕ) → Bool

@@ -56,17 +56,17 @@ paths_of ps = map (λ p. texts p.items) ps
 abbrev pub is_within : List Path → Path → Bool
 is_within ps p = list_any (λ q. begins q p) ps
 
--- The graph with the bytes of those paths of g that pass a test. Paths without bytes are left out.
-abbrev pub part : (Path → Bool) → Graph → Graph
-part test g = moved_onto (λ e. nat_lt 0 e.1 && test e.0) (λ p. p) default (entries g)
+-- The graph h with the bytes of some paths, of those that pass a test. Paths without bytes are left out.
+abbrev pub chosen_onto : (Path → Bool) → Graph → List (Path × ℕ) → Graph
+chosen_onto test h es = fold (λ h e. cond (nat_lt 0 e.1 && test e.0) (sum_of h (graph_of_path e.0 e.1)) h) h es
 
 -- The part of g at and below some paths.
 abbrev pub only : List Path → Graph → Graph
-only ps g = part (is_within ps) g
+only ps g = chosen_onto (is_within ps) default (entries g)
 
 -- The part of g that is neither at nor below some paths.
 abbrev pub without : List Path → Graph → Graph
-without ps g = part (λ p. not (is_within ps p)) g
+without ps g = chosen_onto (λ p. not (is_within ps p)) default (entries g)
 
 -- The bytes that g has at and below some paths.
 abbrev pub bytes_within : List Path → Graph → ℕ

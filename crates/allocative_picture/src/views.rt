@@ -414,7 +414,6 @@ pub fn reverse(alloc: Global, graph: &FlameGraph) -> Result<FlameGraph, AllocErr
 
 /// The part of a graph at and below some paths, which keep their keys. Bytes within several of them count once. Paths
 /// without bytes of their own are left out. The only error is that memory runs out.
-#[tactic(auto, using(crate::proofs::Viewing::of_parts))]
 pub fn only(
     alloc: Global,
     graph: &FlameGraph,
@@ -432,7 +431,6 @@ pub fn only(
 
 /// The part of a graph that is neither at nor below some paths. Paths without bytes of their own are left out. The only
 /// error is that memory runs out.
-#[tactic(auto, using(crate::proofs::Viewing::of_parts))]
 pub fn without(
     alloc: Global,
     graph: &FlameGraph,
