@@ -1,6 +1,6 @@
 -- The bills of an account's entries after each change of them.
-use Rattle.std.proofs.Common.{◌≡◌, ℕ, ◌+◌, ◌-◌, ◌^◌, ◌≤◌, Bool, true, false, List, [], ◌∷◌, Some, None, arith, cond, refl}
-use Rattle.std.proofs.Common.{Result, inl, inr, unwrap_or}
+use Rattle.std.proofs.Common.{◌≡◌, ℕ, ◌+◌, ◌≤◌, Bool, true, false, List, [], ◌∷◌, Option, Some, None, arith, cond, inl, inr, option_map, refl, sym, unwrap_or}
+use Rattle.allocative.specs.Forest.{Forest}
 use Rattle.std.specs.BTreeMap.{is_at, insert_entry}
 use Rattle.std.specs.Cmp.{IsTotalOrder}
 use Rattle.std.specs.List.Sorted.{IsStrictlySortedBy}
@@ -14,10 +14,14 @@ use Rattle.std.proofs.lemmas.Map.Entries.{none_below_head, sum_by-insert_entry, 
 use Rattle.std.proofs.lemmas.Map.Keys.{sorted_tail}
 use Rattle.std.proofs.lemmas.Option.{same_Some}
 use Rattle.allocative_service.specs.declared.book.rejection.Rejection.{Rejection}
-use Rattle.allocative_service.specs.declared.book.rejection.Rejection.TheVariants.{TooLarge}
-use Rattle.allocative_service.specs.Rejected.{RejectsRoom, RejectsThen}
+use Rattle.allocative_service.specs.declared.kept.Kept.{Kept}
+use Rattle.allocative_service.specs.declared.measure.Measure.{Measure}
+use Rattle.allocative_service.specs.Kept.{IsBilled, key_bytes_in, kept_bytes}
+use Rattle.allocative_service.specs.Measured.{Declares, Measures}
+use Rattle.allocative_service.specs.Rejected.{HasRoom, RejectsEntry, RejectsRoom, RejectsThen}
+use Rattle.allocative_service.specs.Store.{RefusesPut}
 use Rattle.allocative_service.proofs.Accounts.{sum_by-written}
-use Rattle.allocative_service.specs.Book.{AreBilled, billed_sum, bytes_in}
+use Rattle.allocative_service.specs.Book.{AccountData, AreBilled, billed_sum, bytes_in}
 
 -- No key is found if no entry is.
 pub key_none : {K E : Type 0} (test : K → Bool) (es : List (K × E)) → lookup test es ≡ None → lookup_key test es ≡ None
@@ -115,7 +119,7 @@ module _ {K E : Type 0} (billed : E → ℕ) (test : K → Bool) (es : List (K �
   found_within e is = omega (arith, removed_sum e is)
 
 -- The lemmas on an account after an entry was removed.
-pub ruleset removing = (sum_by-remove_entry, billed-remove, entry_within)
+pub ruleset removing = (sum_by-remove_entry, billed-remove, entry_within, found_within, removed_sum)
 
 -- The lemmas on an account after an entry was put.
 pub ruleset putting = (sum_by-insert_entry, billed-insert, entry_within)
@@ -132,10 +136,61 @@ pub ruleset changing = (
   entry_within,
 )
 
--- Bytes that do not fit beside those of the others have no room in place of what was there.
-pub no_room : (P : Result ℕ Rejection → Type 0) (all sum limit had key_bytes : ℕ) (r : Rejection) → had ≤ all →
-    RejectsThen P (λ n s. (s ≡ TooLarge) × (2 ^ 64 ≤ all - had + key_bytes + n)) r →
-    RejectsThen P (λ n. RejectsRoom all None sum limit had (key_bytes + n)) r
-no_room P all sum limit had key_bytes r part (inl refused) = inl refused
-no_room P all sum limit had key_bytes r part (inr (n, gives, (is, large))) =
-    inr (n, gives, rw is (omega (arith, part, large)))
+-- ---- a value that is put
+module _ {K V : Type 0} (key_size : Option ℕ) (key_shows : K → Forest → Type 0) (size : Option ℕ)
+    (may_show : V → Forest → Type 0) where
+  module _ (m : Measure) (test : K → Bool) (es : List (K × Kept V)) (key : K)
+      (h : AreBilled (IsBilled key_size key_shows size may_show m) es) where
+    -- A key that is stored declares the bytes that its entry says, and another those that it was measured with.
+    pub key_billed : (k : ℕ) → (lookup test es ≡ None → Declares m key_size (key_shows key) k) →
+        Declares m key_size (key_shows (unwrap_or (lookup_key test es) key)) (key_bytes_in (lookup test es) k)
+    key_billed k given = by (lookup test es) refl
+      where
+        by : (o : Option (Kept V)) → lookup test es ≡ o →
+            Declares m key_size (key_shows (unwrap_or (lookup_key test es) key)) (key_bytes_in o k)
+        by None none = rw (key_none test es none) (given none)
+        by (Some e) is = (billed-found (IsBilled key_size key_shows size may_show m) test es key e h (sym is)).of_key
+
+    -- If there is room for a value with a new key, there is room for it in place of what the key has.
+    pub room_there : (all most sum limit k n : ℕ) → HasRoom all (Some most) sum limit 0 (n + k) →
+        HasRoom all (Some most) sum limit (bytes_in kept_bytes (lookup test es)) (key_bytes_in (lookup test es) k + n)
+    room_there all most sum limit k n r = by (lookup test es) refl
+      where
+        by : (o : Option (Kept V)) → lookup test es ≡ o →
+            HasRoom all (Some most) sum limit (bytes_in kept_bytes o) (key_bytes_in o k + n)
+        by None none = record {
+          fits = omega (arith, r.fits);
+          within = omega (arith, r.within);
+          all_within = omega (arith, r.all_within);
+        }
+        by (Some e) is =
+            let b = billed-found (IsBilled key_size key_shows size may_show m) test es key e h (sym is) in
+            record {
+              fits = omega (arith, r.fits, b.together);
+              within = omega (arith, r.within, b.together);
+              all_within = omega (arith, r.all_within, b.together);
+            }
+
+  module _ (key_strict is_strict : Bool) (cmp : K → K → Ordering) (all most : ℕ) (key : K) (v : V)
+      (a : AccountData K (Kept V)) (r : Rejection) where
+    -- A value that was measured is refused if it cannot be entered.
+    pub refuses : (k n : ℕ) → AreBilled (IsBilled key_size key_shows size may_show a.measure) a.entries →
+        (lookup (is_at (cmp key)) a.entries ≡ None → Declares a.measure key_size (key_shows key) k) →
+        Declares a.measure size (may_show v) n →
+        RejectsEntry all (Some most) (billed_sum kept_bytes a.entries) a.limit
+        (option_map kept_bytes (lookup (is_at (cmp key)) a.entries))
+        (key_bytes_in (lookup (is_at (cmp key)) a.entries) k + n) r →
+        RefusesPut key_size key_shows size may_show key_strict is_strict cmp all most key v a r
+    refuses k n h given value refused =
+        inr (inr (n, value, (_, key_billed a.measure (is_at (cmp key)) a.entries key h k given, refused)))
+
+    -- What is refused as a new key with its value is refused if there is no such key.
+    pub refuses_new : (n : ℕ) → AreBilled (IsBilled key_size key_shows size may_show a.measure) a.entries →
+        lookup (is_at (cmp key)) a.entries ≡ None → Declares a.measure size (may_show v) n →
+        RejectsThen (Measures a.measure key_strict key_size (key_shows key))
+        (λ k. RejectsRoom all (Some most) (billed_sum kept_bytes a.entries) a.limit 0 (n + k)) r →
+        RefusesPut key_size key_shows size may_show key_strict is_strict cmp all most key v a r
+    refuses_new n h none value (inl refused) = inl (none, refused)
+    refuses_new n h none value (inr (k, gives, large)) =
+        let same : n + k ≡ k + n = omega arith in
+        refuses k n h (λ e. gives) value (inl (rw none (rw same at large)))

@@ -1,16 +1,9 @@
 -- The changes of a node are its own and then those of its children, which are taken in the order of their keys.
-use Rattle.std.proofs.Common.{◌≡◌, ℕ, ◌+◌, ◌≤◌, ◌==◌, cond, true, Some, IfSome, arith, refl, List, [], ◌∷◌}
-use Rattle.std.proofs.Common.{◌++◌, length, length-append, sym, ap, subst, subst₂, ◌∙◌, append_assoc, append-nil, flat_map}
+use Rattle.std.proofs.Common.{◌≡◌, ℕ, ◌+◌, ◌≤◌, ◌==◌, cond, true, Some, IfSome, arith, refl, List, [], ◌∷◌, ◌++◌, length, length-append, sym, ap, subst, subst₂, ◌∙◌, append_assoc, append-nil, flat_map}
 use Rattle.std.specs.declared.cmp.Ordering.{Ordering}
 use Rattle.allocative_graph.specs.declared.flamegraph.Child.{Child}
-use Rattle.allocative_graph.proofs.Common.{AllAbove, AreChildren, Equal, Graph, Greater, IsTree, Key, Less, Merged, Path}
-use Rattle.allocative_graph.proofs.Common.{MergesFirst, default, entries, entries-node, eq_by_cmp_equiv, exact_bytes}
-use Rattle.allocative_graph.proofs.Common.{flat_map-append, key_cmp, len, len-child, nat_list_cmp_total, node}
-use Rattle.allocative_graph.proofs.Common.{rows_of, rows_of_child, size_at, size_under, sum_of, tied_itself, under_rows}
-use Rattle.allocative_graph.proofs.Common.{unwrap_or}
-use Rattle.allocative_graph.proofs.Children.{above_all, first_below, get-root, get-under, key_turn, lacks-above}
-use Rattle.allocative_graph.proofs.Children.{merged_same, merges_all, merges_then, next_equal, next_greater, next_less}
-use Rattle.allocative_graph.proofs.Children.{no_children, node_nil, size_under-lacks}
+use Rattle.allocative_graph.proofs.Common.{AllAbove, AreChildren, Equal, Graph, Greater, IsTree, Key, Less, Merged, Path, MergesFirst, default, entries, entries-node, eq_by_cmp_equiv, exact_bytes, flat_map-append, key_cmp, len, len-child, nat_list_cmp_total, node, rows_of, rows_of_child, size_at, size_under, sum_of, tied_itself, under_rows, unwrap_or}
+use Rattle.allocative_graph.proofs.Children.{above_all, first_below, get-root, get-under, key_turn, lacks-above, merged_same, merges_all, merges_then, next_equal, next_greater, next_less, no_children, node_nil, size_under-lacks}
 use Rattle.allocative_graph.proofs.Graphs.{size_at-default, sum_of-commutes, sum_of-default}
 use Rattle.allocative_graph.proofs.Nodes.{added_node, added_sum, added_trees, rows_of_node}
 use Rattle.allocative_service.specs.Changes.{Changed}

@@ -1,5 +1,5 @@
 -- The profiles that a service keeps.
-use Rattle.std.specs.Prelude.{◌≡◌, ℕ, Bool, List, ◌∷◌, Option, Some, None, IsSomeAnd, option_map, slice_get, take, ⊤}
+use Rattle.std.specs.Prelude.{◌≡◌, ◌⊎◌, ℕ, Bool, List, ◌∷◌, Option, Some, None, IsSomeAnd, option_map, slice_get, take, ⊤}
 use Rattle.std.specs.Option.{option_zip}
 use Rattle.allocative.specs.Graph.{Graph, ExceedWord}
 use Rattle.allocative.specs.Refusal.{Refusal}
@@ -47,12 +47,10 @@ pub record TakesChanges (p : Showing) (old new : History) (changes : Option (Lis
 
 -- Why no profile of what p allows is kept and compared with the earlier one. It is refused. Or it was made, and both
 -- together exceed a word, or memory runs out.
-pub data RefusesChanges (is_strict : Bool) (p : Showing) (earlier : Option Graph) (e : Refusal) : Type 0 where
-  profile_refused : MayRefuseProfile is_strict p e → RefusesChanges is_strict p earlier e
-  too_large : {made : Profile} → IsProfileOf p made → IsSomeAnd earlier (λ g. ExceedWord g made.graph) → e ≡ TooLarge
-      → RefusesChanges is_strict p earlier e
-  no_memory : {made : Profile} → IsProfileOf p made → ¬ (IsSomeAnd earlier (λ g. ExceedWord g made.graph)) → e ≡ Memory
-      → RefusesChanges is_strict p earlier e
+abbrev pub RefusesChanges : Bool → Showing → Option Graph → Refusal → Type 0
+RefusesChanges is_strict p earlier e = MayRefuseProfile is_strict p e ⊎ ((made : Profile) × IsProfileOf p made
+    × (((e ≡ TooLarge) × IsSomeAnd earlier (λ g. ExceedWord g made.graph))
+    ⊎ ((e ≡ Memory) × ¬ (IsSomeAnd earlier (λ g. ExceedWord g made.graph)))))
 
 -- n of the changes between two profiles grew most, or all that grew if there are fewer. There are none if a profile
 -- is missing.

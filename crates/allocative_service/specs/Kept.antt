@@ -1,5 +1,5 @@
 -- A value that a store or a cache keeps, and what is billed for it.
-use Rattle.std.specs.Prelude.{◌≡◌, ℕ, ◌+◌, Option}
+use Rattle.std.specs.Prelude.{◌≡◌, ℕ, ◌+◌, Option, option_map, unwrap_or}
 use Rattle.allocative.specs.Forest.{Forest}
 use Rattle.allocative_service.specs.Measured.{Declares}
 use Rattle.allocative_service.specs.declared.kept.Kept.{Kept}
@@ -8,6 +8,14 @@ use Rattle.allocative_service.specs.declared.measure.Measure.{Measure}
 -- The bytes that are billed for a kept value.
 abbrev pub kept_bytes : {V : Type 0} → Kept V → ℕ
 kept_bytes k = k.bytes
+
+-- The bytes of the key of an entry, or those of another key if there is none.
+abbrev pub key_bytes_in : {V : Type 0} → Option (Kept V) → ℕ → ℕ
+key_bytes_in had key_bytes = unwrap_or (option_map (λ k. k.key_bytes) had) key_bytes
+
+-- The value as it is kept under a key of so many bytes.
+abbrev pub kept_as : {V : Type 0} → V → ℕ → ℕ → Kept V
+kept_as v key_bytes value_bytes = record { value = v; bytes = key_bytes + value_bytes; key_bytes = key_bytes }
 
 module _ {K V : Type 0} (key_size : Option ℕ) (key_shows : K → Forest → Type 0) (size : Option ℕ)
     (may_show : V → Forest → Type 0) where

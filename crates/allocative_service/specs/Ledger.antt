@@ -18,12 +18,6 @@ sum_of entries = billed_sum (λ n. n) entries
 abbrev pub bytes_at : ℕ → AccountData ℕ ℕ → Option ℕ
 bytes_at number h = lookup (is_at (nat_cmp number)) h.entries
 
--- The number now has these bytes in place of `had`. All bytes of the account together are `total`.
-pub record Puts (number bytes : ℕ) (had : Option ℕ) (old new : AccountData ℕ ℕ) (total : ℕ) : Type 0 where
-  pub had_bytes : bytes_at number old ≡ had
-  pub is : new ≡ with_entries (insert_entry nat_cmp old.entries number bytes) total old
-  pub total_is : total + unwrap_or had 0 ≡ sum_of old.entries + bytes
-
 -- ---- all accounts
 -- The bytes of all accounts together.
 abbrev pub total_of : BookData ℕ ℕ → ℕ

@@ -1,12 +1,10 @@
 -- What a store keeps, and how its calls change it: a book of values by key.
-use Rattle.std.specs.Prelude.{◌≡◌, ◌⊎◌, ℕ, ◌+◌, Bool, List, Option, None, Some, option_map, unwrap_or}
-use Rattle.std.specs.Prelude.{Err, IsSomeAnd}
+use Rattle.std.specs.Prelude.{◌≡◌, ◌⊎◌, ℕ, ◌+◌, Bool, List, Option, None, Some, option_map, unwrap_or, Err, IsSomeAnd}
 use Rattle.std.specs.declared.cmp.Ordering.{Ordering}
 use Rattle.std.specs.BTreeMap.{insert_entry, is_at}
 use Rattle.std.specs.Map.{lookup, lookup_key, set_value}
 use Rattle.allocative.specs.Forest.{Forest}
-use Rattle.allocative_service.specs.Book.{AccountData, BookData, account_of, billed_sum, bytes_in}
-use Rattle.allocative_service.specs.Book.{SetsAccount, with_entries}
+use Rattle.allocative_service.specs.Book.{AccountData, BookData, account_of, billed_sum, bytes_in, SetsAccount, with_entries}
 use Rattle.allocative_service.specs.Measured.{Declares, Measures}
 use Rattle.allocative_service.specs.Rejected.{HasRoom, RejectsEntry, RejectsRoom, RejectsThen}
 use Rattle.allocative_service.specs.declared.book.rejection.Rejection.{Rejection}

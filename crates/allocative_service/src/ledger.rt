@@ -1,13 +1,14 @@
 //! A ledger: the bytes of each tenant's values, by number.
-ghost use Rattle.std.specs.Prelude.{◌≡◌, ℕ, ◌+◌, ◌^◌, ◌<◌, ◌≤◌, [], Some, None, Ok, Err, IfOk, IfErr, IfSome, IfNone, IsSomeAnd, MatchOption, OnErr, unwrap_or};
-ghost use Rattle.allocative_service.specs.Book.{account_of, StandsAt};
-ghost use Rattle.allocative_service.specs.Ledger.{bytes_at, entry_of, total_of, Adds, Enters, IsNew, IsThere, Rejects, Releases, Stores};
+ghost use Rattle.std.specs.Prelude.{◌≡◌, ℕ, ◌+◌, ◌-◌, ◌^◌, ◌<◌, ◌≤◌, [], Some, None, Ok, Err, IfOk, IfErr, IfSome, IfNone, IsSomeAnd, MatchOption, OnErr, unwrap_or};
+ghost use Rattle.std.specs.BTreeMap.{insert_entry};
+ghost use Rattle.std.specs.Ordering.{nat_cmp};
+ghost use Rattle.allocative_service.specs.Book.{account_of, with_entries, StandsAt};
+ghost use Rattle.allocative_service.specs.Ledger.{bytes_at, entry_of, sum_of, total_of, Adds, Enters, IsNew, IsThere, Rejects, Releases, Stores};
 ghost use Rattle.allocative_service.specs.Measured.{Declares, Measures};
-ghost use Rattle.allocative_service.specs.Rejected.{RejectsIn};
-
-mod account;
+ghost use Rattle.allocative_service.specs.Rejected.{HasRoom, RejectsEntry, RejectsIn, RejectsThen};
 
 use crate::book::Book;
+use crate::book::budget::Room;
 pub use crate::book::{Budget, Rejection, Standing};
 use allocative::{Allocative, Described};
 
@@ -54,8 +55,10 @@ impl Ledger {
                 Some(_) => Err(Rejection::Taken { number }),
             }
         };
-        let standing = self.put_with(tenant, number, Some(self.limit), bytes_of)?;
-        Ok(standing.bytes)
+        Ok(
+            self.put_with(tenant, number, Some(self.limit), bytes_of)?
+                .bytes,
+        )
     }
 
     /// Measures a value again after it has changed, replaces the bytes of the entry under the number if that exceeds no
@@ -89,8 +92,7 @@ impl Ledger {
                 Some(_) => Ok(measure.size_of(alloc, value)?),
             }
         };
-        let standing = self.put_with(tenant, number, Some(most), bytes_of)?;
-        Ok(standing.bytes)
+        Ok(self.put_with(tenant, number, Some(most), bytes_of)?.bytes)
     }
 
     /// Measures a value again after it has changed, replaces the bytes of the entry under the number, also beyond the
@@ -139,11 +141,13 @@ impl Ledger {
             (Rejects tenant.now number (Some self.old.limit) (IsNew number (λ given. given ≡ Ok bytes)) self.old) }
         ensures unchanged { OnErr result (self.new ≡ self.old) }
     {
-        let standing = self.put_with(tenant, number, Some(self.limit), |had| match had {
-            None => Ok(bytes),
-            Some(_) => Err(Rejection::Taken { number }),
-        })?;
-        Ok(standing.bytes)
+        Ok(
+            self.put_with(tenant, number, Some(self.limit), |had| match had {
+                None => Ok(bytes),
+                Some(_) => Err(Rejection::Taken { number }),
+            })?
+            .bytes,
+        )
     }
 
     /// Adds so many bytes to the tenant's entry under the number, for a value that has grown by as many, and returns
@@ -164,8 +168,10 @@ impl Ledger {
                 Some(had) => had.checked_add(more).ok_or(Rejection::TooLarge),
             }
         };
-        let standing = self.put_with(tenant, number, Some(self.limit), bytes_of)?;
-        Ok(standing.bytes)
+        Ok(
+            self.put_with(tenant, number, Some(self.limit), bytes_of)?
+                .bytes,
+        )
     }
 
     /// Takes so many bytes off the tenant's entry under the number, for a value that has shrunk by as many, and returns
@@ -181,13 +187,15 @@ impl Ledger {
             (Err r)) (account_of tenant.now self.old)) }
         ensures unchanged { OnErr result (self.new ≡ self.old) }
     {
-        let standing = self.put_with(tenant, number, None, |entry| match entry {
-            None => Err(Rejection::NotThere { number }),
-            Some(bytes) => bytes
-                .checked_sub(less)
-                .ok_or(Rejection::OverCredit { bytes, less }),
-        })?;
-        Ok(standing.bytes)
+        Ok(
+            self.put_with(tenant, number, None, |entry| match entry {
+                None => Err(Rejection::NotThere { number }),
+                Some(bytes) => bytes
+                    .checked_sub(less)
+                    .ok_or(Rejection::OverCredit { bytes, less }),
+            })?
+            .bytes,
+        )
     }
 
     /// Removes the tenant's entry under the number. It returns the bytes of the entry. If there is none, it returns
@@ -244,5 +252,63 @@ impl Ledger {
             excess,
             ledger_excess,
         })
+    }
+}
+
+impl Account {
+    /// Stores under the number the bytes that `bytes_of` makes of those that it has, if there is room. It returns the
+    /// bytes of all entries together. All accounts have `all` bytes together and may have `most`; without `most` no
+    /// limit counts. A number that is there is searched once.
+    ///
+    /// The error is that of `bytes_of`, otherwise that of `Room::check`, and otherwise `NotKept` if the number
+    /// has no entry and memory runs out. After it the account is unchanged.
+    #[tactic(auto, using(crate::proofs::Sums::puts))]
+    pub(crate) fn put_with<F: FnOnce(Option<usize>) -> Result<usize, Rejection>>(
+        &mut self,
+        number: u64,
+        all: usize,
+        most: Option<usize>,
+        bytes_of: F,
+    ) -> Result<usize, Rejection>
+        // Whoever calls it knows that the bytes of this account are part of those of all.
+        requires called { F.IsAlwaysCallable bytes_of }
+        requires within { sum_of self.old.entries ≤ all }
+
+        // The number has the bytes that `bytes_of` made, for which there was room, and the sum is that with them.
+        ensures put { IfOk result (λ total. (bytes : ℕ) × F.post bytes_of (bytes_at number self.old) (Ok bytes)
+            × HasRoom all most (sum_of self.old.entries) self.old.limit (unwrap_or (bytes_at number self.old) 0) bytes
+            × (self.new ≡ with_entries (insert_entry nat_cmp self.old.entries number bytes) total self.old)
+            × (total + unwrap_or (bytes_at number self.old) 0 ≡ sum_of self.old.entries + bytes)) }
+        ensures sum { IfOk result (λ total. sum_of self.new.entries ≡ total) }
+
+        // An error has the first cause that holds, and nothing changed.
+        ensures rejected { IfErr result (RejectsThen (F.post bytes_of (bytes_at number self.old))
+            (RejectsEntry all most (sum_of self.old.entries) self.old.limit (bytes_at number self.old))) }
+        ensures unchanged { OnErr result (self.new ≡ self.old) }
+    {
+        let (sum, budget) = (self.bytes, self.budget);
+        let room = Room {
+            budget,
+            sum,
+            all,
+            most,
+        };
+        let Some(entry) = self.entries.get_mut(&number) else {
+            let bytes = bytes_of(None)?;
+            room.check(0, bytes as u128)?;
+            let Ok(_none) = self.entries.insert(number, bytes) else {
+                return Err(Rejection::NotKept);
+            };
+            self.bytes = sum + bytes;
+            self.peak = self.peak.max(self.bytes);
+            return Ok(self.bytes);
+        };
+        let had = *entry;
+        let bytes = bytes_of(Some(had))?;
+        room.check(had, bytes as u128)?;
+        *entry = bytes;
+        self.bytes = sum - had + bytes;
+        self.peak = self.peak.max(self.bytes);
+        Ok(self.bytes)
     }
 }

@@ -1,7 +1,8 @@
 //! What is counted of a value.
-ghost use Rattle.std.specs.Prelude.{◌≡◌, ℕ, ◌+◌, IfOk, IfErr, Some, String, string_capacity};
+ghost use Rattle.std.specs.Prelude.{◌≡◌, ℕ, ◌+◌, IfOk, IfErr, Some, String, Vec, string_capacity, vec_capacity};
 ghost use Rattle.std.specs.Global.{Global};
 ghost use Rattle.allocative_service.specs.Measured.{Declares, MayRefuseMeasure, AnswersMeasure};
+ghost use Rattle.allocative_service.specs.declared.measure.Measure.{Measure};
 
 use allocative::{Allocative, Described, Refusal, size_of_owned, size_of_shown, size_of_unique};
 use std::alloc::Global;
@@ -42,11 +43,14 @@ impl Measure {
     }
 }
 
-/// A law for proofs of callers: by `Owned`, and by `Unique`, a text declares 24 bytes and its capacity.
-#[tactic(auto, using(crate::proofs::Texts::texts))]
+/// A law for proofs of callers: by each measure a text, or a `Vec<u8>`, declares 24 bytes and its capacity.
 pub fn text_bytes_law()
     ensures owned { (text : String Global) → (bytes : ℕ) → Declares Measure.Owned (Some 24)
         (⟦<String as Allocative>⟧.may_show text) bytes → bytes ≡ 24 + string_capacity text }
     ensures unique { (text : String Global) → (bytes : ℕ) → Declares Measure.Unique (Some 24)
         (⟦<String as Allocative>⟧.may_show text) bytes → bytes ≡ 24 + string_capacity text }
+    ensures each { (measure : Measure) → (text : String Global) → (bytes : ℕ) → Declares measure (Some 24)
+        (⟦<String as Allocative>⟧.may_show text) bytes → bytes ≡ 24 + string_capacity text }
+    ensures data_bytes { (measure : Measure) → (v : Vec ℕ Global) → (bytes : ℕ) → Declares measure (Some 24)
+        (⟦<Vec<u8> as Allocative>⟧.may_show v) bytes → bytes ≡ 24 + vec_capacity v }
 {}

@@ -69,13 +69,8 @@ impl<K: Ord + Drop, E: Billed<K>> Book<K, E> {
     {
         let mut text = String::new(self.alloc);
         let bytes = Some(self.bytes());
-        self.push_whole(
-            prefix,
-            "bytes",
-            "The bytes of all tenants.",
-            bytes,
-            &mut text,
-        )?;
+        let help = "The bytes of all tenants.";
+        self.push_whole(prefix, "bytes", help, bytes, &mut text)?;
         let limit = limit_in(self.limit());
         let help = "The most bytes that all tenants may have, unless they grow.";
         self.push_whole(prefix, "limit_bytes", help, limit, &mut text)?;

@@ -1,5 +1,5 @@
 //! A limit in bytes and the check against it.
-ghost use Rattle.std.specs.Prelude.{◌≡◌, ◌^◌, ◌<◌, ◌≤◌, IfOk, IfErr, OnOk};
+ghost use Rattle.std.specs.Prelude.{◌≡◌, ◌+◌, ◌^◌, ◌<◌, ◌≤◌, IfOk, IfErr, OnOk};
 ghost use Rattle.allocative_service.specs.Measured.{Declares, Measures};
 ghost use Rattle.allocative_service.specs.Rejected.{HasRoom, IsOverBudget, RejectsRoom, RejectsThen};
 
@@ -30,41 +30,6 @@ impl Budget {
         Ok(bytes)
     }
 
-    /// Checks that there is room for `bytes` in place of the `had` bytes of one entry, where this is the budget of an
-    /// account of `sum` bytes, and all accounts have `all` bytes together and may have `most`; without `most` no limit
-    /// counts.
-    ///
-    /// The error is `TooLarge` if the new bytes of all accounts do not fit a word, otherwise, with `most`, `OverBudget`
-    /// if those of the account exceed the limit, and otherwise `LedgerFull` if those of all accounts exceed `most`.
-    pub(crate) fn check_room(
-        &self,
-        sum: usize,
-        all: usize,
-        most: Option<usize>,
-        had: usize,
-        bytes: usize,
-    ) -> Result<(), Rejection>
-        requires part { had ≤ sum }
-        requires within { sum ≤ all }
-        ensures room { OnOk result (HasRoom all most sum self.now.limit had bytes) }
-        ensures rejected { IfErr result (RejectsRoom all most sum self.now.limit had bytes) }
-    {
-        let Some(new_all) = (all - had).checked_add(bytes) else {
-            return Err(Rejection::TooLarge);
-        };
-        let Some(most) = most else {
-            return Ok(());
-        };
-        self.check(sum - had + bytes)?;
-        if new_all > most {
-            return Err(Rejection::LedgerFull {
-                bytes: new_all,
-                limit: most,
-            });
-        }
-        Ok(())
-    }
-
     /// Measures one value by itself, for example all that a tenant has. If the bytes that it declares are within the
     /// limit, it returns them.
     ///
@@ -83,5 +48,77 @@ impl Budget {
             (λ bytes. IsOverBudget bytes self.now.limit)) }
     {
         self.check(measure.size_of(alloc, value)?)
+    }
+}
+
+/// The room for an entry of an account.
+#[derive(Clone, Copy)]
+pub(crate) struct Room {
+    /// The limit of the account.
+    pub(crate) budget: Budget,
+    /// The bytes of the account.
+    pub(crate) sum: usize,
+    /// The bytes of all accounts together.
+    pub(crate) all: usize,
+    /// The most that these may be. Without it no limit counts.
+    pub(crate) most: Option<usize>,
+    // The account is one of all.
+    ghost within: { sum ≤ all },
+}
+
+impl Room {
+    /// Checks that there is room for so many bytes in place of the `had` bytes of one entry.
+    ///
+    /// The error is `TooLarge` if the new bytes of all accounts do not fit a word, otherwise, with `most`, `OverBudget`
+    /// if those of the account exceed the limit, and otherwise `LedgerFull` if those of all accounts exceed `most`.
+    pub(crate) fn check(&self, had: usize, bytes: u128) -> Result<(), Rejection>
+        requires { had ≤ self.now.sum }
+        ensures room { OnOk result
+            (HasRoom self.now.all self.now.most self.now.sum self.now.budget.limit had bytes) }
+        ensures rejected { IfErr result
+            (RejectsRoom self.now.all self.now.most self.now.sum self.now.budget.limit had bytes) }
+    {
+        if bytes > usize::MAX as u128 {
+            return Err(Rejection::TooLarge);
+        }
+        let (sum, all, bytes) = (self.sum - had, self.all - had, bytes as usize);
+        let Some(new_all) = all.checked_add(bytes) else {
+            return Err(Rejection::TooLarge);
+        };
+        let Some(most) = self.most else {
+            return Ok(());
+        };
+        self.budget.check(sum + bytes)?;
+        if new_all > most {
+            return Err(Rejection::LedgerFull {
+                bytes: new_all,
+                limit: most,
+            });
+        }
+        Ok(())
+    }
+
+    /// The bytes that a value declares, if there is room for them and `beside` others in place of `had` bytes. The
+    /// error is `NotMeasured` if `Measure::size_of` returns an error, and otherwise that of `check`.
+    pub(crate) fn measured<T: Allocative + Described>(
+        &self,
+        alloc: Global,
+        measure: Measure,
+        value: &T,
+        had: usize,
+        beside: usize,
+    ) -> Result<usize, Rejection>
+        requires { had ≤ self.now.sum }
+        ensures declared { IfOk result (Declares measure T.layout.size (T.may_show value.now)) }
+        ensures room { IfOk result (λ bytes. HasRoom self.now.all self.now.most self.now.sum self.now.budget.limit had
+            (beside + bytes)) }
+        ensures rejected { IfErr result
+            (RejectsThen (Measures measure T.is_strict T.layout.size (T.may_show value.now))
+            (λ bytes. RejectsRoom self.now.all self.now.most self.now.sum self.now.budget.limit had
+            (beside + bytes))) }
+    {
+        let bytes = measure.size_of(alloc, value)?;
+        self.check(had, beside as u128 + bytes as u128)?;
+        Ok(bytes)
     }
 }

@@ -1,20 +1,22 @@
 //! The values of one tenant of a store, with the bytes that are billed for each.
-ghost use Rattle.std.specs.Prelude.{◌≡◌, ℕ, ◌+◌, ◌-◌, ◌^◌, ◌<◌, ◌≤◌, OnOk, OnErr, IfOk, IfErr, IfNone, MatchBool, None, Some, option_copied, option_map};
-ghost use Rattle.std.specs.BTreeMap.{is_at};
+ghost use Rattle.std.specs.Prelude.{◌≡◌, ◌+◌, ◌-◌, ◌^◌, ◌<◌, ◌≤◌, OnOk, OnErr, IfOk, IfErr, IfNone, MatchBool, None, Some, option_copied, option_map};
+ghost use Rattle.std.specs.BTreeMap.{insert_entry, is_at, IsOrdered};
 ghost use Rattle.std.specs.Map.{lookup, lookup_key};
 ghost use Rattle.allocative_service.specs.Book.{bytes_in, without_entry};
 ghost use Rattle.allocative_service.specs.Entries.{ChangesTo};
-ghost use Rattle.allocative_service.specs.Kept.{IsBill, kept_bytes};
-ghost use Rattle.allocative_service.specs.Measured.{Declares, MayRefuseMeasure, Measures};
-ghost use Rattle.allocative_service.specs.Rejected.{HasRoom, RejectsThen};
-ghost use Rattle.allocative_service.specs.Store.{stored_key, sum_of, value_at, KeepsChanged, PutsOnShelf, RefusesChanged, RefusesPut};
+ghost use Rattle.allocative_service.specs.Kept.{kept_as, kept_bytes, key_bytes_in};
+ghost use Rattle.allocative_service.specs.Measured.{Declares};
+ghost use Rattle.allocative_service.specs.Rejected.{HasRoom};
+ghost use Rattle.allocative_service.specs.Store.{sum_of, value_at, KeepsChanged, PutsOnShelf, RefusesChanged, RefusesPut};
 
+use crate::book::budget::Room;
 use crate::book::{Account, Rejection};
 use crate::cache::error::Refused;
 use crate::kept::Kept;
-use crate::measure::Measure;
-use allocative::{Allocative, Described, Refusal};
-use std::alloc::{AllocFailed, Global};
+use allocative::{Allocative, Described};
+use std::alloc::Global;
+use std::collections::BTreeMap;
+use std::collections::btree_map::Entry;
 
 /// A value that was not put, or not kept after a change, with its key and the cause.
 pub type NotKept<K, V> = Refused<K, V, Rejection>;
@@ -23,39 +25,60 @@ pub type NotKept<K, V> = Refused<K, V, Rejection>;
 /// handed back gives its values by `remove`.
 pub type Shelf<K, V> = Account<K, Kept<V>>;
 
-/// What is billed for a key and a value.
-#[derive(Clone, Copy)]
-struct Bill {
-    /// The bytes that the key has now, or 0.
-    had: usize,
-    /// The bytes of the key and the value.
-    bytes: usize,
-    /// Those of the key.
+/// Puts a value of `value_bytes` bytes under the key, which has `key_bytes` unless it is there already. It returns the
+/// value that was there, its bytes or 0, and the bytes that are there now. The key is searched once.
+fn write<K: Ord + Drop, V: Drop>(
+    entries: &mut BTreeMap<K, Kept<V>>,
+    key: K,
+    value: V,
     key_bytes: usize,
-}
+    value_bytes: usize,
+) -> Result<(Option<V>, usize, usize), (K, V)>
+    requires { key_bytes_in (lookup (is_at (K.cmp key)) entries.old.entries) key_bytes + value_bytes < 2 ^ 64 }
 
-/// The declared bytes of a value beside a key of `key_bytes` bytes, if with them and `others` they fit a word. The
-/// error is `NotMeasured` if `Measure::size_of` returns an error, and otherwise `TooLarge`.
-fn bytes_beside<V: Allocative + Described>(
-    alloc: Global,
-    measure: Measure,
-    value: &V,
-    key_bytes: usize,
-    others: usize,
-) -> Result<usize, Rejection>
-    ensures value { IfOk result (λ bytes. (n : ℕ) × Declares measure V.layout.size (V.may_show value.now) n
-        × (bytes ≡ key_bytes + n)) }
-    ensures fits { IfOk result (λ bytes. others + bytes < 2 ^ 64) }
-    ensures refused { IfErr result
-        (RejectsThen (Measures measure V.is_strict V.layout.size (V.may_show value.now))
-        (λ n r. (r ≡ Rejection.TooLarge) × (2 ^ 64 ≤ others + key_bytes + n))) }
+    // The entry has the bytes of the key that is there and of the value.
+    ensures put { OnOk result (entries.new.entries ≡ insert_entry K.cmp entries.old.entries key (kept_as value
+        (key_bytes_in (lookup (is_at (K.cmp key)) entries.old.entries) key_bytes) value_bytes)) }
+    ensures bytes { IfOk result (λ was. was.2
+        ≡ key_bytes_in (lookup (is_at (K.cmp key)) entries.old.entries) key_bytes + value_bytes) }
+
+    // What was there is returned.
+    ensures value { IfOk result
+        (λ was. was.0 ≡ option_map (λ e. e.value) (lookup (is_at (K.cmp key)) entries.old.entries)) }
+    ensures had { IfOk result
+        (λ was. was.1 ≡ bytes_in kept_bytes (lookup (is_at (K.cmp key)) entries.old.entries)) }
+
+    // Only a new key is refused, if memory runs out. Both are handed back, and nothing changed.
+    ensures absent { OnErr result (lookup (is_at (K.cmp key)) entries.old.entries ≡ None) }
+    ensures returned { IfErr result (λ pair. pair ≡ (key, value)) }
+    ensures err { OnErr result (entries.new.entries ≡ entries.old.entries) }
+    ensures ordered { IsOrdered K.cmp entries.old }
 {
-    let bytes = measure.size_of(alloc, value)?;
-    let together = key_bytes.checked_add(bytes).ok_or(Rejection::TooLarge)?;
-    if together > usize::MAX - others {
-        return Err(Rejection::TooLarge);
+    let entry = match entries.entry(key) {
+        Ok(entry) => entry,
+        Err(failed) => return Err((failed.value, value)),
+    };
+    match entry {
+        Entry::Vacant(entry) => {
+            let bytes = key_bytes + value_bytes;
+            entry.insert(Kept {
+                value,
+                bytes,
+                key_bytes,
+            });
+            Ok((None, 0, bytes))
+        }
+        Entry::Occupied(mut entry) => {
+            let key_bytes = entry.get().key_bytes;
+            let bytes = key_bytes + value_bytes;
+            let had = entry.insert(Kept {
+                value,
+                bytes,
+                key_bytes,
+            });
+            Ok((Some(had.value), had.bytes, bytes))
+        }
     }
-    Ok(together)
 }
 
 impl<K: Ord + Allocative + Described, V: Allocative + Described> Shelf<K, V> {
@@ -66,25 +89,8 @@ impl<K: Ord + Allocative + Described, V: Allocative + Described> Shelf<K, V> {
         Some(&self.entries.get(key)?.value)
     }
 
-    /// The bytes that are billed under a key, or 0, and those of the key itself. Only a key that the shelf does not
-    /// have is measured, and the error is that of `Measure::size_of`.
-    fn billed_under(&self, alloc: Global, key: &K) -> Result<(usize, usize), Refusal>
-        ensures had { IfOk result
-            (λ found. found.0 ≡ bytes_in kept_bytes (lookup (is_at (K.cmp key.now)) self.now.entries)) }
-        ensures part { IfOk result (λ found. found.0 ≤ sum_of self.now) }
-        ensures key { IfOk result (λ found. Declares self.now.measure K.layout.size
-            (K.may_show (stored_key K.cmp key.now self.now)) found.1) }
-        ensures refused { IfErr result (λ e. (lookup (is_at (K.cmp key.now)) self.now.entries ≡ None)
-            × MayRefuseMeasure self.now.measure K.is_strict K.layout.size (K.may_show key.now) e) }
-    {
-        match self.entries.get_key_value(key) {
-            Some((_stored, entry)) => Ok((entry.bytes, entry.key_bytes)),
-            None => Ok((0, self.measure.size_of(alloc, key)?)),
-        }
-    }
-
-    /// What is billed for a key and a value, where all shelves have `all` bytes together and may have `most`. A key
-    /// that the shelf has keeps its bytes.
+    /// The bytes of the key and of the value, if there is room for them, where all shelves have `all` bytes together and
+    /// may have `most`. Those of the key count only if the shelf does not have it.
     fn bill(
         &self,
         alloc: Global,
@@ -92,36 +98,40 @@ impl<K: Ord + Allocative + Described, V: Allocative + Described> Shelf<K, V> {
         value: &V,
         all: usize,
         most: usize,
-    ) -> Result<Bill, Rejection>
+    ) -> Result<(usize, usize), Rejection>
         requires { sum_of self.now ≤ all }
-
-        // The bytes that the key has are part of the sum.
-        ensures had { IfOk result (λ bill. bill.had
-            ≡ bytes_in kept_bytes (lookup (is_at (K.cmp key.now)) self.now.entries)) }
-        ensures part { IfOk result (λ bill. bill.had ≤ sum_of self.now) }
-
-        // The bill is that of the stored key and the value, and there is room for it.
-        ensures bill { IfOk result (λ bill. IsBill K.layout.size K.may_show V.layout.size V.may_show self.now.measure
-            (stored_key K.cmp key.now self.now) value.now bill.key_bytes bill.bytes) }
-        ensures room { IfOk result
-            (λ bill. HasRoom all (Some most) (sum_of self.now) self.now.limit bill.had bill.bytes) }
+        ensures key { IfOk result (λ bill. lookup (is_at (K.cmp key.now)) self.now.entries ≡ None
+            → Declares self.now.measure K.layout.size (K.may_show key.now) bill.0) }
+        ensures value { IfOk result
+            (λ bill. Declares self.now.measure V.layout.size (V.may_show value.now) bill.1) }
+        ensures room { IfOk result (λ bill. HasRoom all (Some most) (sum_of self.now) self.now.limit
+            (bytes_in kept_bytes (lookup (is_at (K.cmp key.now)) self.now.entries))
+            (key_bytes_in (lookup (is_at (K.cmp key.now)) self.now.entries) bill.0 + bill.1)) }
 
         // An error has the first cause that holds.
         ensures refused { IfErr result (RefusesPut K.layout.size K.may_show V.layout.size V.may_show K.is_strict
             V.is_strict K.cmp all most key.now value.now self.now) }
     {
-        let (had, key_bytes) = self.billed_under(alloc, key)?;
         let value_bytes = self.measure.size_of(alloc, value)?;
-        let Some(bytes) = key_bytes.checked_add(value_bytes) else {
-            return Err(Rejection::TooLarge);
+        let room = Room {
+            budget: self.budget,
+            sum: self.bytes,
+            all,
+            most: Some(most),
         };
-        self.budget
-            .check_room(self.bytes, all, Some(most), had, bytes)?;
-        Ok(Bill {
-            had,
-            bytes,
-            key_bytes,
-        })
+        let refused = match room.measured(alloc, self.measure, key, 0, value_bytes) {
+            Ok(key_bytes) => return Ok((key_bytes, value_bytes)),
+            Err(refused) => refused,
+        };
+        // There may be room in place of the value that is under the key.
+        let Some(there) = self.entries.get(key) else {
+            return Err(refused);
+        };
+        let bytes = there.key_bytes as u128 + value_bytes as u128;
+        match room.check(there.bytes, bytes) {
+            Ok(()) => Ok((there.key_bytes, value_bytes)),
+            Err(refused) => Err(refused),
+        }
     }
 
     /// Measures the key and the value, and keeps the value under the key, where all shelves have `all` bytes together,
@@ -156,33 +166,20 @@ impl<K: Ord + Allocative + Described, V: Allocative + Described> Shelf<K, V> {
         // The bytes of all shelves fit a word.
         ensures fits { all + sum_of self.new < 2 ^ 64 + sum_of self.old }
     {
-        let Bill {
-            had,
-            bytes,
-            key_bytes,
-        } = match self.bill(alloc, &key, &value, all, most) {
+        let (key_bytes, value_bytes) = match self.bill(alloc, &key, &value, all, most) {
             Ok(bill) => bill,
             Err(error) => return Err(Refused { error, key, value }),
         };
-        let kept = Kept {
-            value,
-            bytes,
-            key_bytes,
-        };
-        match self.entries.insert(key, kept) {
-            Ok(replaced) => {
+        match write(&mut self.entries, key, value, key_bytes, value_bytes) {
+            Ok((was, had, bytes)) => {
                 self.bytes = self.bytes - had + bytes;
                 self.peak = self.peak.max(self.bytes);
-                Ok(replaced.map(|kept| kept.value))
+                Ok(was)
             }
-            Err(
-                AllocFailed {
-                    value: (key, entry),
-                },
-            ) => Err(Refused {
+            Err((key, value)) => Err(Refused {
                 error: Rejection::NotKept,
                 key,
-                value: entry.value,
+                value,
             }),
         }
     }
@@ -224,10 +221,16 @@ impl<K: Ord + Allocative + Described, V: Allocative + Described> Shelf<K, V> {
         };
         let (had, key_bytes) = (entry.bytes, entry.key_bytes);
         change(&mut entry.value);
-        let error = match bytes_beside(alloc, self.measure, &entry.value, key_bytes, all - had) {
+        let room = Room {
+            budget: self.budget,
+            sum: self.bytes,
+            all,
+            most: None,
+        };
+        let error = match room.measured(alloc, self.measure, &entry.value, had, key_bytes) {
             Ok(bytes) => {
-                entry.bytes = bytes;
-                self.bytes = self.bytes - had + bytes;
+                entry.bytes = key_bytes + bytes;
+                self.bytes = self.bytes - had + entry.bytes;
                 self.peak = self.peak.max(self.bytes);
                 return Ok(true);
             }

@@ -1,13 +1,12 @@
 -- of History::take_changes: taken and refused
-use Rattle.std.proofs.Common.{◌≡◌, ◌↔◌, Bool, List, Option, Vec, Global, Result, Ok, Err, IfOk, IfErr, OnOk, IsErrOf, IsSomeAnd}
-use Rattle.std.proofs.Common.{option_map, refl}
+use Rattle.std.proofs.Common.{◌≡◌, ◌↔◌, Bool, List, Option, Vec, Global, Result, Ok, Err, IfOk, IfErr, OnOk, IsErrOf, IsSomeAnd, inl, inr, option_map, refl}
 use Rattle.allocative.specs.Graph.{Graph, ExceedWord}
 use Rattle.allocative.specs.Shows.{Showing}
 use Rattle.allocative.specs.Visits.{Profile, IsProfileOf}
 use Rattle.allocative_graph.specs.declared.refusal.Refusal.{Refusal}
 use Rattle.allocative_graph.specs.declared.refusal.Refusal.TheVariants.{Memory, TooLarge, Open}
 use Rattle.allocative_service.specs.Changes.{Changed, data_of, changes_of}
-use Rattle.allocative_service.specs.History.{latest_of, KeepsProfile, TakesChanges, RefusesChanges, too_large, no_memory}
+use Rattle.allocative_service.specs.History.{latest_of, KeepsProfile, TakesChanges, RefusesChanges}
 use Rattle.allocative_service.specs.declared.history.History.{History}
 use Rattle.allocative_service.specs.declared.history.changes.Change.{Change}
 use Rattle.allocative_service.proofs.history.History.take_changes.Goals as goal
@@ -33,8 +32,10 @@ refused : (r : Result (Option (Vec Change Global)) Refusal) (is_strict : Bool) (
     (IsErrOf r TooLarge ↔ IsSomeAnd earlier (λ g. ExceedWord g made.graph)) → ¬ (IsErrOf r Open) →
     IfErr r (RefusesChanges is_strict p earlier)
 refused (Ok found) is_strict p earlier made is large never = tt
-refused (Err Memory) is_strict p earlier made is large never = no_memory is (λ h. cc (large.1 h)) refl
-refused (Err TooLarge) is_strict p earlier made is large never = too_large is (large.0 refl) refl
+refused (Err Memory) is_strict p earlier made is large never =
+    inr (made, is, inr (refl, λ h. cc (large.1 h)))
+refused (Err TooLarge) is_strict p earlier made is large never =
+    inr (made, is, inl (refl, large.0 refl))
 refused (Err Open) is_strict p earlier made is large never = absurd (never refl)
 
 pub returns-clause-taken : goal.returns-clause-taken

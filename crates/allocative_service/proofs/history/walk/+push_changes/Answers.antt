@@ -1,6 +1,5 @@
 -- of push_changes: what push_changes requires, its loop and changes
-use Rattle.std.proofs.Common.{◌≡◌, refl, ℕ, ◌==◌, ◌++◌, [], ◌∷◌, List, Bor, cond, map, arith, ap, sym, ◌∙◌}
-use Rattle.std.proofs.Common.{append_assoc, append-nil}
+use Rattle.std.proofs.Common.{◌≡◌, refl, ℕ, ◌==◌, ◌++◌, [], ◌∷◌, List, Bor, cond, map, arith, ap, sym, ◌∙◌, append_assoc, append-nil}
 use Rattle.allocative_graph.proofs.Common.{Graph, Path, entries, len, map-append, node, size_at, sum_of}
 use Rattle.allocative_graph.proofs.Nodes.{rows_of_node}
 use Rattle.allocative_graph.proofs.Text.{texts, popped}

@@ -15,6 +15,6 @@ returns-clause-stored g c =
     rw (← c.self.view_is, ← c.in-Some.ensures.value) (
       p.0,
       p.1,
-      ((refl, p.3.total_is, (search rules, search rules)), search (rules, sum_by-written, account_within)),
+      ((refl, p.4, (search rules, search rules)), search (rules, sum_by-written, account_within)),
       search (rules, sum_by-written, account_within),
     )

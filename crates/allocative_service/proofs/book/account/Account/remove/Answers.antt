@@ -1,15 +1,7 @@
 -- of Account::remove: the bytes of what is left
 use Rattle.std.proofs.Common.{arith}
-use Rattle.allocative_service.proofs.Billing.{billed-remove, found_within, removed_sum}
+use Rattle.allocative_service.proofs.Billing.{billed-remove, removed_sum}
 use Rattle.allocative_service.proofs.book.account.Account.remove.Goals as goal
-
-pub overflow_sub-self : goal.overflow_sub-self
-overflow_sub-self g c = omega (
-  arith,
-  c.bytes.ensures,
-  c.self.invariant.0,
-  found_within g.E.Billed.billed _ c.self.inside.entries.entries c.in_ok-key.entry c.in_ok-key.ensures.value,
-)
 
 pub invariant_of-self-2 : goal.invariant_of-self-2
 invariant_of-self-2 g c =

@@ -3,13 +3,10 @@ use Rattle.std.proofs.Common.{◌≡◌, ◌+◌, ◌-◌, Some, arith, refl, ru
 use Rattle.std.proofs.lemmas.Option.{same_Some}
 use Rattle.std.specs.BTreeMap.{is_at}
 use Rattle.std.specs.Map.{remove_entry, set_value}
-use Rattle.allocative_service.specs.Book.{billed_sum}
-use Rattle.allocative_service.specs.Kept.{IsBilled, kept_bytes}
-use Rattle.allocative_service.specs.Measured.{Measures}
+use Rattle.allocative_service.specs.Kept.{IsBilled, kept_as}
 use Rattle.allocative_service.specs.declared.kept.Kept.{Kept}
 use Rattle.allocative_service.proofs.Accounts.{sum_by-written}
-use Rattle.allocative_service.proofs.Billing.{billed-remove, billed-set, entry_within, found_within, key_written, lookup_written}
-use Rattle.allocative_service.proofs.Billing.{no_room, removed_sum, removed_written}
+use Rattle.allocative_service.proofs.Billing.{billed-remove, billed-set, entry_within, found_within, key_written, lookup_written, removed_sum, removed_written}
 use Rattle.allocative_service.proofs.store.shelf.Shelf+K+V.change.Goals as goal
 use Rattle.allocative_service.proofs.store.shelf.Shelf+K+V.change.Goals.{in-Some-remove_entry, in-None}
 
@@ -20,13 +17,17 @@ invariant_of-self-in-Ok g c =
     let test = is_at (g.K.Ord.cmp c.args.key.now) in
     let es = c.self.inside.entries.entries in
     let w : Kept g.row.V.Denot =
-    record { value = c.change.new.arg2; bytes = c.in-Ok.bytes; key_bytes = c.in-Some.entry.now.key_bytes } in
-    let value = c.in-Ok.ensures.value in
+    kept_as c.change.new.arg2 c.in-Some.entry.now.key_bytes c.in-Ok.bytes in
     let written : (c.get_mut.follows.lender w).entries ≡ set_value test es w = search rules in (
       search (rules, sum_by-written, entry_within),
       search rules,
       rw written (billed-set P test es c.in-Some.entry.now w (sym c.in-Some.ensures.value)
-          (λ k h. record { value_bytes = value.0; of_key = h.of_key; of_value = value.1; together = value.2 })
+          (λ k h. record {
+            value_bytes = c.in-Ok.bytes;
+            of_key = h.of_key;
+            of_value = c.in-Ok.ensures.declared;
+            together = refl;
+          })
           c.self.invariant.2),
     )
 
@@ -45,20 +46,19 @@ invariant_of-self-2 g c =
 
 pub returns-in-Ok-clause-ok : goal.returns-in-Ok-clause-ok
 returns-in-Ok-clause-ok g c =
-    let value = c.in-Ok.ensures.value in
     let es = c.self.inside.entries.entries in
     let test = is_at (g.K.Ord.cmp c.args.key.now) in
     let part = found_within (λ e. e.bytes) test es c.in-Some.entry.now c.in-Some.ensures.value in
     rw (← c.self.view_is) (record {
       had = c.in-Some.entry.now;
-      entry = record { value = c.change.new.arg2; bytes = c.in-Ok.bytes; key_bytes = c.in-Some.entry.now.key_bytes };
-      value_bytes = value.0;
-      total = c.self.inside.bytes - c.in-Some.entry.now.bytes + c.in-Ok.bytes;
+      entry = kept_as c.change.new.arg2 c.in-Some.entry.now.key_bytes c.in-Ok.bytes;
+      value_bytes = c.in-Ok.bytes;
+      total = c.self.inside.bytes - c.in-Some.entry.now.bytes + (c.in-Some.entry.now.key_bytes + c.in-Ok.bytes);
       found = sym c.in-Some.ensures.value;
       changes = search rules;
-      of_value = value.1;
+      of_value = c.in-Ok.ensures.declared;
       of_key = refl;
-      together = value.2;
+      together = refl;
       total_is = omega (arith, part, c.self.invariant.0);
       is = search rules;
     })
@@ -70,8 +70,6 @@ returns-clause-refused g c =
     let had = c.in-Some.entry.now in
     let changed : Kept g.row.V.Denot =
     record { value = c.change.new.arg2; bytes = had.bytes; key_bytes = had.key_bytes } in
-    let part = found_within (λ e. e.bytes) test es had c.in-Some.ensures.value in
-    let within = rw (← c.self.view_is) at c.requires.part in
     let again = lookup_written test es had changed (sym c.in-Some.ensures.value) in
     elim c.match-remove_entry.branch [
       | in-Some-remove_entry w ↦
@@ -82,9 +80,7 @@ returns-clause-refused g c =
             found = sym c.in-Some.ensures.value;
             has_key = search (rules, key_written);
             changes = search rules;
-            refuses = no_room (Measures c.self.inside.measure g.V.Allocative.is_strict g.V.Described.layout.size
-                (g.V.Allocative.may_show c.change.new.arg2)) c.args.all (billed_sum kept_bytes es)
-                c.self.inside.budget.limit had.bytes had.key_bytes _ (omega (arith, part, within)) (search rules);
+            refuses = search rules;
           })
       | in-None w ↦ rw w.result-is tt
     ]
