@@ -89,8 +89,8 @@ impl<K: Ord + Allocative + Described, V: Allocative + Described> Shelf<K, V> {
         Some(&self.entries.get(key)?.value)
     }
 
-    /// The bytes of the key and of the value, if there is room for them, where all shelves have `all` bytes together and
-    /// may have `most`. Those of the key count only if the shelf does not have it.
+    /// The bytes of the key and of the value, if there is room for them, where all shelves have `all` bytes together
+    /// and may have `most`. Those of the key count only if the shelf does not have it.
     fn bill(
         &self,
         alloc: Global,
