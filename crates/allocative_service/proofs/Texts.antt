@@ -100,7 +100,8 @@ pub text_bytes : (measure : Measure) (text : String Global) (bytes : ℕ) → De
     (Field (codes "String") (Some 24) (text_shows (length (string_bytes text)) (string_capacity text))) bytes →
     bytes ≡ 24 + string_capacity text
 text_bytes measure text bytes h = billed measure _ (24 + string_capacity text) bytes
-    (λ f s. subst (Weighs _) (sym (shown _ _ f s)) (text_weighs _ _ (omega (arith, text.bytes.ok.0, text.bytes.ok.1)))) h
+    (λ f s. subst (Weighs _) (sym (shown _ _ f s))
+    (text_weighs _ _ (omega (arith, text.bytes.ok.0, text.bytes.ok.1)))) h
 
 -- ---- a vector of bytes
 -- The forest that a vector of n bytes, with room for so many more, may show, if there is a buffer.
@@ -130,8 +131,12 @@ bytes_weigh n more =
 -- Without a buffer they are 24.
 empty_weighs : Weighs (24 + 0) (Inline (codes "Vec") 24 Empty Empty)
 empty_weighs =
-    let f = Inline (codes "Vec") 24 Empty Empty in
-    (refl, refl, owned-total f (λ p. alike (codes "ptr" ∷ []) p (owners_behind [] f) (inr (refl, refl, omega arith), tt)))
+    let f = Inline (codes "Vec") 24 Empty Empty in (
+      refl,
+      refl,
+      owned-total f (λ p. alike (codes "ptr" ∷ []) p (owners_behind [] f)
+          (inr (refl, refl, omega arith), tt)),
+    )
 
 -- A field of a checked size has that size.
 of_checked : (k : Key) (p : Showing) (size : Option ℕ) (n : ℕ) (f : Forest) → ((m : ℕ) → size ≡ Some m → m ≡ n) →

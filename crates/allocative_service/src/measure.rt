@@ -45,12 +45,8 @@ impl Measure {
 
 /// A law for proofs of callers: by each measure a text, or a `Vec<u8>`, declares 24 bytes and its capacity.
 pub fn text_bytes_law()
-    ensures owned { (text : String Global) → (bytes : ℕ) → Declares Measure.Owned (Some 24)
+    ensures text { (measure : Measure) → (text : String Global) → (bytes : ℕ) → Declares measure (Some 24)
         (⟦<String as Allocative>⟧.may_show text) bytes → bytes ≡ 24 + string_capacity text }
-    ensures unique { (text : String Global) → (bytes : ℕ) → Declares Measure.Unique (Some 24)
-        (⟦<String as Allocative>⟧.may_show text) bytes → bytes ≡ 24 + string_capacity text }
-    ensures each { (measure : Measure) → (text : String Global) → (bytes : ℕ) → Declares measure (Some 24)
-        (⟦<String as Allocative>⟧.may_show text) bytes → bytes ≡ 24 + string_capacity text }
-    ensures data_bytes { (measure : Measure) → (v : Vec ℕ Global) → (bytes : ℕ) → Declares measure (Some 24)
+    ensures vec { (measure : Measure) → (v : Vec ℕ Global) → (bytes : ℕ) → Declares measure (Some 24)
         (⟦<Vec<u8> as Allocative>⟧.may_show v) bytes → bytes ≡ 24 + vec_capacity v }
 {}
