@@ -8,6 +8,6 @@ pub use Rattle.allocative_picture_filter.specs.declared.fault.Source.TheVariants
 pub use Rattle.allocative_picture_filter.specs.declared.run.Text.{Text}
 pub use Rattle.std.proofs.lemmas.Iterator.{cases_from_all, cases_from_any}
 pub use Rattle.std.proofs.lemmas.Option.{IfSome_then}
-pub use Rattle.std.proofs.lemmas.Result.{IfOk-weaker}
+pub use Rattle.std.proofs.lemmas.Result.{IfOk-weaker, IfErr-weaker}
 pub use Rattle.std.specs.List.{AllWithin}
 pub use Rattle.std.specs.Str.Parse.{IsNumeral}

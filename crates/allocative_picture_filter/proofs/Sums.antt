@@ -2,12 +2,12 @@
 use Rattle.std.proofs.Common.{◌≡◌, ℕ, zero, suc, ◌+◌, ◌<◌, ◌≤◌, ◌⊎◌, inl, inr, Bool, true, false, cond}
 use Rattle.std.proofs.Common.{List, [], ◌∷◌, ◌++◌, map, take, length, get_or, refl, sym, ap, subst, arith}
 use Rattle.std.proofs.Common.{MatchBool, nat_lt, take_all}
-use Rattle.allocative_picture_filter.proofs.Common.{Graph, default, Fault, Memory, Text, map-append, take_more}
-use Rattle.allocative_picture_filter.proofs.Common.{Input, IsReadingOf, text, IfSome_then}
-use Rattle.allocative_picture_filter.proofs.Faults.{holds-of, of_each}
+use Rattle.allocative_picture_filter.proofs.Common.{Graph, default, Fault, Text, map-append, take_more}
+use Rattle.allocative_picture_filter.proofs.Common.{text}
+use Rattle.allocative_picture_filter.proofs.Faults.{holds-of}
 use Rattle.allocative_picture.specs.declared.options.Options.{Options}
-use Rattle.allocative_picture_filter.specs.Run.{Sourced, sourced, AddUp, StopsAddingUp, without_mark, Adds, AddUpOnto}
-use Rattle.allocative_picture_filter.specs.Run.{StopsAdding, StopsProfile, IsShown, IsOptions, IsTableOf, Writes}
+use Rattle.allocative_picture_filter.specs.Run.{Sourced, sourced, AddUp, StopsAddingUp, Adds, AddUpOnto}
+use Rattle.allocative_picture_filter.specs.Run.{StopsAdding, IsShown, IsOptions, IsTableOf, Writes}
 use Rattle.allocative_picture_filter.specs.Run.{is_outlined, limit_of}
 use Rattle.allocative_picture_filter.specs.declared.arguments.Arguments.{Arguments}
 use Rattle.allocative_picture.specs.Picture.{change_drawing, profile_drawing}
@@ -36,33 +36,8 @@ stops-at b (y ∷ xs) zero d g f within up h = inl (subst (λ (x : Graph). Stops
 stops-at b (y ∷ xs) (suc i) d g f within (next, adds, up) h =
     inr (next, adds, stops-at next xs i d g f (omega arith) up h)
 
--- What stops the first texts stops them all.
-pub stops-before : (b : Graph) (ts us : List Sourced) (f : Fault) → StopsAddingUp b ts f → StopsAddingUp b (ts ++ us) f
-stops-before b [] us f h = absurd h
-stops-before b (t ∷ ts) us f (inl h) = inl h
-stops-before b (t ∷ ts) us f (inr (next, adds, h)) = inr (next, adds, stops-before next ts us f h)
-
--- What stops a text behind others, once these are added, stops them all.
-stops-last : (b : Graph) (ts : List Sourced) (u : Sourced) (g : Graph) (f : Fault) → AddUpOnto b ts g →
-    StopsAdding g u f → StopsAddingUp b (ts ++ u ∷ []) f
-stops-last b [] u g f up h = inl (subst (λ (x : Graph). StopsAdding x u f) up h)
-stops-last b (t ∷ ts) u g f (next, adds, up) h = inr (next, adds, stops-last next ts u g f up h)
-
--- ---- with the input and without
--- What stops the input, once the files are added, stops the profile.
-pub stops-input : (xs : List Text) (b : Bool) (known : List ℕ) (g : Graph) (f : Fault) → b ≡ true →
-    AddUp (map sourced xs) g → StopsAdding g (Input, without_mark known) f → StopsProfile xs b known f
-stops-input xs b known g f e up h = rw e (inl
-    (stops-last default (map sourced xs) (Input, without_mark known) g f up h))
-
--- An input that is not read stops the profile.
-pub stops-unread : (xs : List Text) (b : Bool) (known : List ℕ) (g : Graph) (f : Fault) → b ≡ true →
-    AddUp (map sourced xs) g → (f ≡ Memory) ⊎ IsReadingOf Input f → StopsProfile xs b known f
-stops-unread xs b known g f e up (inl m) = stops-input xs b known g f e up (inl (rw m tt))
-stops-unread xs b known g f e up (inr r) = inr (g, up, e, r)
-
 -- The lemmas by which texts are added up.
-pub ruleset adding = (add-more, add-push, take_all, IfSome_then, holds-of, of_each, stops-before)
+pub ruleset adding = (add-more, add-push, take_all, holds-of)
 
 -- ---- what is written
 -- What is shown of a graph, from its outline.

@@ -1,18 +1,21 @@
 -- What a run makes of its texts, and what stops it.
 use Rattle.std.specs.Prelude.{◌≡◌, ℕ, ◌+◌, ◌-◌, ◌^◌, ◌<◌, ◌≤◌, ◌==◌, ◌⊎◌, ◌||◌, ◌&&◌, Bool, true, false, not, cond, is_some, List, []}
-use Rattle.std.specs.Prelude.{◌∷◌, ◌++◌, length, drop, map, nat_eq, nat_lt, IsUtf8, ⊤, IsTrue, MatchBool}
-use Rattle.std.specs.List.{starts_with}
+use Rattle.std.specs.Prelude.{◌∷◌, length, drop, insert, map, nat_eq, nat_lt, codes, IsUtf8, ⊤, IsTrue, MatchBool}
+use Rattle.std.specs.Prelude.{Option, Some, None}
+use Rattle.std.specs.List.{AllZip, starts_with}
 use Rattle.allocative_graph.specs.Graph.{Graph, default, sum_of, text, total}
 use Rattle.allocative_graph.specs.Path.{Key}
 use Rattle.allocative_graph.specs.Read.{IsRead, IsFault, Exceeds}
+use Rattle.allocative_picture.specs.History.{IsHistoryPicture, first_graph, last_graph}
 use Rattle.allocative_picture.specs.Picture.{profile_drawing, change_drawing}
 use Rattle.allocative_picture.specs.Table.{IsGrowthTable, IsTable}
 use Rattle.allocative_picture.specs.Views.{IsOutline, by_last_key, folded, only, paths_of, reversed, without}
+use Rattle.allocative_picture.specs.declared.history.Moment.{Moment}
 use Rattle.allocative_picture.specs.declared.options.Options.{Options}
 use Rattle.allocative_picture.specs.declared.table.Size.{Size}
 use Rattle.allocative_picture.specs.declared.table.Size.TheVariants.{Own, Total}
 use Rattle.allocative_picture_filter.specs.Differential.{IsDifferential}
-use Rattle.allocative_picture_filter.specs.Fault.{IsReadingOf}
+use Rattle.allocative_picture_filter.specs.Fault.{IsReadingOf, name_of}
 use Rattle.allocative_picture_filter.specs.declared.arguments.Arguments.{Arguments}
 use Rattle.allocative_picture_filter.specs.declared.fault.Fault.{Fault}
 use Rattle.allocative_picture_filter.specs.declared.fault.Fault.TheVariants.{Memory, Line, NotText, TwoCounts, TooLarge}
@@ -38,9 +41,10 @@ Sourced = Source × List ℕ
 abbrev pub sourced : Text → Sourced
 sourced t = (t.source, t.bytes.now)
 
--- The texts of a profile: those of its files, and then the input if it belongs to them.
-abbrev pub later_texts : List Text → Bool → List ℕ → List Sourced
-later_texts ts reads_input known = map sourced ts ++ cond reads_input ((Input, without_mark known) ∷ []) []
+-- The texts in the order in which they are named: those of files, and the input at its place if it is read too.
+abbrev pub named_texts : List Text → Option ℕ → List ℕ → List Sourced
+named_texts ts None known = map sourced ts
+named_texts ts (Some place) known = insert (map sourced ts) place (Input, without_mark known)
 
 -- The text is UTF-8 and not in the differential form, and the graph is read of it.
 abbrev pub Reads : Sourced → Graph → Type 0
@@ -138,10 +142,10 @@ pub record Shows (asked : Arguments) (change : Bool) (g h : Graph) (made : List 
   pub later_shown : IsShown asked (guide_of change g h) h shown_later
   pub is : Writes asked change shown_earlier shown_later made
 
--- What is written of these texts is what the arguments ask for, of the parts that they ask for of the graphs that the
--- texts add up to. Both parts have the same names for keys. That of the later graph has bytes if it is asked not to be
--- empty.
-pub record IsMade (asked : Arguments) (before : List Text) (after : List Sourced) (made : List ℕ) : Type 0 where
+-- What is written of texts that add up is what the arguments ask for, of the parts that they ask for of the graphs that
+-- the texts add up to. Both parts have the same names for keys. That of the later graph has bytes if it is asked not to
+-- be empty.
+pub record IsMadeOfSums (asked : Arguments) (before : List Text) (after : List Sourced) (made : List ℕ) : Type 0 where
   pub earlier : Graph
   pub later : Graph
   pub earlier_read : AddUp (map sourced before) earlier
@@ -150,6 +154,47 @@ pub record IsMade (asked : Arguments) (before : List Text) (after : List Sourced
   pub names : Key → Key
   pub shows : Shows asked (is_change asked (length before)) (turned asked names (part_of asked earlier))
       (turned asked names (part_of asked later)) made
+
+-- ---- a history
+-- The moment is that of a text: it has the name of the file, or `-`, and the part of the graph that is asked for.
+pub record IsMomentOf (asked : Arguments) (t : Sourced) (m : Moment) : Type 0 where
+  pub graph : Graph
+  pub reads : Reads t graph
+  pub name : m.name.now ≡ name_of t.0 (codes "-")
+  pub part : m.graph ≡ part_of asked graph
+
+-- The children of a history are counted in the first and in the last moment together.
+abbrev pub guide_of_moments : Arguments → (Key → Key) → List Moment → Graph
+guide_of_moments asked names ms =
+    guide_of true (turned asked names (first_graph ms)) (turned asked names (last_graph ms))
+
+-- The moment s is what is shown of the moment m, if u guides its outline.
+pub record IsMomentShown (asked : Arguments) (names : Key → Key) (u : Graph) (m s : Moment) : Type 0 where
+  pub name : s.name.now ≡ m.name.now
+  pub shown : IsShown asked u (turned asked names m.graph) s.graph
+
+-- The text is the picture of the history of what is shown of some moments, with lines of the eight paths that changed
+-- most. All moments have the same names for keys, and one guide.
+pub record DrawsMoments (asked : Arguments) (ms : List Moment) (made : List ℕ) : Type 0 where
+  pub names : Key → Key
+  pub moments : List Moment
+  pub shown : AllZip (IsMomentShown asked names (guide_of_moments asked names ms)) ms moments
+  pub o : Options
+  pub options : IsOptions asked o
+  pub is : IsHistoryPicture o 8 moments made
+
+-- What is written of the texts of a history is its picture, in which each text is a moment. The last one has bytes if
+-- it is asked not to be empty.
+pub record IsMadeOfMoments (asked : Arguments) (after : List Sourced) (made : List ℕ) : Type 0 where
+  pub moments : List Moment
+  pub read : AllZip (IsMomentOf asked) after moments
+  pub some : IsTrue asked.not_empty → 0 < total (last_graph moments)
+  pub draws : DrawsMoments asked moments made
+
+-- What is written of these texts is what the arguments ask for: the picture of a history, or what is made of sums.
+abbrev pub IsMade : Arguments → List Text → List Sourced → List ℕ → Type 0
+IsMade asked before after made = MatchBool asked.history (IsMadeOfMoments asked after made)
+    (IsMadeOfSums asked before after made)
 
 -- ---- what stops a run
 -- Why no graph is read of a text: memory runs out; it is not UTF-8; it is in the differential form; or it is not, and a
@@ -177,12 +222,6 @@ abbrev pub StopsAddingUp : Graph → List Sourced → Fault → Type 0
 StopsAddingUp g [] f = ⊥
 StopsAddingUp g (t ∷ ts) f = StopsAdding g t f ⊎ ((next : Graph) × Adds g t next × StopsAddingUp next ts f)
 
--- Why there is no graph of the profile: its texts are not added up; or its files are, and the input, which belongs to
--- them, is not read.
-abbrev pub StopsProfile : List Text → Bool → List ℕ → Fault → Type 0
-StopsProfile ts reads_input known f = StopsAddingUp default (later_texts ts reads_input known) f
-    ⊎ ((h : Graph) × AddUp (map sourced ts) h × (reads_input ≡ true) × IsReadingOf Input f)
-
 -- Why nothing is made of the graph g of the earlier texts and of that of the others: memory runs out, or a change is
 -- asked for, and the bytes of their parts together exceed a word.
 abbrev pub StopsWriting : Arguments → Bool → Graph → List Sourced → Fault → Type 0
@@ -194,10 +233,33 @@ abbrev pub StopsEmpty : Arguments → List Sourced → Fault → Type 0
 StopsEmpty asked after f =
     (h : Graph) × AddUp after h × IsTrue asked.not_empty × (total (part_of asked h) ≡ 0) × (f ≡ Empty)
 
--- Why nothing is made: the earlier texts are not added up; or they are, and there is no graph of the profile, or it is
--- refused, or nothing is made of both. So the first fault in the order of the texts is told.
+-- Why nothing is made of texts that add up: the earlier ones are not added up; or they are, and the others are not, or
+-- the profile is refused, or nothing is made of both. So the first fault in the order of the texts is told.
+abbrev pub StopsSums : Arguments → List Text → List Sourced → Fault → Type 0
+StopsSums asked before after f = StopsAddingUp default (map sourced before) f
+    ⊎ ((g : Graph) × AddUp (map sourced before) g × (StopsAddingUp default after f ⊎ StopsEmpty asked after f
+    ⊎ StopsWriting asked (is_change asked (length before)) g after f))
+
+-- Why some texts are not read, each by itself: one of them is not, once those before it are.
+abbrev pub StopsReadingEach : List Sourced → Fault → Type 0
+StopsReadingEach [] f = ⊥
+StopsReadingEach (t ∷ ts) f = StopsReading t f ⊎ ((g : Graph) × Reads t g × StopsReadingEach ts f)
+
+-- Why nothing is made of the texts of a history: they are not read; or they are, and the last moment has 0 bytes, and
+-- is asked not to be empty, or memory runs out, or the bytes of the first and of the last moment together exceed a
+-- word.
+abbrev pub StopsMoments : Arguments → List Sourced → Fault → Type 0
+StopsMoments asked after f = StopsReadingEach after f
+    ⊎ ((ms : List Moment) × AllZip (IsMomentOf asked) after ms
+    × ((IsTrue asked.not_empty × (total (last_graph ms) ≡ 0) × (f ≡ Empty))
+    ⊎ StopsJoining (total (first_graph ms) + total (last_graph ms)) f))
+
+-- Why the texts are not gathered: memory runs out, or the input, which is one of them, is not read.
+abbrev pub StopsGathering : Option ℕ → Fault → Type 0
+StopsGathering place f = (f ≡ Memory) ⊎ (IsTrue (is_some place) × IsReadingOf Input f)
+
+-- Why nothing is made: the texts are not gathered, or nothing is made of them.
 abbrev pub Stops : Arguments → List Text → List Text → List ℕ → Fault → Type 0
-Stops asked before after known f = StopsAddingUp default (map sourced before) f
-    ⊎ ((g : Graph) × AddUp (map sourced before) g × (StopsProfile after asked.reads_input known f
-    ⊎ StopsEmpty asked (later_texts after asked.reads_input known) f
-    ⊎ StopsWriting asked (is_change asked (length before)) g (later_texts after asked.reads_input known) f))
+Stops asked before files known f = StopsGathering asked.input_at f
+    ⊎ MatchBool asked.history (StopsMoments asked (named_texts files asked.input_at known) f)
+    (StopsSums asked before (named_texts files asked.input_at known) f)

@@ -42,10 +42,12 @@ pub struct Arguments<'a> {
     pub by_last_key: bool,
     /// The files of the earlier profile. If there is one, the picture or the table is that of a change.
     pub before: Vec<&'a str>,
-    /// The files of the profile.
+    /// Whether each file is a profile of a history.
+    pub history: bool,
+    /// The files of the profile, or of the profiles of a history.
     pub after: Vec<&'a str>,
-    /// Whether the input belongs to the profile too.
-    pub reads_input: bool,
+    /// How many of these files stand before the input, if it is read too.
+    pub input_at: Option<usize>,
 }
 
 // The argument `--name` without a value.
@@ -69,6 +71,7 @@ fn command<'a>(alloc: Global) -> Result<Command<'a>, AllocError> {
         .arg(flag(alloc, "by-last-key"))?
         .arg(flag(alloc, "inclusive"))?
         .arg(flag(alloc, "reverse"))?
+        .arg(flag(alloc, "history"))?
         .arg(option(alloc, "title", "TEXT"))?
         .arg(option(alloc, "narrowest", "WIDTH"))?
         .arg(option(alloc, "unit", "WORD"))?
@@ -159,32 +162,40 @@ fn paths_of<'a>(
     Ok(paths)
 }
 
-// What is wrong with arguments that ask for this together.
-fn discord_of(
-    inputs: usize,
-    as_text: bool,
-    top: u32,
-    inclusive: bool,
-    ordered: bool,
-    before: &[&str],
-) -> Option<&'static str> {
-    if inputs > 1 {
-        Some("repeated argument -")
-    } else if before.iter().any(|name| *name == "-") {
-        Some("--before takes the name of a file, not -")
-    } else if as_text && !before.is_empty() {
-        Some("--text does not go with --before")
-    } else if as_text && top > 0 {
-        Some("--text does not go with --top")
-    } else if inclusive && top == 0 {
-        Some("--inclusive goes with --top alone")
-    } else if ordered && as_text {
-        Some("--text does not go with --order")
-    } else if ordered && top > 0 {
-        Some("--top does not go with --order")
-    } else {
-        None
+// What is wrong with what these names of files and inputs and the other arguments ask for together.
+fn discord_of(asked: &Arguments<'_>, names: &[&str], ordered: bool) -> Option<&'static str> {
+    let inputs = names.iter().filter(|name| **name == "-").count();
+    let before_input = asked.before.iter().any(|name| *name == "-");
+    let (table, change) = (asked.top > 0, !asked.before.is_empty());
+    let few = asked.history && names.len() < 2;
+    let discords = [
+        (inputs > 1, "repeated argument -"),
+        (before_input, "--before takes the name of a file, not -"),
+        (asked.as_text && change, "--text does not go with --before"),
+        (asked.as_text && table, "--text does not go with --top"),
+        (
+            asked.inclusive && !table,
+            "--inclusive goes with --top alone",
+        ),
+        (ordered && asked.as_text, "--text does not go with --order"),
+        (ordered && table, "--top does not go with --order"),
+        (
+            asked.history && change,
+            "--history does not go with --before",
+        ),
+        (
+            asked.history && asked.as_text,
+            "--history does not go with --text",
+        ),
+        (asked.history && table, "--history does not go with --top"),
+        (few, "--history takes two files or more"),
+    ];
+    for (is_met, discord) in discords {
+        if is_met {
+            return Some(discord);
+        }
     }
+    None
 }
 
 // The names that are those of files.
@@ -196,59 +207,60 @@ fn files_among<'a>(alloc: Global, names: &[&'a str]) -> Result<Vec<&'a str>, All
         .collect(alloc)
 }
 
+// How many names stand before that of the input, if it is named or nothing is.
+fn input_among(names: &[&str]) -> Option<usize> {
+    if names.is_empty() {
+        return Some(0);
+    }
+    names.iter().position(|name| *name == "-")
+}
+
 // What is asked for.
 fn asked_by<'a>(alloc: Global, matches: &ArgMatches<'a>) -> Result<Arguments<'a>, Fault<'a>> {
     let width = "millionths of the width";
-    let narrowest = number_of(alloc, matches, "narrowest", 500, width)?;
-    let depth = number_of(alloc, matches, "depth", 0, "a number of keys")?;
-    let fold = number_of(alloc, matches, "fold", 0, "a number of children")?;
-    let top = number_of(alloc, matches, "top", 0, "a number of lines")?;
     let names = matches.get_strs("FILE").unwrap_or(&[]);
-    let after = files_among(alloc, names)?;
-    let inputs = names.iter().filter(|name| **name == "-").count();
-    let before = matches.get_strs("before").unwrap_or(&[]);
-    let (as_text, inclusive) = (matches.get_flag("text"), matches.get_flag("inclusive"));
-    let order = order_of(alloc, matches)?;
-    let ordered = matches.get_str("order").is_some();
-    if let Some(discord) = discord_of(inputs, as_text, top, inclusive, ordered, before) {
-        return Err(Fault::Arguments(String::from_str(alloc, discord)?));
-    }
     let unit = matches.get_str("unit").unwrap_or("bytes");
     let title = if unit == "bytes" {
         "Declared bytes"
     } else {
         "Profile"
     };
-    Ok(Arguments {
-        as_text,
+    let asked = Arguments {
+        as_text: matches.get_flag("text"),
         not_empty: matches.get_flag("not-empty"),
         title: matches.get_str("title").unwrap_or(title),
-        narrowest,
+        narrowest: number_of(alloc, matches, "narrowest", 500, width)?,
         unit,
-        order,
+        order: order_of(alloc, matches)?,
         only: paths_of(alloc, matches, "only")?,
         without: paths_of(alloc, matches, "without")?,
         fold_key: pattern_of(alloc, matches)?,
         reverse: matches.get_flag("reverse"),
-        depth,
-        fold,
-        top,
-        inclusive,
+        depth: number_of(alloc, matches, "depth", 0, "a number of keys")?,
+        fold: number_of(alloc, matches, "fold", 0, "a number of children")?,
+        top: number_of(alloc, matches, "top", 0, "a number of lines")?,
+        inclusive: matches.get_flag("inclusive"),
         by_last_key: matches.get_flag("by-last-key"),
-        before: Vec::from_slice(alloc, before)?,
-        reads_input: inputs > 0 || after.is_empty(),
-        after,
-    })
+        before: Vec::from_slice(alloc, matches.get_strs("before").unwrap_or(&[]))?,
+        history: matches.get_flag("history"),
+        after: files_among(alloc, names)?,
+        input_at: input_among(names),
+    };
+    match discord_of(&asked, names, matches.get_str("order").is_some()) {
+        Some(discord) => Err(Fault::Arguments(String::from_str(alloc, discord)?)),
+        None => Ok(asked),
+    }
 }
 
-/// Reads the arguments by `clap`: `--text`, `--not-empty`, `--by-last-key`, `--inclusive`, `--reverse`, `--title` and
-/// `--unit` with a text, `--order` with `key` or `size`, `--narrowest`, `--depth`, `--fold` and `--top` with a number,
-/// `--fold-key` with a regular expression, `--only` and `--without` with a path, `--before` with the name of a file,
-/// names of files, and `-` for the input, which is also read if no file of the profile is named. Of several uses of one
-/// with a single value the last one counts. It fails with `Fault::Arguments` if `clap` refuses the words, if a number
-/// is not below 2^32 in decimal digits alone, if an order is neither, if a regular expression does not compile, if `-`
-/// is repeated or given to `--before`, if a text is asked for with a table, a change or an order, if a table is with an
-/// order, or if `--inclusive` is, but no table. The only other error is `Fault::Memory`.
+/// Reads the arguments by `clap`: `--text`, `--not-empty`, `--by-last-key`, `--inclusive`, `--reverse`, `--history`,
+/// `--title` and `--unit` with a text, `--order` with `key` or `size`, `--narrowest`, `--depth`, `--fold` and `--top`
+/// with a number, `--fold-key` with a regular expression, `--only` and `--without` with a path, `--before` with the
+/// name of a file, names of files, and `-` for the input, which is also read if no file of the profile is named. Of
+/// several uses of one with a single value the last one counts. It fails with `Fault::Arguments` if `clap` refuses the
+/// words, if a number is not below 2^32 in decimal digits alone, if an order is neither, if a regular expression does
+/// not compile, if `-` is repeated or given to `--before`, if a text is asked for with a table, a change or an order,
+/// if a table is with an order, if `--inclusive` is, but no table, or if a history is with a text, a table or a change,
+/// or has fewer than two profiles. The only other error is `Fault::Memory`.
 pub fn read_arguments<'a>(alloc: Global, words: &'a [String]) -> Result<Arguments<'a>, Fault<'a>> {
     match command(alloc)?.try_get_matches_from(words) {
         Ok(matches) => asked_by(alloc, &matches),

@@ -1,13 +1,13 @@
 //! Why a run fails, and the line that says so.
 ghost use Rattle.std.specs.Prelude.{◌≡◌, ◌<◌, OnOk, IfErr};
-ghost use Rattle.allocative_picture_filter.specs.Fault.{fault_of};
+ghost use Rattle.allocative_picture_filter.specs.Fault.{fault_of, name_of};
 ghost use Rattle.allocative_picture_filter.specs.declared.fault.Fault.TheVariants.{Memory};
 
 use allocative_graph::read::LineFault;
 use allocative_graph::refusal::Refusal;
 use allocative_io::write_line;
 use itoa::Buffer;
-use std::alloc::AllocError;
+use std::alloc::{AllocError, AllocFailed};
 use std::io::{self, ErrorKind, Write};
 
 /// Where a text comes from.
@@ -62,8 +62,10 @@ impl Fault<'_> {
     }
 }
 
-// The name of a file, or another of the input.
-fn name_of<'a>(source: Source<'a>, input: &'a str) -> &'a str {
+/// The name of a file, or another of the input.
+pub fn name_of<'a>(source: Source<'a>, input: &'a str) -> &'a str
+    ensures { result.now ≡ name_of source.entry input.now }
+{
     match source {
         Source::Input => input,
         Source::File(name) => name,
@@ -151,6 +153,14 @@ impl From<AllocError> for Fault<'_> {
     ghost from_gives = { λ _ f. f ≡ Memory };
 
     fn from(_refused: AllocError) -> Self {
+        Fault::Memory
+    }
+}
+
+impl<T: Drop> From<AllocFailed<T>> for Fault<'_> {
+    ghost from_gives = { λ _ f. f ≡ Memory };
+
+    fn from(_refused: AllocFailed<T>) -> Self {
         Fault::Memory
     }
 }

@@ -45,7 +45,7 @@ fn read_files<'a, R: Files + AllocGlobal>(
 ) -> Result<Vec<Text<'a>>, Fault<'a>> {
     let mut texts = Vec::new(rt.alloc());
     for name in names {
-        texts.push(read_file(rt, name)?).map_err(|_| Fault::Memory)?;
+        texts.push(read_file(rt, name)?)?;
     }
     Ok(texts)
 }

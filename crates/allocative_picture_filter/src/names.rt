@@ -32,20 +32,20 @@ fn put_names(
     Ok(())
 }
 
-/// The keys of two graphs that a pattern matches, and what each becomes; none if there is no pattern. Each is matched
-/// once. The only error is that memory runs out.
+/// The keys of some graphs that a pattern matches, and what each becomes; none if there is no pattern. Each is matched
+/// once in a graph. The only error is that memory runs out.
 pub fn names_of(
     alloc: Global,
     pattern: Option<&Regex>,
-    earlier: &FlameGraph,
-    later: &FlameGraph,
+    graphs: &[&FlameGraph],
 ) -> Result<HashMap<Key, Key>, AllocError> {
     let mut names = HashMap::new(alloc);
     let Some(pattern) = pattern else {
         return Ok(names);
     };
     let mut matcher = pattern.matcher(alloc)?;
-    put_names(alloc, &mut matcher, earlier, &mut names)?;
-    put_names(alloc, &mut matcher, later, &mut names)?;
+    for graph in graphs {
+        put_names(alloc, &mut matcher, graph, &mut names)?;
+    }
     Ok(names)
 }

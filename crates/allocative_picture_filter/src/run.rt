@@ -1,22 +1,25 @@
 //! The whole program, over any reader and two writers.
-ghost use Rattle.std.specs.Prelude.{◌≡◌, ◌≢◌, ◌+◌, ◌^◌, ◌≤◌, ◌⊎◌, ◌↔◌, IsTrue, true, false, cond, ℕ, OnOk, IfOk, IfErr, IfSome, IsErrOf, List, map, string_bytes};
+ghost use Rattle.std.specs.List.{AllZip};
+ghost use Rattle.std.specs.Prelude.{◌≡◌, ◌≢◌, ◌+◌, ◌^◌, ◌≤◌, ◌⊎◌, ◌↔◌, IsTrue, true, false, cond, ℕ, OnOk, IfOk, IfErr, IfSome, IsErrOf, List, map, option_copied, option_map, unwrap_or, string_bytes};
 ghost use Rattle.std.specs.Io.KnownBytes.{Appends};
 ghost use Rattle.allocative_graph.specs.Graph.{Graph, default, total};
 ghost use Rattle.allocative_io.specs.Streams.{AppendsBeginning};
 ghost use Rattle.allocative_picture_filter.specs.Fault.{IsReadingOf};
-ghost use Rattle.allocative_picture_filter.specs.Run.{sourced, without_mark, later_texts, Reads, Adds, AddUp, StopsReading, StopsAdding, StopsAddingUp, StopsProfile, Stops, IsMade, IsShown, IsTableOf, Shows, Writes, guide_of, is_change, is_outlined, limit_of, part_of, renamed, size_of, turned, within};
+ghost use Rattle.allocative_picture.specs.History.{first_graph, last_graph};
+ghost use Rattle.allocative_picture_filter.specs.Run.{sourced, without_mark, named_texts, Reads, Adds, AddUp, StopsReading, StopsAdding, StopsAddingUp, StopsSums, StopsReadingEach, StopsMoments, StopsGathering, Stops, IsMade, IsMadeOfSums, IsMadeOfMoments, IsMomentOf, IsMomentShown, DrawsMoments, IsShown, IsOptions, IsTableOf, Shows, Writes, guide_of, guide_of_moments, is_change, is_outlined, limit_of, part_of, renamed, size_of, turned, within};
 ghost use Rattle.allocative_graph.specs.Path.{Key};
 ghost use Rattle.allocative_picture.specs.Views.{IsOutline, new_key};
 
 use crate::arguments::Arguments;
 use crate::differential::is_differential;
-use crate::fault::{Fault, Source};
+use crate::fault::{Fault, Source, name_of};
 use crate::names::names_of;
 use allocative_graph::flamegraph::FlameGraph;
 use allocative_graph::key::Key;
 use allocative_graph::read::ReadFault;
 use allocative_graph::refusal::Refusal;
 use allocative_io::{ReadError, read_input, write_text};
+use allocative_picture::history::{Moment, history_picture};
 use allocative_picture::options::Options;
 use allocative_picture::picture::{change_picture, picture};
 use allocative_picture::table::{Size, growth_table, table};
@@ -119,26 +122,25 @@ fn graph_of_all<'a>(alloc: Global, texts: &[Text<'a>]) -> Result<FlameGraph, Fau
     Ok(graph)
 }
 
-// The graph that the texts of a profile add up to, with the input if it belongs to them.
-#[tactic(auto, using(crate::proofs::Sums::adding))]
-fn later_graph<'a, R: Read>(
+// The texts in the order in which they are named, with the input at its place if it is read too.
+fn named_texts<'a, R: Read>(
     alloc: Global,
-    texts: &[Text<'a>],
-    reads_input: bool,
+    files: &[Text<'a>],
+    input_at: Option<usize>,
     input: &mut R,
-) -> Result<FlameGraph, Fault<'a>>
-    ensures ok { IfOk result
-        (λ graph. IfSome (R.remaining input.old) (λ known. AddUp (later_texts texts.now reads_input known) graph)) }
-    ensures stops { IfErr result
-        (λ f. IfSome (R.remaining input.old) (λ known. StopsProfile texts.now reads_input known f)) }
+) -> Result<Vec<Text<'a>>, Fault<'a>>
+    ensures ok { IfOk result (λ texts. IfSome (R.remaining input.old)
+        (λ known. map sourced texts.items ≡ named_texts files.now input_at known)) }
+    ensures unread { IfErr result (StopsGathering input_at) }
 {
-    let mut graph = graph_of_all(alloc, texts)?;
-    if !reads_input {
-        return Ok(graph);
-    }
+    let mut texts = Vec::from_slice(alloc, files)?;
+    let Some(place) = input_at else {
+        return Ok(texts);
+    };
     let text = read_text(alloc, Source::Input, input)?;
-    add_text(alloc, &text, &mut graph)?;
-    Ok(graph)
+    let at = place.min(files.len());
+    texts.insert(at, text)?;
+    Ok(texts)
 }
 
 // Whether a profile is asked not to be empty, and has 0 bytes.
@@ -309,6 +311,19 @@ fn table_of(
     }
 }
 
+// The options of the picture that is asked for.
+fn options_of<'a>(asked: &Arguments<'a>) -> Options<'a>
+    ensures { IsOptions asked.now result }
+{
+    Options {
+        title: asked.title,
+        narrowest: asked.narrowest,
+        unit: asked.unit,
+        order: asked.order,
+        ..Options::default()
+    }
+}
+
 // What is written of what is shown: the text, the table, the picture, or that of a change.
 fn written(
     alloc: Global,
@@ -322,13 +337,7 @@ fn written(
     ensures too_large { IsErrOf result Refusal.TooLarge
         → 2 ^ 64 ≤ cond change (total earlier.now + total later.now) 0 }
 {
-    let options = Options {
-        title: asked.title,
-        narrowest: asked.narrowest,
-        unit: asked.unit,
-        order: asked.order,
-        ..Options::default()
-    };
+    let options = options_of(asked);
     if asked.as_text {
         later.write()
     } else if asked.top > 0 {
@@ -404,10 +413,187 @@ fn made_of(
     ensures too_large { IsErrOf result Refusal.TooLarge
         → 2 ^ 64 ≤ cond change (total earlier + total later) 0 }
 {
-    let names = names_of(alloc, asked.fold_key.as_ref(), &earlier, &later)?;
+    let names = names_of(alloc, asked.fold_key.as_ref(), &[&earlier, &later])?;
     let turned_earlier = turned(alloc, asked, &names, earlier)?;
     let turned_later = turned(alloc, asked, &names, later)?;
     made_of_turned(alloc, asked, change, turned_earlier, turned_later)
+}
+
+// Makes what the arguments ask for of texts that add up.
+#[tactic(auto, using(crate::proofs::Faults::stopping))]
+fn made_of_sums<'a>(
+    alloc: Global,
+    asked: &Arguments<'a>,
+    before: &[Text<'a>],
+    after: &[Text<'a>],
+) -> Result<String, Fault<'a>>
+    ensures ok { IfOk result (λ made. IsMadeOfSums asked.now before.now (map sourced after.now) (string_bytes made)) }
+    ensures stops { IfErr result (StopsSums asked.now before.now (map sourced after.now)) }
+{
+    let earlier = graph_of_all(alloc, before)?;
+    let later = graph_of_all(alloc, after)?;
+    let earlier_part = part_of(alloc, asked, earlier)?;
+    let later_part = part_of(alloc, asked, later)?;
+    if is_refused(asked.not_empty, &later_part) {
+        return Err(Fault::Empty);
+    }
+    let change = is_change(asked, before.len());
+    Ok(made_of(alloc, asked, change, earlier_part, later_part)?)
+}
+
+// The moment of a text: its name, and the part of its graph that is asked for.
+fn moment_of<'a>(
+    alloc: Global,
+    asked: &Arguments<'_>,
+    text: &Text<'a>,
+) -> Result<Moment<'a>, Fault<'a>>
+    ensures ok { IfOk result (IsMomentOf asked.now (sourced text.now)) }
+    ensures stops { IfErr result (StopsReading (sourced text.now)) }
+{
+    let graph = graph_of(alloc, text)?;
+    Ok(Moment {
+        name: name_of(text.source, "-"),
+        graph: part_of(alloc, asked, graph)?,
+    })
+}
+
+// The moments of some texts.
+fn moments_of<'a>(
+    alloc: Global,
+    asked: &Arguments<'_>,
+    texts: &[Text<'a>],
+) -> Result<Vec<Moment<'a>>, Fault<'a>>
+    ensures ok { IfOk result (λ moments. AllZip (IsMomentOf asked.now) (map sourced texts.now) moments.items) }
+    ensures stops { IfErr result (StopsReadingEach (map sourced texts.now)) }
+{
+    let mut moments = Vec::new(alloc);
+    for text in texts {
+        moments.push(moment_of(alloc, asked, text)?)?;
+    }
+    Ok(moments)
+}
+
+// What is shown of a moment.
+fn shown_moment<'a>(
+    alloc: Global,
+    asked: &Arguments<'_>,
+    names: &HashMap<Key, Key>,
+    guide: &FlameGraph,
+    moment: Moment<'a>,
+) -> Result<Moment<'a>, AllocError>
+    ensures shown { IfOk result (λ made. (u : Graph) → (is_outlined asked.now ≡ true → guide.now ≡ u)
+        → IsMomentShown asked.now (new_key names.now) u moment.entry made) }
+    ensures total { IfOk result (λ made. total made.graph ≡ total moment.entry.graph) }
+{
+    let turned = turned(alloc, asked, names, moment.graph)?;
+    Ok(Moment {
+        name: moment.name,
+        graph: shown(alloc, asked, guide.clone()?, turned)?,
+    })
+}
+
+// What is shown of some moments.
+fn shown_moments<'a>(
+    alloc: Global,
+    asked: &Arguments<'_>,
+    names: &HashMap<Key, Key>,
+    guide: &FlameGraph,
+    moments: Vec<Moment<'a>>,
+) -> Result<Vec<Moment<'a>>, AllocError>
+    ensures shown { IfOk result (λ made. (u : Graph) → (is_outlined asked.now ≡ true → guide.now ≡ u)
+        → AllZip (IsMomentShown asked.now (new_key names.now) u) moments.entry.items made.items) }
+    ensures totals { IfOk result
+        (λ made. map (λ m. total m.graph) made.items ≡ map (λ m. total m.graph) moments.entry.items) }
+{
+    let mut made = Vec::new(alloc);
+    for moment in moments {
+        made.push(shown_moment(alloc, asked, names, guide, moment)?)?;
+    }
+    Ok(made)
+}
+
+// The graph of a moment, or another if there is none.
+fn graph_or<'g>(moment: Option<&'g Moment<'_>>, none: &'g FlameGraph) -> &'g FlameGraph
+    ensures { result.now ≡ unwrap_or (option_map (λ (m : Moment). m.graph) (option_copied moment.entry)) none.now }
+{
+    match moment {
+        Some(moment) => &moment.graph,
+        None => none,
+    }
+}
+
+// Whether the last moment is asked not to be empty, and has 0 bytes.
+fn is_last_refused(alloc: Global, asked: &Arguments<'_>, moments: &[Moment<'_>]) -> bool
+    ensures { IsTrue result ↔ (IsTrue asked.now.not_empty × (total (last_graph moments.now) ≡ 0)) }
+{
+    let none = FlameGraph::default(alloc);
+    is_refused(asked.not_empty, graph_or(moments.last(), &none))
+}
+
+// The graph in which the children of a history are counted. If nothing is outlined, none is made.
+fn guide_of_moments(
+    alloc: Global,
+    asked: &Arguments<'_>,
+    names: &HashMap<Key, Key>,
+    moments: &[Moment<'_>],
+) -> Result<FlameGraph, Refusal>
+    ensures guide { IfOk result (λ guide. is_outlined asked.now ≡ true
+        → guide ≡ guide_of_moments asked.now (new_key names.now) moments.now) }
+    ensures too_large { IsErrOf result Refusal.TooLarge
+        → 2 ^ 64 ≤ total (first_graph moments.now) + total (last_graph moments.now) }
+{
+    let none = FlameGraph::default(alloc);
+    let first = graph_or(moments.first(), &none).clone()?;
+    let last = graph_or(moments.last(), &none).clone()?;
+    let turned_first = turned(alloc, asked, names, first)?;
+    let turned_last = turned(alloc, asked, names, last)?;
+    guide_of(alloc, asked, true, &turned_first, &turned_last)
+}
+
+// What the keys of some moments become.
+fn names_of_moments(
+    alloc: Global,
+    asked: &Arguments<'_>,
+    moments: &[Moment<'_>],
+) -> Result<HashMap<Key, Key>, AllocError> {
+    let graphs: Vec<&FlameGraph> = moments.iter().map(|moment| &moment.graph).collect(alloc)?;
+    names_of(alloc, asked.fold_key.as_ref(), graphs.as_slice())
+}
+
+// How many paths have a line in the picture of a history, besides that of the total.
+const LINES: usize = 8;
+
+// The picture of a history of what is shown of some moments.
+fn drawn_moments(
+    alloc: Global,
+    asked: &Arguments<'_>,
+    moments: Vec<Moment<'_>>,
+) -> Result<String, Refusal>
+    ensures ok { IfOk result (λ made. DrawsMoments asked.now moments.entry.items (string_bytes made)) }
+    ensures too_large { IsErrOf result Refusal.TooLarge
+        → 2 ^ 64 ≤ total (first_graph moments.entry.items) + total (last_graph moments.entry.items) }
+{
+    let names = names_of_moments(alloc, asked, moments.as_slice())?;
+    let guide = guide_of_moments(alloc, asked, &names, moments.as_slice())?;
+    let shown = shown_moments(alloc, asked, &names, &guide, moments)?;
+    history_picture(alloc, shown.as_slice(), LINES, &options_of(asked))
+}
+
+// Makes the picture of a history, in which each text is a profile.
+#[tactic(auto, using(crate::proofs::Faults::stopping))]
+fn made_of_moments<'a>(
+    alloc: Global,
+    asked: &Arguments<'a>,
+    texts: &[Text<'a>],
+) -> Result<String, Fault<'a>>
+    ensures ok { IfOk result (λ made. IsMadeOfMoments asked.now (map sourced texts.now) (string_bytes made)) }
+    ensures stops { IfErr result (StopsMoments asked.now (map sourced texts.now)) }
+{
+    let moments = moments_of(alloc, asked, texts)?;
+    if is_last_refused(alloc, asked, moments.as_slice()) {
+        return Err(Fault::Empty);
+    }
+    Ok(drawn_moments(alloc, asked, moments)?)
 }
 
 // Makes what the arguments ask for.
@@ -420,29 +606,27 @@ fn make<'a, R: Read>(
     input: &mut R,
 ) -> Result<String, Fault<'a>>
     ensures ok { IfOk result (λ made. IfSome (R.remaining input.old)
-        (λ known. IsMade asked.now before.now (later_texts after.now asked.now.reads_input known)
+        (λ known. IsMade asked.now before.now (named_texts after.now asked.now.input_at known)
         (string_bytes made))) }
     ensures stops { IfErr result
         (λ f. IfSome (R.remaining input.old) (λ known. Stops asked.now before.now after.now known f)) }
 {
-    let earlier = graph_of_all(alloc, before)?;
-    let later = later_graph(alloc, after, asked.reads_input, input)?;
-    let earlier_part = part_of(alloc, asked, earlier)?;
-    let later_part = part_of(alloc, asked, later)?;
-    if is_refused(asked.not_empty, &later_part) {
-        return Err(Fault::Empty);
+    let texts = named_texts(alloc, after, asked.input_at, input)?;
+    if asked.history {
+        return made_of_moments(alloc, asked, texts.as_slice());
     }
-    let change = is_change(asked, before.len());
-    Ok(made_of(alloc, asked, change, earlier_part, later_part)?)
+    made_of_sums(alloc, asked, before, texts.as_slice())
 }
 
 /// Runs the program but for reading its arguments and files.
 ///
 /// After Ok what the arguments ask for is on the output: the picture of the graph that all texts add up to, that of the
-/// change to it from the graph of the earlier texts, the table of either, or its text. After `Fault::Writing` a
-/// beginning of that is on the output. After any other fault nothing goes to the output. The earlier texts are added up
-/// first, then the others, and the input last; the fault is the first one. It is `Fault::TooLarge` if the bytes of all
-/// lines of a profile exceed `usize::MAX`, or those of both parts, if a change is drawn or outlined.
+/// change to it from the graph of the earlier texts, the table of either, its text, or the picture of a history, in
+/// which each text is a profile. After `Fault::Writing` a beginning of that is on the output. After any other fault
+/// nothing goes to the output. The input is read first. Then the earlier texts are added up, and then the others in the
+/// order in which they are named, with the input at its place; those of a history are read in that order. The fault is
+/// the first one. It is `Fault::TooLarge` if the bytes of all lines of a profile exceed `usize::MAX`, or those of both
+/// parts, if a change is drawn or outlined, or of the first and the last part of a history.
 #[tactic(auto, using(crate::proofs::Faults::stopping))]
 pub fn run<'a, R: Read, W: Write>(
     alloc: Global,
@@ -453,10 +637,10 @@ pub fn run<'a, R: Read, W: Write>(
     output: &mut W,
 ) -> Result<(), Fault<'a>>
     ensures made { OnOk result (IfSome (R.remaining input.old)
-        (λ known. (made : List ℕ) × IsMade asked.now before.now (later_texts after.now asked.now.reads_input known) made
+        (λ known. (made : List ℕ) × IsMade asked.now before.now (named_texts after.now asked.now.input_at known) made
         × Appends (W.contents output.old) (W.contents output.new) made)) }
     ensures unwritten { IfErr result (λ f. f ≡ Fault.Writing → IfSome (R.remaining input.old)
-        (λ known. (made : List ℕ) × IsMade asked.now before.now (later_texts after.now asked.now.reads_input known) made
+        (λ known. (made : List ℕ) × IsMade asked.now before.now (named_texts after.now asked.now.input_at known) made
         × AppendsBeginning (W.contents output.old) (W.contents output.new) made)) }
     ensures stopped { IfErr result (λ f. f ≢ Fault.Writing
         → IfSome (R.remaining input.old) (λ known. Stops asked.now before.now after.now known f)) }

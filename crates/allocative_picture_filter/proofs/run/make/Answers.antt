@@ -1,64 +1,45 @@
--- of make: stops and ok
-use Rattle.std.proofs.Common.{◌≡◌, refl, sym, ap, ◌∙◌, arith, inl, inr, true≢false}
-use Rattle.allocative_picture_filter.proofs.Common.{total, IfSome_then}
-use Rattle.allocative_picture_filter.proofs.Faults.{stops-joining, holds-of}
-use Rattle.allocative_picture_filter.specs.Run.{part_of}
+-- of make: stops and ok, of a history and of sums
+use Rattle.std.proofs.Common.{◌∙◌, ap, inr, map, subst, string_bytes}
+use Rattle.allocative_picture_filter.proofs.Common.{IfSome_then, IfOk-weaker, IfErr-weaker}
+use Rattle.allocative_picture_filter.proofs.Faults.{chosen, otherwise}
+use Rattle.allocative_picture_filter.specs.Run.{sourced, IsMadeOfMoments, IsMadeOfSums, StopsMoments, StopsSums}
 use Rattle.allocative_picture_filter.proofs.run.make.Goals as goal
 
--- What stops the later profile stops the run, once the earlier one is made.
-pub returns-in_err-later-clause-stops : goal.returns-in_err-later-clause-stops
-returns-in_err-later-clause-stops g c =
-    holds-of c.from_residual-in_err-later.result _ _ c.from_residual-in_err-later.ensures.1
-    (IfSome_then (g.R.Read.remaining c.args.input.now) c.in_err-later.ensures.stops
-    (λ known h. inr (c.in_ok-earlier.earlier, c.in_ok-earlier.ensures.ok, inl h)))
+-- The picture of a history is made.
+pub returns-then-asked-clause-ok : goal.returns-then-asked-clause-ok
+returns-then-asked-clause-ok g c =
+    IfOk-weaker c.made_of_moments.result _ _
+    (λ made is. IfSome_then (g.R.Read.remaining c.args.input.now) c.in_ok-texts.ensures.ok
+    (λ known e. chosen _ _ c.if-asked.true
+    (subst (λ ts. IsMadeOfMoments c.args.asked.now ts (string_bytes made))
+    (ap (map sourced) c.as_slice.ensures.value ∙ e) is)))
+    c.made_of_moments.ensures.ok
 
--- Memory stops the making of a part.
-pub returns-in_err-earlier_part-clause-stops : goal.returns-in_err-earlier_part-clause-stops
-returns-in_err-earlier_part-clause-stops g c =
-    holds-of c.from_residual-in_err-earlier_part.result _ _ c.from_residual-in_err-earlier_part.ensures.1
-    (IfSome_then (g.R.Read.remaining c.args.input.now) c.in_ok-later.ensures.ok
-    (λ known up. inr (c.in_ok-earlier.earlier, c.in_ok-earlier.ensures.ok, inr (inr (c.in_ok-later.later, up, tt)))))
+-- What stops a history stops the run.
+pub returns-then-asked-clause-stops : goal.returns-then-asked-clause-stops
+returns-then-asked-clause-stops g c =
+    IfErr-weaker c.made_of_moments.result _ _
+    (λ f stops. IfSome_then (g.R.Read.remaining c.args.input.now) c.in_ok-texts.ensures.ok
+    (λ known e. inr (chosen _ _ c.if-asked.true
+    (subst (λ ts. StopsMoments c.args.asked.now ts f) (ap (map sourced) c.as_slice.ensures.value ∙ e) stops))))
+    c.made_of_moments.ensures.stops
 
-pub returns-in_err-later_part-clause-stops : goal.returns-in_err-later_part-clause-stops
-returns-in_err-later_part-clause-stops g c =
-    holds-of c.from_residual-in_err-later_part.result _ _ c.from_residual-in_err-later_part.ensures.1
-    (IfSome_then (g.R.Read.remaining c.args.input.now) c.in_ok-later.ensures.ok
-    (λ known up. inr (c.in_ok-earlier.earlier, c.in_ok-earlier.ensures.ok, inr (inr (c.in_ok-later.later, up, tt)))))
-
--- Memory stops the making, or the bytes of a change that exceed a word.
-pub returns-in_err-made_of-clause-stops : goal.returns-in_err-made_of-clause-stops
-returns-in_err-made_of-clause-stops g c =
-    let refused = rw (c.is_change-change.ensures, c.in_ok-earlier_part.ensures, c.in_ok-later_part.ensures)
-    at (stops-joining _ c.in_err-made_of.field-0.0 c.in_err-made_of.ensures.too_large) in
-    holds-of c.from_residual-in_err-made_of.result _ _ c.from_residual-in_err-made_of.ensures.1
-    (IfSome_then (g.R.Read.remaining c.args.input.now) c.in_ok-later.ensures.ok
-    (λ known up. inr
-    (c.in_ok-earlier.earlier, c.in_ok-earlier.ensures.ok, inr (inr (c.in_ok-later.later, up, refused)))))
-
--- What is made is what the arguments ask for.
+-- What is made of sums is made.
 pub returns-clause-ok : goal.returns-clause-ok
 returns-clause-ok g c =
-    IfSome_then (g.R.Read.remaining c.args.input.now) c.in_ok-later.ensures.ok (λ known up. record {
-      earlier = c.in_ok-earlier.earlier;
-      later = c.in_ok-later.later;
-      earlier_read = c.in_ok-earlier.ensures.ok;
-      later_read = up;
-      some = λ asked.
-          let some : total (part_of c.args.asked.now c.in_ok-later.later) ≡ 0 → ⊥ =
-          λ none. true≢false (sym (c.is_refused.ensures.1 (asked, ap total c.in_ok-later_part.ensures ∙ none))
-          ∙ c.if-is_refused.false) in
-          omega (arith, some);
-      names = c.in_ok-made_of.ensures.ok.0;
-      shows = rw (c.is_change-change.ensures, c.in_ok-earlier_part.ensures, c.in_ok-later_part.ensures) at
-          c.in_ok-made_of.ensures.ok.1;
-    })
+    IfOk-weaker c.made_of_sums.result _ _
+    (λ made is. IfSome_then (g.R.Read.remaining c.args.input.now) c.in_ok-texts.ensures.ok
+    (λ known e. otherwise _ _ c.if-asked.false
+    (subst (λ ts. IsMadeOfSums c.args.asked.now c.args.before.now ts (string_bytes made))
+    (ap (map sourced) c.as_slice-2.ensures.value ∙ e) is)))
+    c.made_of_sums.ensures.ok
 
-pub returns-then-is_refused-clause-stops : goal.returns-then-is_refused-clause-stops
-returns-then-is_refused-clause-stops g c =
-    let refused = c.is_refused.ensures.0 c.if-is_refused.true in
-    IfSome_then (g.R.Read.remaining c.args.input.now) c.in_ok-later.ensures.ok
-    (λ known up. inr (
-      c.in_ok-earlier.earlier,
-      c.in_ok-earlier.ensures.ok,
-      inr (inl (c.in_ok-later.later, up, refused.0, ap total (sym c.in_ok-later_part.ensures) ∙ refused.1, refl)),
-    ))
+-- What stops sums stops the run.
+pub returns-clause-stops : goal.returns-clause-stops
+returns-clause-stops g c =
+    IfErr-weaker c.made_of_sums.result _ _
+    (λ f stops. IfSome_then (g.R.Read.remaining c.args.input.now) c.in_ok-texts.ensures.ok
+    (λ known e. inr (otherwise _ _ c.if-asked.false
+    (subst (λ ts. StopsSums c.args.asked.now c.args.before.now ts f)
+    (ap (map sourced) c.as_slice-2.ensures.value ∙ e) stops))))
+    c.made_of_sums.ensures.stops
