@@ -14,6 +14,7 @@ use Rattle.allocative_graph.proofs.Basics.{identity_total, identity_antisymmetri
 use Rattle.allocative_collectors.specs.Places.{to_root, outside, back_from, back_at, AddedAt}
 use Rattle.allocative_collectors.proofs.Entries.{bytes_more, length_entered, path_entered, map_of-entered, mark_of}
 use Rattle.allocative_collectors.proofs.Keys.{map_same}
+use Rattle.allocative_collectors.proofs.Labels.{not_nil}
 
 -- ---- the identities
 -- equal in both parts
@@ -167,3 +168,6 @@ module _ {t new : Listed} {current : ℕ} {places : List ℕ} {n : ℕ} (ok : Is
 
 -- Nothing is entered at first.
 pub ruleset nothing_entered = (bytes_entered-empty)
+
+-- What shows that a visitor was left.
+pub ruleset closing = (closed_is, not_nil, nil_from_length)

@@ -153,7 +153,7 @@ impl GraphCollector {
     }
 
     /// Whether no visitor is open.
-    #[tactic(auto, using(crate::proofs::Collect::closed_is, crate::proofs::Labels::not_nil, std::proofs::lemmas::List::nil_from_length))]
+    #[tactic(auto, using(crate::proofs::Collect::closing))]
     pub fn is_closed(&self) -> bool
         ensures closed { IsTrue result ↔ IsClosed (OfGraph self.now) }
         ensures at_root { IsTrue result → IsAtRoot (OfGraph self.now) }

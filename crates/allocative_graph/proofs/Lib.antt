@@ -10,3 +10,4 @@ pub mod ReadBack
 pub mod Sums
 pub mod Children
 pub mod Showings
+pub mod Using

@@ -133,7 +133,7 @@ impl FlameGraph {
     /// Adds bytes to the size of the root. It allocates nothing.
     ///
     /// It returns `TooLarge` exactly if the total would exceed `usize::MAX`, and then changes nothing.
-    #[tactic(auto, using(crate::proofs::Nodes::total_of_node, crate::proofs::Nodes::own_of_node, crate::proofs::Children::insert_root))]
+    #[tactic(auto, using(crate::proofs::Using::adding_self))]
     pub fn add_self(&mut self, size: usize) -> Result<(), Refusal>
         ensures sum { OnOk result (self.new ≡ add_self size self.old) }
         ensures too_large { IsErrOf result Refusal.TooLarge ↔ (2 ^ 64 ≤ total self.old + size) }
@@ -241,7 +241,7 @@ impl FlameGraph {
     // Adds another graph when the totals are known to fit. It is inlined, so that a level of the walk takes less of the
     // stack.
     #[cycle(merge)]
-    #[tactic(auto, using(crate::proofs::Nodes::total_of_both, crate::proofs::Nodes::len_of_node, crate::proofs::Nodes::merged_node, crate::proofs::Nodes::grown, crate::proofs::Children::last_total))]
+    #[tactic(auto, using(crate::proofs::Using::merging))]
     #[inline(always)]
     fn merge(&mut self, other: FlameGraph) -> Result<(), AllocError>
         requires { total self.old + total other < 2 ^ 64 }
@@ -394,7 +394,7 @@ impl FlameGraph {
     }
 
     // Whether the root has no children.
-    #[tactic(auto, using(std::proofs::lemmas::List::nil_from_length, crate::proofs::Nodes::entries_of_node, crate::proofs::Nodes::own_of_node))]
+    #[tactic(auto, using(crate::proofs::Using::copying))]
     fn is_leaf(&self) -> bool
         ensures { OnTrue result (entries self.now ≡ ([], size_at self.now []) ∷ []) }
     {
@@ -477,7 +477,8 @@ pub fn push_path(keys: &[&str], text: &mut String) -> Result<(), AllocError>
 // Appends the keys to the text, with `;` between them. After an error the text may have some of them.
 fn push_keys(keys: &[&str], text: &mut String) -> Result<(), AllocError>
     ensures keys { OnOk result (AppendsText text.old text.new (joined (texts keys.now))) }
-    ensures start { OnErr result (take (length (string_bytes text.old)) (string_bytes text.new) ≡ string_bytes text.old) }
+    ensures start { OnErr result
+        (take (length (string_bytes text.old)) (string_bytes text.new) ≡ string_bytes text.old) }
 {
     match keys {
         [] => Ok(()),
@@ -492,7 +493,7 @@ fn push_keys(keys: &[&str], text: &mut String) -> Result<(), AllocError>
 
 // The place of the key among the children, or else the place where it belongs. One comparison recognizes the last key
 // and a key after it, so that children added in order are put at the end without a search.
-#[tactic(auto, using(crate::proofs::Children::at_last, crate::proofs::Children::below_last, std::proofs::lemmas::Map::Lookups::exact_bytes))]
+#[tactic(auto, using(crate::proofs::Using::placing))]
 fn place_of(children: &[Child], key: &Key) -> Result<usize, usize>
     requires { InOrder children.now }
     ensures found { IfOk result (IsFound children.now key.now) }
@@ -524,7 +525,7 @@ fn place_by_halving(children: &[Child], key: &str) -> Result<usize, usize>
 
 // Adds a child: to the child with its key, or at its place among the others.
 #[cycle(merge)]
-#[tactic(auto, using(crate::proofs::Children::total_at_gap, crate::proofs::Children::total_at_found, crate::proofs::Children::fits_at_found))]
+#[tactic(auto, using(crate::proofs::Using::putting))]
 fn put_child(children: &mut Vec<Child>, size: &mut usize, child: Child) -> Result<(), AllocError>
     requires children { AreChildren children.old.items }
     requires size { size.old ≡ total_of children.old.items }
