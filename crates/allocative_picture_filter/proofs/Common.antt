@@ -1,7 +1,7 @@
 -- The names that proofs of this crate cite, passed on from one place. Declares nothing.
 pub use Rattle.allocative_graph.proofs.Common.{Graph, default, total, text, Lacks, IsCut, map-append, take_more, lines}
 pub use Rattle.allocative_picture_filter.specs.Differential.{HasTwoCounts, IsDifferential}
-pub use Rattle.allocative_picture_filter.specs.Fault.{IsReadingOf, fault_of}
+pub use Rattle.allocative_picture_filter.specs.Fault.{fault_of}
 pub use Rattle.allocative_picture_filter.specs.declared.fault.Fault.{Fault}
 pub use Rattle.allocative_picture_filter.specs.declared.fault.Fault.TheVariants.{Memory, Writing}
 pub use Rattle.allocative_picture_filter.specs.declared.fault.Source.TheVariants.{Input}
