@@ -397,8 +397,7 @@ pub fn by_last_key(alloc: Global, graph: &FlameGraph) -> Result<FlameGraph, Allo
     ensures total { IfOk result (λ view. total view ≡ total graph.now) }
     ensures sizes { IfOk result (λ view. (k : Key) → size_at view (k ∷ []) ≡ bytes_ending_in k graph.now) }
 {
-    let view = view_of(alloc, &View::LastKey, graph)?;
-    Ok(view)
+    view_of(alloc, &View::LastKey, graph)
 }
 
 /// The graph with the keys of each path in reverse: which paths lead to a last key. Paths without bytes of their own
@@ -408,8 +407,7 @@ pub fn reverse(alloc: Global, graph: &FlameGraph) -> Result<FlameGraph, AllocErr
     ensures total { IfOk result (λ view. total view ≡ total graph.now) }
     ensures sizes { IfOk result (λ view. (p : Path) → size_at view p ≡ size_at graph.now (reverse p)) }
 {
-    let view = view_of(alloc, &View::Reversed, graph)?;
-    Ok(view)
+    view_of(alloc, &View::Reversed, graph)
 }
 
 /// The part of a graph at and below some paths, which keep their keys. Bytes within several of them count once. Paths
@@ -424,9 +422,14 @@ pub fn only(
     ensures sizes { IfOk result
         (λ view. (p : Path) → size_at view p ≡ cond (is_within (paths_of paths.now) p) (size_at graph.now p) 0) }
 {
-    let inside = true;
-    let view = view_of(alloc, &View::Part { inside, paths }, graph)?;
-    Ok(view)
+    view_of(
+        alloc,
+        &View::Part {
+            inside: true,
+            paths,
+        },
+        graph,
+    )
 }
 
 /// The part of a graph that is neither at nor below some paths. Paths without bytes of their own are left out. The only
@@ -441,9 +444,14 @@ pub fn without(
     ensures sizes { IfOk result
         (λ view. (p : Path) → size_at view p ≡ cond (is_within (paths_of paths.now) p) 0 (size_at graph.now p)) }
 {
-    let inside = false;
-    let view = view_of(alloc, &View::Part { inside, paths }, graph)?;
-    Ok(view)
+    view_of(
+        alloc,
+        &View::Part {
+            inside: false,
+            paths,
+        },
+        graph,
+    )
 }
 
 /// The key that a table has in place of a key, or the key itself if it has none.
