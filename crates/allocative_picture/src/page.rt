@@ -4,7 +4,7 @@ ghost use Rattle.allocative_graph.specs.Format.{AppendsText};
 ghost use Rattle.allocative_collectors.specs.Warned.{warning_of};
 ghost use Rattle.allocative_picture.specs.Frames.{frame_data};
 ghost use Rattle.allocative_picture.specs.Boxes.{element};
-ghost use Rattle.allocative_picture.specs.Picture.{all_of, legend_of, subject_text, levels, opening, narrow_hint, heading, warning_line, warning_lines};
+ghost use Rattle.allocative_picture.specs.Picture.{all_of, legend_of, subject_text, bottom, opening, narrow_hint, heading, warning_line, warning_lines};
 
 use crate::boxes::{Comparison, Difference, push_element};
 use crate::escape::escaped;
@@ -88,17 +88,17 @@ impl fmt::Display for Subject {
     }
 }
 
-/// The number of levels of boxes that the frames need.
+/// The height in pixels that is ten pixels below the lowest box of the frames.
 #[tactic(auto, unfolding(crate::specs::Picture::levels))]
-pub(crate) fn levels(frames: &[Frame<'_>]) -> u128
-    ensures levels { result ≡ levels (map frame_data frames.now) }
-    ensures bound { result ≤ 2 ^ 64 }
+pub(crate) fn bottom(frames: &[Frame<'_>]) -> u128
+    ensures bottom { result ≡ bottom (map frame_data frames.now) }
+    ensures bound { result < 2 ^ 70 }
 {
     let mut levels = 0u128;
     for frame in frames {
         levels = levels.max(frame.depth as u128 + 1);
     }
-    levels
+    64 + 18 * levels
 }
 
 /// Appends the beginning of a picture, with the style and the title of the document, which is markup. Browsers look for

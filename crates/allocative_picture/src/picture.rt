@@ -10,7 +10,7 @@ use crate::fixed::CLOSING;
 use crate::frame::Frame;
 use crate::frames::{Marks, Shown, graph_of_warned, push_frames, push_wide};
 use crate::options::Options;
-use crate::page::{Subject, levels, push_boxes, push_heading, push_opening, push_warnings};
+use crate::page::{Subject, bottom, push_boxes, push_heading, push_opening, push_warnings};
 use allocative_graph::flamegraph::FlameGraph;
 use allocative_graph::refusal::Refusal;
 use std::alloc::{AllocError, Global};
@@ -167,8 +167,7 @@ pub(crate) fn height_of(subject: Subject, frames: &[Frame<'_>], options: &Option
     ensures bound { result < 2 ^ 80 }
 {
     let (_, legend) = subject.legend();
-    let bottom = 64 + 18 * levels(frames);
-    bottom + 8 + 16 * options.warned.len() as u128 + legend
+    bottom(frames) + 8 + 16 * options.warned.len() as u128 + legend
 }
 
 /// Appends what stands between the beginning and the end of the picture of so many paths, if the frames are those that
@@ -191,7 +190,6 @@ pub(crate) fn push_content(
     push_heading(title, unit, subject, frames.len(), paths, text)?;
     text.push_str(legend)?;
     push_boxes(alloc, unit, subject.all(), frames, text)?;
-    let bottom = 64 + 18 * levels(frames);
-    push_warnings(alloc, bottom + 14, options.warned, text)?;
+    push_warnings(alloc, bottom(frames) + 14, options.warned, text)?;
     Ok(())
 }

@@ -13,7 +13,7 @@ returns c =
       c.in_ok-push_boxes.ensures,
       c.in_ok-push_str.ensures.bytes,
       c.in_ok-push_heading.ensures,
-      c.levels.ensures.levels,
+      c.bottom.ensures.bottom,
       c.legend.ensures.text,
       c.all.ensures,
       c.as_str-unit.ensures.value,
