@@ -55,8 +55,8 @@ impl Scale {
     }
 }
 
-/// The graph of the first moment, or the graph given if there is none.
-fn first_graph<'a>(moments: &'a [Moment<'_>], none: &'a FlameGraph) -> &'a FlameGraph
+/// The graph of the first moment, or the graph given, which is empty, if there is none.
+pub fn first_graph<'a>(moments: &'a [Moment<'_>], none: &'a FlameGraph) -> &'a FlameGraph
     requires { none.now ≡ default }
     ensures { result.now ≡ first_graph moments.now }
 {
@@ -66,8 +66,8 @@ fn first_graph<'a>(moments: &'a [Moment<'_>], none: &'a FlameGraph) -> &'a Flame
     }
 }
 
-/// The graph of the last moment, or the graph given if there is none.
-fn last_graph<'a>(moments: &'a [Moment<'_>], none: &'a FlameGraph) -> &'a FlameGraph
+/// The graph of the last moment, or the graph given, which is empty, if there is none.
+pub fn last_graph<'a>(moments: &'a [Moment<'_>], none: &'a FlameGraph) -> &'a FlameGraph
     requires { none.now ≡ default }
     ensures { result.now ≡ last_graph moments.now }
 {
