@@ -422,14 +422,8 @@ pub fn only(
     ensures sizes { IfOk result
         (λ view. (p : Path) → size_at view p ≡ cond (is_within (paths_of paths.now) p) (size_at graph.now p) 0) }
 {
-    view_of(
-        alloc,
-        &View::Part {
-            inside: true,
-            paths,
-        },
-        graph,
-    )
+    let inside = true;
+    view_of(alloc, &View::Part { inside, paths }, graph)
 }
 
 /// The part of a graph that is neither at nor below some paths. Paths without bytes of their own are left out. The only
@@ -444,14 +438,8 @@ pub fn without(
     ensures sizes { IfOk result
         (λ view. (p : Path) → size_at view p ≡ cond (is_within (paths_of paths.now) p) 0 (size_at graph.now p)) }
 {
-    view_of(
-        alloc,
-        &View::Part {
-            inside: false,
-            paths,
-        },
-        graph,
-    )
+    let inside = false;
+    view_of(alloc, &View::Part { inside, paths }, graph)
 }
 
 /// The key that a table has in place of a key, or the key itself if it has none.
