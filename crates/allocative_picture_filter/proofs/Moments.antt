@@ -1,8 +1,7 @@
 -- The texts as they are named, and the moments of a history.
-use Rattle.std.proofs.Common.{◌≡◌, ℕ, zero, suc, ◌+◌, ◌<◌, inl, inr, Option, Some, List, [], ◌∷◌, ◌++◌, map, take, drop, length}
+use Rattle.std.proofs.Common.{◌≡◌, ℕ, zero, suc, ◌+◌, ◌<◌, inl, inr, Option, Some, List, [], ◌∷◌, ◌++◌, map, take, length}
 use Rattle.std.proofs.Common.{◌-◌, ap, get_or, refl, arith, min}
-use Rattle.std.proofs.lemmas.List.{length-map, take-map, drop-map, take_min}
-use native.Mathlib.Numerals.{unary_clauses}
+use Rattle.std.proofs.lemmas.List.{length-map, take-map, drop-map, drop_min, take_min}
 use Rattle.std.specs.Prelude.{insert}
 use Rattle.std.specs.List.{AllZip}
 use Rattle.allocative_graph.specs.Graph.{total}
@@ -13,19 +12,12 @@ use Rattle.allocative_picture_filter.specs.Run.{sourced, named_texts, without_ma
 use Rattle.allocative_picture_filter.specs.declared.arguments.Arguments.{Arguments}
 
 -- ---- the texts as they are named
--- What stands behind a place that is cut to the length.
-drop-min : {X : Type 0} (n : ℕ) (xs : List X) → drop (min n (length xs)) xs ≡ drop n xs
-drop-min zero [] = refl
-drop-min (suc n) [] = simp unary_clauses
-drop-min zero (x ∷ xs) = simp unary_clauses
-drop-min (suc n) (x ∷ xs) = simp unary_clauses (drop-min n xs)
-
 -- The input is put among the files at its place, or at their end.
 pub named-at : (xs ys zs : List Text) (o : Option ℕ) (n at : ℕ) (x : Text) (known : List ℕ) → o ≡ Some n →
     at ≡ min n (length xs) → ys ≡ xs → zs ≡ insert ys at x → x.source ≡ Input → x.bytes.now ≡ without_mark known →
     map sourced zs ≡ named_texts xs o known
 named-at xs ys zs o n at x known some place same put source bytes =
-    rw (some, put, same, place, take_min n xs, drop-min n xs, map-append, take-map, drop-map, source, bytes)
+    rw (some, put, same, place, take_min n xs, drop_min n xs, map-append, take-map, drop-map, source, bytes)
 
 -- ---- the moments of texts
 -- R holds of one item more of two lists.

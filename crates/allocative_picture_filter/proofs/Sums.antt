@@ -1,5 +1,5 @@
 -- The graphs of some texts, one added after another, and what stops that.
-use Rattle.std.proofs.Common.{◌≡◌, ℕ, zero, suc, ◌+◌, ◌<◌, ◌≤◌, ◌⊎◌, inl, inr, Bool, true, false, cond}
+use Rattle.std.proofs.Common.{◌≡◌, ℕ, zero, suc, ◌+◌, ◌<◌, ◌≤◌, inl, inr, Bool, true, false, cond}
 use Rattle.std.proofs.Common.{List, [], ◌∷◌, ◌++◌, map, take, length, get_or, refl, sym, ap, subst, arith}
 use Rattle.std.proofs.Common.{MatchBool, nat_lt, take_all}
 use Rattle.allocative_picture_filter.proofs.Common.{Graph, default, Fault, Text, map-append, take_more}

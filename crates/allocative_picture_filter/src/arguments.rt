@@ -190,12 +190,8 @@ fn discord_of(asked: &Arguments<'_>, names: &[&str], ordered: bool) -> Option<&'
         (asked.history && table, "--history does not go with --top"),
         (few, "--history takes two files or more"),
     ];
-    for (is_met, discord) in discords {
-        if is_met {
-            return Some(discord);
-        }
-    }
-    None
+    let met = discords.iter().find(|(is_met, _)| *is_met)?;
+    Some(met.1)
 }
 
 // The names that are those of files.

@@ -1,6 +1,6 @@
 //! The whole program, over any reader and two writers.
 ghost use Rattle.std.specs.List.{AllZip};
-ghost use Rattle.std.specs.Prelude.{◌≡◌, ◌≢◌, ◌+◌, ◌^◌, ◌≤◌, ◌⊎◌, ◌↔◌, IsTrue, true, false, cond, ℕ, OnOk, IfOk, IfErr, IfSome, IsErrOf, List, map, option_copied, option_map, unwrap_or, string_bytes};
+ghost use Rattle.std.specs.Prelude.{◌≡◌, ◌≢◌, ◌+◌, ◌^◌, ◌≤◌, ◌⊎◌, ◌↔◌, IsTrue, true, false, cond, ℕ, OnOk, IfOk, IfErr, IfSome, IsErrOf, List, map, string_bytes};
 ghost use Rattle.std.specs.Io.KnownBytes.{Appends};
 ghost use Rattle.allocative_graph.specs.Graph.{Graph, default, total};
 ghost use Rattle.allocative_io.specs.Streams.{AppendsBeginning};
@@ -19,7 +19,7 @@ use allocative_graph::key::Key;
 use allocative_graph::read::ReadFault;
 use allocative_graph::refusal::Refusal;
 use allocative_io::{ReadError, read_input, write_text};
-use allocative_picture::history::{Moment, history_picture};
+use allocative_picture::history::{Moment, first_graph, history_picture, last_graph};
 use allocative_picture::options::Options;
 use allocative_picture::picture::{change_picture, picture};
 use allocative_picture::table::{Size, growth_table, table};
@@ -512,22 +512,12 @@ fn shown_moments<'a>(
     Ok(made)
 }
 
-// The graph of a moment, or another if there is none.
-fn graph_or<'g>(moment: Option<&'g Moment<'_>>, none: &'g FlameGraph) -> &'g FlameGraph
-    ensures { result.now ≡ unwrap_or (option_map (λ (m : Moment). m.graph) (option_copied moment.entry)) none.now }
-{
-    match moment {
-        Some(moment) => &moment.graph,
-        None => none,
-    }
-}
-
 // Whether the last moment is asked not to be empty, and has 0 bytes.
 fn is_last_refused(alloc: Global, asked: &Arguments<'_>, moments: &[Moment<'_>]) -> bool
     ensures { IsTrue result ↔ (IsTrue asked.now.not_empty × (total (last_graph moments.now) ≡ 0)) }
 {
     let none = FlameGraph::default(alloc);
-    is_refused(asked.not_empty, graph_or(moments.last(), &none))
+    is_refused(asked.not_empty, last_graph(moments, &none))
 }
 
 // The graph in which the children of a history are counted. If nothing is outlined, none is made.
@@ -543,8 +533,8 @@ fn guide_of_moments(
         → 2 ^ 64 ≤ total (first_graph moments.now) + total (last_graph moments.now) }
 {
     let none = FlameGraph::default(alloc);
-    let first = graph_or(moments.first(), &none).clone()?;
-    let last = graph_or(moments.last(), &none).clone()?;
+    let first = first_graph(&*moments, &none).clone()?;
+    let last = last_graph(&*moments, &none).clone()?;
     let turned_first = turned(alloc, asked, names, first)?;
     let turned_last = turned(alloc, asked, names, last)?;
     guide_of(alloc, asked, true, &turned_first, &turned_last)
