@@ -4,8 +4,8 @@ use Rattle.std.proofs.Common.{Result, Ok, Err, Some, IfOk, IfErr, sym, ap, subst
 use Rattle.std.proofs.Common.{take, append_assoc, append-nil}
 use Rattle.allocative_collectors.proofs.Common.{Less, Greater, is_lt, ordering_reverse, Key, key_cmp, key_in, KeysRise}
 use Rattle.allocative_collectors.proofs.Common.{IsKeyGap, get_or-map, length-map, flat_map-append, Chunk, numbers_in}
-use Rattle.allocative_collectors.proofs.Common.{flat, before, chunk_at, slice_get, insert, Contains, get_or_past}
-use Rattle.allocative_collectors.proofs.Common.{take_all, take-length, drop-length}
+use Rattle.allocative_collectors.proofs.Common.{keys_of, flat, before, chunk_at, slice_get, insert, Contains}
+use Rattle.allocative_collectors.proofs.Common.{get_or_past, take_all, take-length, drop-length, Node, key_at}
 use Rattle.std.specs.List.Sorted.{IsSearchInRange, IsBinarySearchResult, IsSortedBy}
 use Rattle.std.proofs.lemmas.Option.{get_or_from_slice_get, slice_get_within, slice_get-get_or}
 use Rattle.std.proofs.lemmas.List.Sorted.{searchable_from_sorted}
@@ -33,60 +33,64 @@ module _ (ks : List Key) (rise : KeysRise ks) (k : Key) where
         grind (arith, before, after, key_total.trans k (key_in ks n) (key_in ks j), rise n j);
   }
 
-module _ (K : ℕ → Key) (xs : List ℕ) where
+module _ (ns : List Node) (xs : List ℕ) where
   -- the key of a number that is read
-  key_read : (j n : ℕ) → slice_get xs j ≡ Some n → (j < length (map K xs)) × (key_in (map K xs) j ≡ K n)
+  key_read : (j n : ℕ) → slice_get xs j ≡ Some n →
+      (j < length (keys_of ns xs)) × (key_in (keys_of ns xs) j ≡ key_at ns n)
   key_read j n is =
       let within = slice_get_within xs j n is in
-      (omega (arith, length-map xs K), get_or-map K xs j 0 [] within ∙ ap K (get_or_from_slice_get xs j n 0 is))
+      let key = get_or-map (key_at ns) xs j 0 [] within ∙ ap (key_at ns) (get_or_from_slice_get xs j n 0 is) in
+      (omega (arith, length-map xs (key_at ns)), key)
 
-  module _ (rise : KeysRise (map K xs)) (k : Key) where
+  module _ (rise : KeysRise (keys_of ns xs)) (k : Key) where
     -- A key after that of the last number belongs behind the numbers.
     pub behind_last : (p n : ℕ) → p ≡ length xs → slice_get xs (length xs - 1) ≡ Some n →
-        is_lt (key_cmp (K n) k) ≡ true → IsKeyGap (map K xs) k p
+        is_lt (key_cmp (key_at ns n) k) ≡ true → IsKeyGap (keys_of ns xs) k p
     behind_last p n behind last lt =
-        let count = length-map xs K in
+        let count = length-map xs (key_at ns) in
         let there = key_read (length xs - 1) n last in
-        let less : key_cmp (K n) k ≡ Less = grind arith in
+        let less : key_cmp (key_at ns n) k ≡ Less = grind arith in
         record {
           in_range = omega arith;
-          smaller_before = λ j h. smaller_up_to (map K xs) rise k (length xs - 1) there.0
+          smaller_before = λ j h. smaller_up_to (keys_of ns xs) rise k (length xs - 1) there.0
               (ap (λ (l : Key). key_cmp l k) there.1 ∙ less) j (omega arith);
           greater_after = λ j le h. absurd (omega arith);
         }
 
     -- A key belongs at the place of a number with a greater key, if the number before has a smaller one.
-    pub gap_at : (j n : ℕ) → slice_get xs j ≡ Some n → key_cmp (K n) k ≡ Greater →
-        ((m : ℕ) → j ≡ m + 1 → key_cmp (K (get_or xs m 0)) k ≡ Less) → IsKeyGap (map K xs) k j
+    pub gap_at : (j n : ℕ) → slice_get xs j ≡ Some n → key_cmp (key_at ns n) k ≡ Greater →
+        ((m : ℕ) → j ≡ m + 1 → key_cmp (key_at ns (get_or xs m 0)) k ≡ Less) → IsKeyGap (keys_of ns xs) k j
     gap_at j n is greater smaller =
         let there = key_read j n is in
         let order = λ (l : Key). key_cmp l k in
-        gap_here (map K xs) rise k j there.0 (ap order there.1 ∙ greater)
-        (λ i lt. smaller_up_to (map K xs) rise k (j - 1) (omega (arith, there.0))
-        (ap order (get_or-map K xs (j - 1) 0 [] (omega (arith, there.0, length-map xs K)))
+        gap_here (keys_of ns xs) rise k j there.0 (ap order there.1 ∙ greater)
+        (λ i lt. smaller_up_to (keys_of ns xs) rise k (j - 1) (omega (arith, there.0))
+        (ap order (get_or-map (key_at ns) xs (j - 1) 0 [] (omega (arith, there.0, length-map xs (key_at ns))))
         ∙ smaller (j - 1) (omega arith)) i (omega arith))
 
-    sorted : IsSortedBy (λ (a b : ℕ). is_lt (key_cmp (K a) (K b))) xs
+    sorted : IsSortedBy (λ (a b : ℕ). is_lt (key_cmp (key_at ns a) (key_at ns b))) xs
     sorted i d low high =
-        let count = length-map xs K in
-        let up = subst₂ (λ a b. key_cmp a b ≡ Less) (get_or-map K xs i d [] (omega arith))
-        (get_or-map K xs (i + 1) d [] (omega arith)) (rise i (i + 1) (omega arith) (omega arith)) in
-        ap is_lt (key_total.antisymm (K (get_or xs (i + 1) d)) (K (get_or xs i d)) ∙ ap ordering_reverse up)
+        let count = length-map xs (key_at ns) in
+        let up = subst₂ (λ a b. key_cmp a b ≡ Less) (get_or-map (key_at ns) xs i d [] (omega arith))
+        (get_or-map (key_at ns) xs (i + 1) d [] (omega arith)) (rise i (i + 1) (omega arith) (omega arith)) in
+        ap is_lt (key_total.antisymm (key_at ns (get_or xs (i + 1) d)) (key_at ns (get_or xs i d))
+        ∙ ap ordering_reverse up)
 
     -- What a binary search by the keys finds.
-    pub searched : (r : Result ℕ ℕ) → IsSearchInRange r (length xs) → IsBinarySearchResult (λ x. key_cmp (K x) k) xs r
-        → IfOk r (λ i. (i < length xs) × (K (get_or xs i 0) ≡ k)) × IfErr r (IsKeyGap (map K xs) k)
+    pub searched : (r : Result ℕ ℕ) → IsSearchInRange r (length xs) →
+        IsBinarySearchResult (λ x. key_cmp (key_at ns x) k) xs r →
+        IfOk r (λ i. (i < length xs) × (key_at ns (get_or xs i 0) ≡ k)) × IfErr r (IsKeyGap (keys_of ns xs) k)
     searched (Ok i) within equal = ((within, key_same _ _ (equal 0)), tt)
     searched (Err i) within parted =
-        let count = length-map xs K in
-        let rises = searchable_from_sorted key_total K xs k sorted in
+        let count = length-map xs (key_at ns) in
+        let rises = searchable_from_sorted key_total (key_at ns) xs k sorted in
         let order = λ (l : Key). key_cmp l k in (
           tt,
           record {
             in_range = omega arith;
-            smaller_before = λ j h. ap order (get_or-map K xs j 0 [] (omega arith))
+            smaller_before = λ j h. ap order (get_or-map (key_at ns) xs j 0 [] (omega arith))
                 ∙ (parted rises).0 j 0 (omega arith) h;
-            greater_after = λ j le h. ap order (get_or-map K xs j 0 [] (omega arith))
+            greater_after = λ j le h. ap order (get_or-map (key_at ns) xs j 0 [] (omega arith))
                 ∙ (parted rises).1 j 0 le (omega arith);
           },
         )
@@ -136,30 +140,30 @@ module _ (cs : List Chunk) (i : ℕ) (e : Chunk) (h : i < length cs) {xs : List 
         let all = before_all cs (i + 1) (omega arith) in
         number_read (length (flat cs) - 1) (length xs - 1) n (omega (arith, before_more)) at
 
-    module _ (K : ℕ → Key) (rise : KeysRise (map K (flat cs))) where
+    module _ (ns : List Node) (rise : KeysRise (keys_of ns (flat cs))) where
       -- the key of number j
-      part_key : (j : ℕ) → j < length (map K xs) → (before cs i + j < length (map K (flat cs)))
-          × (key_in (map K xs) j ≡ key_in (map K (flat cs)) (before cs i + j))
+      part_key : (j : ℕ) → j < length (keys_of ns xs) → (before cs i + j < length (keys_of ns (flat cs)))
+          × (key_in (keys_of ns xs) j ≡ key_in (keys_of ns (flat cs)) (before cs i + j))
       part_key j lt =
-          let number = slice_get-get_or xs j 0 (omega (arith, length-map xs K)) in
-          let there = key_read K (flat cs) _ _ (number_read _ j _ refl number) in
-          (there.0, (key_read K xs j _ number).1 ∙ sym there.1)
+          let number = slice_get-get_or xs j 0 (omega (arith, length-map xs (key_at ns))) in
+          let there = key_read ns (flat cs) _ _ (number_read _ j _ refl number) in
+          (there.0, (key_read ns xs j _ number).1 ∙ sym there.1)
 
       -- The keys of a chunk rise.
-      pub part_rises : KeysRise (map K xs)
+      pub part_rises : KeysRise (keys_of ns xs)
       part_rises a b lt hb = subst₂ (λ x y. key_cmp x y ≡ Less) (sym (part_key a (omega arith)).1)
           (sym (part_key b hb).1) (rise _ _ (omega arith) (part_key b hb).0)
 
-      module _ (k : Key) (less : (j : ℕ) → j < before cs i → key_cmp (key_in (map K (flat cs)) j) k ≡ Less) (m : ℕ)
-          (gap : IsKeyGap (map K xs) k m) where
+      module _ (k : Key) (less : (j : ℕ) → j < before cs i → key_cmp (key_in (keys_of ns (flat cs)) j) k ≡ Less) (m : ℕ)
+          (gap : IsKeyGap (keys_of ns xs) k m) where
         -- the keys before a gap in the chunk are smaller
-        pub less_part : (j : ℕ) → j < before cs i + m → key_cmp (key_in (map K (flat cs)) j) k ≡ Less
+        pub less_part : (j : ℕ) → j < before cs i + m → key_cmp (key_in (keys_of ns (flat cs)) j) k ≡ Less
         less_part j lt = let index : before cs i ≤ j → before cs i + (j - before cs i) ≡ j = λ h. omega arith in
             grind (arith, index, less j, part_key (j - before cs i), gap.smaller_before (j - before cs i), gap.in_range)
 
         -- a gap before the end of the chunk is one among all
-        pub gap_part : m < length (map K xs) → IsKeyGap (map K (flat cs)) k (before cs i + m)
-        gap_part lt = gap_here (map K (flat cs)) rise k (before cs i + m) (part_key m lt).0
+        pub gap_part : m < length (keys_of ns xs) → IsKeyGap (keys_of ns (flat cs)) k (before cs i + m)
+        gap_part lt = gap_here (keys_of ns (flat cs)) rise k (before cs i + m) (part_key m lt).0
             (ap (λ (l : Key). key_cmp l k) (sym (part_key m lt).1) ∙ gap.greater_after m (omega arith) lt) less_part
 
 -- ---- a number that is put in
@@ -202,3 +206,19 @@ cut_in (c ∷ cs) zero lower upper h is = sym (append_assoc (numbers_in lower) (
     ∙ ap (λ (l : List ℕ). l ++ flat cs) (sym is)
 cut_in (c ∷ cs) (suc i) lower upper h is =
     ap (λ (l : List ℕ). numbers_in c ++ l) (cut_in cs i lower upper (omega arith) is)
+
+-- What the calls of chunks cite.
+pub ruleset in_chunks = (
+  slice_get-get_or,
+  number_read,
+  before_more,
+  last_read,
+  chunk_is,
+  kept_in,
+  put_in,
+  put_behind,
+  cut_in,
+)
+
+-- What a search in chunks cites.
+pub ruleset among_chunks = (behind_last, gap_at, stands, key_same)

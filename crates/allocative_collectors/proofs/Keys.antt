@@ -4,7 +4,8 @@ use Rattle.std.proofs.Common.{get_or, drop, take, ◌∙◌, arith}
 use Rattle.allocative_collectors.proofs.Common.{Path, is_same_path, Node, at, children_at, key_at, keys_of}
 use Rattle.allocative_collectors.proofs.Common.{false_from_ne_true, map-append, no_node, get_or_append_left}
 use Rattle.allocative_collectors.proofs.Common.{get_or_push, length_push, insert, take-map, drop-map, set_past}
-use Rattle.allocative_collectors.proofs.Common.{get_or_past, get_or-set_same, get_or-set_other}
+use Rattle.allocative_collectors.proofs.Common.{get_or_past, get_or-set_same, get_or-set_other, get_or-map, length-map}
+use Rattle.allocative_collectors.proofs.Common.{nat_tests}
 pub use Rattle.std.specs.Cmp.Lexicographic.{nat_list_cmp_total as key_total}
 pub use Rattle.std.proofs.lemmas.Map.Lookups.{exact_bytes as key_same}
 use Rattle.allocative_graph.proofs.Basics.{same_path, same_path_itself}
@@ -47,3 +48,6 @@ pushed cs j =
     let before = get_or_append_left cs ([] ∷ []) [] j in let new = get_or_push cs [] [] j in
     let past = get_or_past cs j [] in let behind = get_or_past (cs ++ [] ∷ []) j [] in
     grind (arith, before, new, past, behind, length_push cs [])
+
+-- What the last keys of a path are.
+pub ruleset last_keys = (get_or-map, length-map, nat_tests)

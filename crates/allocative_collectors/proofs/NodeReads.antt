@@ -1,6 +1,6 @@
 -- What a read of a node says of the arena and the sums, and what a search among its children says.
-use Rattle.std.proofs.Common.{◌≡◌, ◌≢◌, ℕ, zero, suc, ◌<◌, false, List, [], ◌∷◌, ◌++◌, length, sym, ap, ◌∙◌}
-use Rattle.std.proofs.Common.{rules, arith, refl, append_assoc, map, Bool, not, get_or, sum_by, cond, ltb, sum, lt-ltb, ◌+◌}
+use Rattle.std.proofs.Common.{◌≡◌, ◌≢◌, ℕ, zero, suc, ◌<◌, false, List, [], ◌∷◌, ◌++◌, length, sym, ap, ◌∙◌, rules}
+use Rattle.std.proofs.Common.{arith, refl, append_assoc, map, Bool, not, get_or, sum_by, cond, ltb, sum, lt-ltb, ◌+◌}
 use Rattle.std.proofs.Common.{◌≤◌, ◌||◌, set, length-set, get_or-set_same, get_or-set_other}
 use Rattle.allocative_collectors.proofs.Common.{nat_tests, common_steps, Key, Path, path_at, IsEntered, Listed}
 use Rattle.allocative_collectors.proofs.Common.{root_sum, Node, put, leaf, sums, keys_at, key_in, key_at, parent_at}
@@ -20,6 +20,7 @@ use Rattle.allocative_collectors.proofs.Grown.{grown, arena_set, arena_grown}
 use Rattle.std.specs.FinMap.{get-entries}
 use Rattle.std.proofs.lemmas.List.Sums.{sum_by-set, sum_by-le, sum-map}
 use Rattle.std.proofs.lemmas.List.Elements.{All-contains, All-weaker}
+use Rattle.std.proofs.lemmas.Slice.Eq.{bytes_eq-Decides}
 use Rattle.allocative_collectors.specs.declared.children.Children.TheVariants.{Empty}
 
 -- ---- what a search among a node's children says
@@ -334,3 +335,12 @@ module _ {items : List Node} {lists : List Children}
 
 -- What a node that was read says of its sum, beside tests of numbers.
 pub ruleset figures = (figures_read, nat_tests, common_steps)
+
+-- What a list of children that is replaced leaves.
+pub ruleset relisted = (get_or_default, in_lists, same_lists)
+
+-- What a search among a node's children needs, and what a new child leaves.
+pub ruleset searching = (get_or_default, keys_rise, grown_tree, same_lists, in_lists)
+
+-- What a node that is compared is.
+pub ruleset compared = (bytes_eq-Decides, length_sums, in_nodes, was_entered, child_of)

@@ -1,4 +1,6 @@
 //! The numbers of a node's children, in an order that the caller keeps.
+#![tactic(auto, using(crate::proofs::Chunks::in_chunks))]
+
 ghost use Rattle.std.specs.Prelude.{◌≡◌, ◌-◌, ◌<◌, ◌≤◌, [], ◌++◌, length, IfOk, IfSome, OnOk, OnErr, IsTrue, slice_get, Some};
 ghost use Rattle.std.specs.List.{insert};
 ghost use Rattle.allocative_collectors.specs.Nodes.{numbers, numbers_in, flat, IsOneList, IsPlace, IsPlaceIn, place_in, flat_place};

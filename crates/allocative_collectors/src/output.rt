@@ -2,7 +2,7 @@
 ghost use Rattle.std.specs.Prelude.{◌≡◌, ◌++◌, IfOk, MatchResult, string_bytes, map, filter, not};
 ghost use Rattle.allocative_collectors.specs.Warned.{warning_of, warning_lines, is_std_entry};
 
-use allocative_graph::flamegraph::FlameGraph;
+use allocative_graph::flamegraph::{FlameGraph, push_path};
 use allocative_graph::refusal::Refusal;
 use std::alloc::{AllocError, Global};
 use std::marker::Model;
@@ -25,6 +25,7 @@ impl WarnedPath {
     /// Whether the path is the entry `data` of a map or a set of std. Such a path has a warning as soon as its contents
     /// exceed 8 bytes. It ends in `BTreeMap`, `BTreeSet`, `HashMap` or `HashSet`, and then `data`. The keys alone
     /// decide, so a type of your own with one of these names counts too.
+    #[tactic(auto, using(crate::proofs::Keys::last_keys))]
     pub fn is_of_std(&self) -> bool
         ensures { result ≡ is_std_data (warning_of self.now).path }
     {
@@ -42,7 +43,8 @@ impl WarnedPath {
             (λ _. string_bytes text.new ≡ string_bytes text.old) }
     {
         let alloc = *text.allocator();
-        let path = self.path.join(alloc, ";")?;
+        let mut path = String::new(alloc);
+        push_path(self.path.as_slice(), &mut path)?;
         let (path, own, parts) = (path.as_str(), self.self_size, self.children_size);
         let warning = format!(in alloc;
             "Incorrect size declaration for node `{path}`, size of self: {own}, size of inline children: {parts}"

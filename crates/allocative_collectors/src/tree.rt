@@ -254,6 +254,7 @@ impl Tree {
 
     /// Whether the node `number` is the child of the node `at` that has the key.
     #[inline(always)]
+    #[tactic(auto, using(crate::proofs::NodeReads::compared))]
     fn is_child(&self, at: usize, key: &Key, number: usize) -> bool
         requires { at < length self.now }
         ensures { IsTrue result ↔ IsEntered self.now self.now at key.now 0 false number }
@@ -320,6 +321,7 @@ impl Tree {
     }
 
     /// The child of the node `at` that has the key, found by a search. It is made if there is none.
+    #[tactic(auto, using(crate::proofs::NodeReads::searching))]
     fn search_child(&mut self, at: usize, key: &Key) -> Result<usize, AllocError>
         requires { at < length self.old }
         ensures entered { IfOk result (IsEntered self.old self.new at key.now 0 false) }
@@ -343,6 +345,7 @@ impl Tree {
     }
 
     /// Cuts the list of a node's children into chunks if it is long. If memory runs out it stays one list.
+    #[tactic(auto, using(crate::proofs::NodeReads::relisted))]
     fn cut_long_list(&mut self, at: usize)
         requires { at < length self.old }
         ensures { self.new ≡ self.old }
@@ -394,6 +397,7 @@ fn find(nodes: &[Node], children: &Children, key: &Key) -> Result<u32, Place>
 
 /// The one of some numbers whose node has the key, or the place where the key belongs among them.
 #[inline(never)]
+#[tactic(auto, using(crate::proofs::Chunks::behind_last))]
 fn find_in_list(nodes: &[Node], list: &[u32], key: &Key) -> Result<u32, usize>
     requires rise { KeysRise (keys_of nodes.now list.now) }
     ensures found { IfOk result (HasKey nodes.now list.now key.now) }
@@ -419,7 +423,7 @@ fn find_in_list(nodes: &[Node], list: &[u32], key: &Key) -> Result<u32, usize>
 /// The same for numbers in chunks. The starts of the keys give a place, which is tested. If it is not the one, all
 /// chunks are searched by the keys alone.
 #[inline(never)]
-#[tactic(auto, using(crate::proofs::Chunks::stands, crate::proofs::Keys::key_same))]
+#[tactic(auto, using(crate::proofs::Chunks::among_chunks))]
 fn find_in_chunks(nodes: &[Node], chunks: &[Chunk], key: &Key) -> Result<u32, Place>
     requires rise { KeysRise (keys_of nodes.now (flat chunks.now)) }
     ensures found { IfOk result (HasKey nodes.now (flat chunks.now) key.now) }

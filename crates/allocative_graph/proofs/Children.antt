@@ -498,3 +498,6 @@ module _ (c : Child) {cs ds es : List Child} {i : ℕ} (same : ds ≡ cs) (missi
   -- The totals of all children grow by that of the child.
   pub total_at_gap : total_of es ≡ total_of cs + total c.graph
   total_at_gap = ap total_of put ∙ sum_by-insert (λ (y : Child). total y.graph) cs i c
+
+-- What is known of a child at the front of a list.
+pub ruleset at_front = (front_there, front_total, front_rows)

@@ -407,3 +407,9 @@ set_back cs i x g there is =
 
 -- What adding bytes at one path needs: what a node has with a child of one path merged into its children.
 pub ruleset at_one_path = (node_grown, sum_grown, tree-path, total-path)
+
+-- What the rows of one child more are.
+pub ruleset more_rows = (flat_map_more, figures_of_node)
+
+-- What the graph at a path needs of the child on the way.
+pub ruleset behind = (behind_child, missing_child, none_implies)

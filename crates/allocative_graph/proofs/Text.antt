@@ -14,7 +14,7 @@ use Rattle.allocative_graph.specs.Graph.{line}
 use Rattle.std.proofs.Math.Seq.{take-append_seam}
 pub use Rattle.allocative_graph.specs.Path.{texts}
 use Rattle.std.proofs.lemmas.{Bool.Decides.nat_tests, Grind.common_steps}
-use Rattle.std.specs.{Fmt.digits, Fmt.digits_onto, Fmt.digit_glyph, List.join_by}
+use Rattle.std.specs.{Fmt.digits, Fmt.digits_onto, Fmt.digit_glyph}
 use Rattle.allocative_graph.proofs.{Sums.find-below_all, Children.rows-more}
 
 -- ---- lists parted at a byte
@@ -122,12 +122,6 @@ size_said g k p = ap (λ o. unwrap_or o 0) (get-entries g (k ∷ p))
     ∙ sym (shown-find k p (entries g) (entries_sorted g))
 
 -- ---- what the walk of `write` has written so far
--- The texts of the keys, joined by `;`, are the path's text.
-pub joined_by_semicolons : (ks : List (Bor (List ℕ))) → join_by (λ k. k.now) (59 ∷ []) ks ≡ joined (texts ks)
-joined_by_semicolons [] = refl
-joined_by_semicolons (k ∷ []) = append-nil k.now
-joined_by_semicolons (k ∷ l ∷ ks) = ap (λ t. k.now ++ 59 ∷ t) (joined_by_semicolons (l ∷ ks))
-
 -- Rows behind another one have no root, so the key before them can be written before their lines.
 deeper_lines : (t : List ℕ) (k : Key) (p : Path) (es : List (Path × ℕ)) → T (below_all path_cmp p es) →
     (find path_cmp [] es ≡ None)

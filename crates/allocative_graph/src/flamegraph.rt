@@ -296,6 +296,7 @@ impl FlameGraph {
     }
 
     /// The graph at a path, whose root is that path. It returns `None` exactly if the graph has no such path.
+    #[tactic(auto, using(crate::proofs::Nodes::behind))]
     pub fn get(&self, path: &[&str]) -> Option<&FlameGraph>
         ensures found { IfSome result (λ found. IsBehind self.now (texts path.now) found.now) }
         ensures missing { IfNone result (HasNothing self.now (texts path.now)) }
@@ -340,6 +341,7 @@ impl FlameGraph {
     }
 
     // Appends the rows of all paths, each after the given keys.
+    #[tactic(auto, using(crate::proofs::Text::popped, crate::proofs::Nodes::more_rows))]
     fn push_rows(&self, path: &mut Vec<&'static str>, rows: &mut Vec<Row>) -> Result<(), AllocError>
         ensures path { OnOk result (path.new.items ≡ path.old.items) }
         ensures rows { OnOk result (map row_figures rows.new.items
@@ -630,7 +632,7 @@ fn interleave(
 
 // Takes the next child of the merge from the lists. If both have its key, one is added to the other.
 #[cycle(merge)]
-#[tactic(auto, using(crate::proofs::Children::front_there))]
+#[tactic(auto, using(crate::proofs::Children::at_front))]
 fn take_next(
     mine: &mut VecDeque<Child>,
     theirs: &mut VecDeque<Child>,

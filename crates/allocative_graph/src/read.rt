@@ -149,7 +149,7 @@ fn read_lines(alloc: Global, text: &'static str) -> Result<Vec<Line>, ReadFault>
 }
 
 // The sum of the graphs of some lines.
-#[tactic(auto, using(std::proofs::Common::take_all))]
+#[tactic(auto, using(std::proofs::Common::take_all, crate::proofs::ReadBack::lines_exceed))]
 fn add_up(alloc: Global, lines: &[Line]) -> Result<FlameGraph, ReadFault>
     ensures graph { IfOk result (λ graph. graph ≡ sum_of_stacks default (map line_stack lines.now)) }
     ensures too_large { IsErrOf result ReadFault.TooLarge → 2 ^ 64 ≤ sum_by (λ l. l.size) lines.now }

@@ -15,8 +15,8 @@ pub returns-in-Err-clause-absent : goal.returns-in-Err-clause-absent
 returns-in-Err-clause-absent c =
     let K = key_at c.args.nodes.now in
     gap_part c.args.chunks.now c.loop-chunk.chunk c.index-chunks-chunk.result c.loop-chunk-test.true
-    c.as_slice-numbers.ensures.value K c.requires.rise c.args.key.now c.loop-chunk.invariant c.in-Err.index
-    c.in-Err.ensures.absent (omega (arith, length-map c.as_slice-numbers.result.now K))
+    c.as_slice-numbers.ensures.value c.args.nodes.now c.requires.rise c.args.key.now c.loop-chunk.invariant
+    c.in-Err.index c.in-Err.ensures.absent (omega (arith, length-map c.as_slice-numbers.result.now K))
 
 pub loop-chunk-preserved : goal.loop-chunk-preserved
 loop-chunk-preserved c =
@@ -26,5 +26,5 @@ loop-chunk-preserved c =
     let next = before_more cs c.loop-chunk.chunk c.index-chunks-chunk.result c.loop-chunk-test.true
     c.as_slice-numbers.ensures.value in
     λ j lt. less_part cs c.loop-chunk.chunk c.index-chunks-chunk.result c.loop-chunk-test.true
-    c.as_slice-numbers.ensures.value K c.requires.rise c.args.key.now c.loop-chunk.invariant c.in-Err.index
-    c.in-Err.ensures.absent j (omega (arith, length-map xs K))
+    c.as_slice-numbers.ensures.value c.args.nodes.now c.requires.rise c.args.key.now c.loop-chunk.invariant
+    c.in-Err.index c.in-Err.ensures.absent j (omega (arith, length-map xs K))

@@ -45,15 +45,6 @@ pub interleave-returns-clause-merged : goal.interleave-returns-clause-merged
 interleave-returns-clause-merged t c = let end = c.in_default.ensures.end in
     merges_all c.loop-child.invariant.merged end.0 end.1
 
-pub take_next-merge-added-requires : goal.take_next-merge-added-requires
-take_next-merge-added-requires t c =
-    let items = c.pop_front-in-Equal-2.ensures.items in
-    let mine = front_total _ c.pop_front-in-Equal.ensures.items c.unwrap-child.ensures in
-    let theirs = front_total _ items c.unwrap-in-Equal.ensures in (
-      omega (arith, c.decreases, front_rows _ items c.unwrap-in-Equal.ensures),
-      omega (arith, mine, theirs, c.requires.fits),
-    )
-
 pub take_next-returns-in-Less-clause-next : goal.take_next-returns-in-Less-clause-next
 take_next-returns-in-Less-clause-next t c =
     next_less (front_is c.pop_front.ensures.items c.unwrap.ensures) c.requires.mine c.requires.theirs

@@ -1,19 +1,14 @@
--- of add_up: that the bytes of all lines exceed a word, and the step of its loop
+-- of add_up: the step of its loop
 use Rattle.std.proofs.Common.{◌≡◌, ◌++◌, [], List, Bor, ℕ, get_or, ap, ◌∙◌, lit<, Ok, arith}
 use Rattle.allocative_graph.proofs.Common.{YieldsList-from_str_split, Line, Path, sum_of, graph_of_path, take_more}
 use Rattle.allocative_graph.specs.Read.{keys_of}
 use Rattle.std.proofs.lemmas.{Iterator.Adapters.fact_from_extend, Iterator.Consumers.YieldsList-at}
-use Rattle.allocative_graph.proofs.{Text.texts, ReadBack.lines_exceed, ReadBack.line_more}
+use Rattle.allocative_graph.proofs.{Text.texts, ReadBack.line_more}
 use Rattle.allocative_graph.proofs.read.add_up.Goals as goal
 
 -- What the code reads behind the last line.
 abbrev no_line : Line
 no_line = record { path = record { ref_ptr = (0, 0); now = [] }; size = 0 }
-
-pub returns-then-line-total_size-clause-too_large : goal.returns-then-line-total_size-clause-too_large
-returns-then-line-total_size-clause-too_large c = λ _.
-    lines_exceed c.args.lines.now c.loop-line.line-index no_line c.loop-line.graph c.loop-line-test.true
-    c.loop-line.invariant (omega (arith, c.total_size.ensures.total, c.if-line-total_size.true))
 
 pub loop-line-preserved : goal.loop-line-preserved
 loop-line-preserved c =

@@ -1,9 +1,7 @@
 -- A node with this parent and this key is the child, and no other node is.
-use Rattle.std.proofs.Common.{◌≡◌, ◌≢◌, ◌-◌, ◌^◌, ◌<◌, ◌↔◌, false, List, length, true≢false, arith, sym, ap, subst, ◌∙◌}
-use Rattle.std.proofs.Common.{eqb-true}
+use Rattle.std.proofs.Common.{◌≡◌, ◌≢◌, ◌-◌, ◌^◌, ◌<◌, ◌↔◌, false, length, arith, sym, ap, ◌∙◌}
 use Rattle.allocative_collectors.proofs.Common.{Node, IsEntered, parent_at, at, no_node}
 use Rattle.std.proofs.lemmas.Slice.Eq.{bytes_eq-Decides}
-use Rattle.allocative_collectors.proofs.Labels.{length_sums}
 use Rattle.allocative_collectors.proofs.NodeReads.{in_nodes, was_entered, child_of}
 use Rattle.allocative_collectors.proofs.tree.Tree.is_child.Goals as goal
 use Rattle.allocative_collectors.proofs.tree.Tree.is_child.Goals.{In-Some}
@@ -43,21 +41,4 @@ returns-then-node-at c =
     let same_keys = bytes_eq-Decides c.args.key.now c.in-Some.node.now.key in (
       (λ same. (guess here).1 (c.if-node-at.true, sym (same_keys.0 (sym c.eq.ensures ∙ same)))),
       (λ entered. c.eq.ensures ∙ same_keys.1 (sym ((guess here).0 entered).1)),
-    )
-
-pub returns-else-node-at : goal.returns-else-node-at
-returns-else-node-at c = (
-  (λ is. absurd (c.if-node-at.false (eqb-true _ _ is))),
-  (λ entered. absurd (c.if-node-at.false ((guess (goal.at.returns-else-node-at c).In-Some).0 entered).0)),
-)
-
-pub returns-in-None : goal.returns-in-None
-returns-in-None c =
-    let items = c.self.inside.nodes.items in (
-      (λ is. absurd (true≢false (sym is))),
-      (λ entered.
-          let inside : c.args.number < length items =
-          omega (arith, length_sums items, ap length c.self.view_is, entered.within) in
-          absurd (true≢false (sym (c.in-None.ensures.lookup.2
-          (subst (λ (l : List Node). c.args.number < length l) (sym c.deref.ensures.value) inside))))),
     )

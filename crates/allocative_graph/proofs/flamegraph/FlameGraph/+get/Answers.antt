@@ -15,14 +15,3 @@ pub returns-in_default-place_by_halving-clause-missing : goal.returns-in_default
 returns-in_default-place_by_halving-clause-missing t c =
     missing_key c.self.view_is c.self.invariant c.as_slice-children.ensures.value (ap texts c.in-Some.ensures.cases.0)
     c.in_default-place_by_halving.ensures.missing
-
-pub returns-clause-found : goal.returns-clause-found
-returns-clause-found t c = IfSome_then c.get.result c.get.ensures.found (λ g.
-    behind_child c.self.view_is c.self.invariant c.as_slice-children.ensures.value (ap texts c.in-Some.ensures.cases.0)
-    c.index-children-place.result c.in-Ok.ensures.found g.now)
-
-pub returns-clause-missing : goal.returns-clause-missing
-returns-clause-missing t c = none_implies _ _
-    (missing_child c.self.view_is c.self.invariant c.as_slice-children.ensures.value
-    (ap texts c.in-Some.ensures.cases.0) c.index-children-place.result c.in-Ok.ensures.found)
-    c.get.result c.get.ensures.missing
