@@ -269,19 +269,19 @@ module _ {n s : ℕ} {cs : List Child} {g : Graph} (view : node n cs ≡ g) (h :
       (total_at-child n cs j d q h.children.sorted w))) i)
 
 -- ---- one child merged into the children of a node with the graph g
-module _ {n s : ℕ} {cs es : List Child} {g : Graph} {c : Child} (view : node n cs ≡ g) (h : IsNode cs s n)
-    (t : IsTree c.graph) (m : Merged true cs (c ∷ []) es) where
+module _ {n s : ℕ} {cs es : List Child} {g f : Graph} {k : Key} (view : node n cs ≡ g) (h : IsNode cs s n)
+    (t : IsTree f) (m : Merged true cs (record { key = k; graph = f } ∷ []) es) where
   -- The node has the graph under the key of the child added.
-  pub sum_grown : node n es ≡ sum_of g (under c.key c.graph)
-  sum_grown = added_sum (added_under c view h t m) refl
+  pub sum_grown : node n es ≡ sum_of g (under k f)
+  sum_grown = added_sum (added_under (record { key = k; graph = f }) view h t m) refl
 
   -- What holds of each node holds of it with the bytes of the child.
-  pub node_grown : {added : ℕ} → added ≡ total c.graph → total g + total c.graph < 2 ^ 64 → IsNode es (s + added) n
+  pub node_grown : {added : ℕ} → added ≡ total f → total g + total f < 2 ^ 64 → IsNode es (s + added) n
   node_grown is fits =
       let own = total_of_node view h in
-      let all : n + total_of es ≡ total g + total c.graph =
-      sym (total-node n es m.children.sorted) ∙ ap total sum_grown ∙ total-sum_of g (under c.key c.graph)
-      ∙ ap (λ k. total g + k) (total-under c.key c.graph) in
+      let all : n + total_of es ≡ total g + total f =
+      sym (total-node n es m.children.sorted) ∙ ap total sum_grown ∙ total-sum_of g (under k f)
+      ∙ ap (λ k. total g + k) (total-under k f) in
       record {
         children = m.children;
         size = omega (arith, all, own, h.size);
@@ -289,10 +289,11 @@ module _ {n s : ℕ} {cs es : List Child} {g : Graph} {c : Child} (view : node n
       }
 
 -- A child that comes after all others is put at the end.
-pub pushed : {n s : ℕ} {cs : List Child} {g : Graph} (view : node n cs ≡ g) → IsNode cs s n → (c : Child) →
-    IsTree c.graph → ComesLast g c.key → Merged true cs (c ∷ []) (cs ++ c ∷ [])
-pushed {n = n} {cs = cs} view h c t last =
+pub pushed : {n s : ℕ} {cs : List Child} {g f : Graph} {k : Key} → node n cs ≡ g → IsNode cs s n → IsTree f →
+    ComesLast g k → let c : Child = record { key = k; graph = f } in Merged true cs (c ∷ []) (cs ++ c ∷ [])
+pushed {n = n} {cs = cs} {f = f} {k = k} view h t last =
     let o = h.children.sorted in
+    let c : Child = record { key = k; graph = f } in
     put_at_gap c refl (record {
       within = omega arith;
       between = (
@@ -413,3 +414,6 @@ pub ruleset more_rows = (flat_map_more, figures_of_node)
 
 -- What the graph at a path needs of the child on the way.
 pub ruleset behind = (behind_child, missing_child, none_implies)
+
+-- What a child that is added leaves.
+pub ruleset adding_child = (total_of_node, grown, sum_grown)

@@ -173,7 +173,7 @@ impl FlameGraph {
     /// time quadratic in their number. [`add_children`](FlameGraph::add_children) adds many at once.
     ///
     /// The errors, and what they leave, are those of [`add`](FlameGraph::add).
-    #[tactic(auto, using(crate::proofs::Nodes::total_of_node, crate::proofs::Nodes::grown))]
+    #[tactic(auto, using(crate::proofs::Nodes::adding_child))]
     pub fn add_child(&mut self, key: Key, child: FlameGraph) -> Result<(), Refusal>
         ensures sum { OnOk result (self.new ≡ sum_of self.old (under key child)) }
         ensures too_large { IsErrOf result Refusal.TooLarge ↔ ExceedWord self.old child }

@@ -1,5 +1,5 @@
--- of add_child: part and sum
-use Rattle.allocative_graph.proofs.{Common.Child, Nodes.added_under, Nodes.sum_grown}
+-- of add_child: part
+use Rattle.allocative_graph.proofs.{Common.Child, Nodes.added_under}
 use Rattle.allocative_graph.proofs.flamegraph.FlameGraph.add_child.Goals as goal
 
 pub returns-in_err-put_child-clause-part : goal.returns-in_err-put_child-clause-part
@@ -7,7 +7,3 @@ returns-in_err-put_child-clause-part c e =
     let child : Child = record { key = c.args.key; graph = c.args.child } in
     λ p. ((added_under child c.self.view_is c.self.invariant c.total_size.ensures.tree
     c.put_child.ensures.merged).adds p).0
-
-pub returns-clause-sum : goal.returns-clause-sum
-returns-clause-sum c =
-    sum_grown c.self.view_is c.self.invariant c.total_size.ensures.tree c.in_ok-put_child.ensures.merged
