@@ -9,7 +9,7 @@ use Rattle.allocative_collectors.proofs.Common.{get_or_past, take_all, take-leng
 use Rattle.std.specs.List.Sorted.{IsSearchInRange, IsBinarySearchResult, IsSortedBy}
 use Rattle.std.proofs.lemmas.Option.{get_or_from_slice_get, slice_get_within, slice_get-get_or}
 use Rattle.std.proofs.lemmas.List.Sorted.{searchable_from_sorted}
-use Rattle.allocative_collectors.proofs.Keys.{key_total, key_same}
+use Rattle.allocative_collectors.proofs.Arena.{key_total, key_same}
 use Rattle.std.proofs.lemmas.List.Concat.{get_or-flat_map, length-flat_map}
 use Rattle.std.proofs.lemmas.List.Folds.{length-flat_map-take}
 use Rattle.std.proofs.lemmas.List.Sums.{sum_by_more}

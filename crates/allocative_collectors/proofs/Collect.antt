@@ -1,7 +1,7 @@
 -- The parts of a flame graph's collector after each step: an entry, a visitor that is entered or left, an identity
 -- that is met.
-use Rattle.std.proofs.Common.{◌≡◌, ℕ, ◌+◌, ◌^◌, ◌<◌, Bool, true, false, cond, not, ◌||◌, ◌&&◌, ◌==◌, List, []}
-use Rattle.std.proofs.Common.{rules, ◌∷◌, ◌++◌, map, reverse, length, refl, sym, ap, ◌∙◌, arith, length-append, ◌↔◌}
+use Rattle.std.proofs.Common.{◌≡◌, ℕ, ◌+◌, ◌^◌, ◌<◌, Bool, true, false, cond, not, ◌||◌, ◌&&◌, ◌==◌, List, [], rules}
+use Rattle.std.proofs.Common.{◌∷◌, ◌++◌, map, reverse, length, refl, sym, ap, ◌∙◌, arith, length-append, ◌↔◌}
 use Rattle.allocative_collectors.proofs.Common.{contains, Key, Path, Live, go, leave_live, enter_live, Listed, path_at}
 use Rattle.allocative_collectors.proofs.Common.{map_of, live, IsPlaced, map-append, length-map, nil_from_length}
 use Rattle.allocative_collectors.proofs.Common.{nat_tests, list_any, IsAbove, reverse-append, length-reverse}
@@ -13,8 +13,7 @@ use Rattle.allocative_graph.specs.Sums as bag
 use Rattle.allocative_graph.proofs.Basics.{identity_total, identity_antisymmetric, same_identity_turned}
 use Rattle.allocative_collectors.specs.Places.{to_root, outside, back_from, back_at, AddedAt}
 use Rattle.allocative_collectors.proofs.Entries.{bytes_more, length_entered, path_entered, map_of-entered, mark_of}
-use Rattle.allocative_collectors.proofs.Keys.{map_same}
-use Rattle.allocative_collectors.proofs.Labels.{not_nil}
+use Rattle.allocative_collectors.proofs.Arena.{map_same, not_nil}
 
 -- ---- the identities
 -- equal in both parts

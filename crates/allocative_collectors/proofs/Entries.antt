@@ -14,7 +14,7 @@ use Rattle.allocative_graph.specs.Graph.{remaining}
 use Rattle.allocative_graph.proofs.Basics.{path_total, same_path}
 use Rattle.allocative_graph.proofs.Sums.{get-add, same_sums, below-add, bytes_entered-add, entries-empty}
 use Rattle.allocative_graph.proofs.Showings.{get-graph, get-graph-root}
-use Rattle.allocative_collectors.proofs.Keys.{same_path-same, same_path-apart}
+use Rattle.allocative_collectors.proofs.Arena.{same_path-same, same_path-apart}
 
 -- each path that was listed before keeps its place
 path_put : (i : ℕ) (p : Path) (n : ℕ) (u : Bool) (s : Listed) (j : ℕ) → j < length s →

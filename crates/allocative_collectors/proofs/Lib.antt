@@ -1,9 +1,6 @@
 pub mod Common
-pub mod Keys
-pub mod Labels
-pub mod Made
+pub mod Arena
+pub mod NodeReads
 pub mod Collect
 pub mod Entries
-pub mod Grown
 pub mod Chunks
-pub mod NodeReads

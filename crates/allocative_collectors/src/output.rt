@@ -25,7 +25,7 @@ impl WarnedPath {
     /// Whether the path is the entry `data` of a map or a set of std. Such a path has a warning as soon as its contents
     /// exceed 8 bytes. It ends in `BTreeMap`, `BTreeSet`, `HashMap` or `HashSet`, and then `data`. The keys alone
     /// decide, so a type of your own with one of these names counts too.
-    #[tactic(auto, using(crate::proofs::Keys::last_keys))]
+    #[tactic(auto, using(crate::proofs::Arena::last_keys))]
     pub fn is_of_std(&self) -> bool
         ensures { result ≡ is_std_data (warning_of self.now).path }
     {

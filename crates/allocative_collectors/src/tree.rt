@@ -146,7 +146,7 @@ impl Tree {
 
     /// The node one key above, or None for the root.
     #[inline(always)]
-    #[tactic(auto, using(crate::proofs::Labels::root_at, crate::proofs::NodeReads::above_is))]
+    #[tactic(auto, using(crate::proofs::Arena::root_at, crate::proofs::NodeReads::above_is))]
     pub(crate) fn parent(&self, node: usize) -> Option<usize>
         requires { node < length self.now }
         ensures above { IfSome result (IsAbove self.now node) }

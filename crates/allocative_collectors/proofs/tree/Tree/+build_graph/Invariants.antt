@@ -1,7 +1,7 @@
 -- The list of keys is unchanged, and the graph has the node and its children so far.
 use Rattle.std.proofs.Common.{◌≡◌, ◌-◌, length, map}
 use Rattle.allocative_collectors.proofs.Common.{keys_at, path_at, warning_of, numbers, MakesPart}
-use Rattle.allocative_collectors.proofs.Made.{begun}
+use Rattle.allocative_collectors.proofs.NodeReads.{begun}
 use Rattle.allocative_collectors.proofs.tree.Tree.+build_graph.Given as goal
 
 abbrev pub decreases-build_graph : goal.decreases-build_graph

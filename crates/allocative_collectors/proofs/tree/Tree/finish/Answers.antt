@@ -5,8 +5,7 @@ use Rattle.allocative_collectors.proofs.Common.{Sums, below, warning_text, flat_
 use Rattle.std.specs.FinMap.{same_map}
 use Rattle.allocative_graph.specs.Graph.{warned, warning, warning_line, warned_paths}
 use Rattle.allocative_graph.proofs.Basics.{path_total, path_antisymmetric}
-use Rattle.allocative_collectors.proofs.Made.{part_fits}
-use Rattle.allocative_collectors.proofs.NodeReads.{listing_of}
+use Rattle.allocative_collectors.proofs.NodeReads.{part_fits, listing_of}
 use Rattle.allocative_graph.specs.Sums.{Node}
 use Rattle.allocative_collectors.proofs.tree.Tree.finish.Goals as goal
 

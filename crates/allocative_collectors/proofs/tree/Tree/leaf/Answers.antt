@@ -1,7 +1,7 @@
 -- The graph of a node with no children has its own size alone, and no warning.
 use Rattle.std.proofs.Common.{ap, ◌∙◌}
 use Rattle.allocative_collectors.proofs.Common.{add_self}
-use Rattle.allocative_collectors.proofs.Made.{leaf_made}
+use Rattle.allocative_collectors.proofs.NodeReads.{leaf_made}
 use Rattle.allocative_collectors.proofs.tree.Tree.leaf.Goals as goal
 
 pub returns-in-Ok : goal.returns-in-Ok
