@@ -12,7 +12,7 @@ use Rattle.allocative_graph.specs.Forest.{Entry}
 use Rattle.allocative_graph.specs.Sums as bag
 use Rattle.allocative_graph.proofs.Basics.{identity_total, identity_antisymmetric, same_identity_turned}
 use Rattle.allocative_collectors.specs.Places.{to_root, outside, back_from, back_at, AddedAt}
-use Rattle.allocative_collectors.proofs.Entries.{bytes_more, length_entered, path_entered, map_of-entered, mark_of}
+use Rattle.allocative_collectors.proofs.Arena.{bytes_more, length_entered, path_entered, map_of-entered, mark_of}
 use Rattle.allocative_collectors.proofs.Arena.{map_same, not_nil}
 
 -- ---- the identities

@@ -19,9 +19,9 @@ use Rattle.allocative_graph.proofs.Sums.{one_below_is}
 use Rattle.allocative_collectors.proofs.Arena.{key_total, same_path-same, same_path-apart, map_same, path_of}
 use Rattle.allocative_collectors.proofs.Arena.{path_from-some, grow_push, grow_set, put_push, length_sums, not_nil}
 use Rattle.allocative_collectors.proofs.Arena.{root_at, step, key_place, distinct, figures-grow, grown, arena_set}
-use Rattle.allocative_collectors.proofs.Arena.{arena_grown, key_same}
-use Rattle.allocative_collectors.proofs.Entries.{put_nothing, raise_nothing, IsListing, below_listed, not_below_root}
-use Rattle.allocative_collectors.proofs.Entries.{get_at, found_fits, graph_hit, graph_none, get_none}
+use Rattle.allocative_collectors.proofs.Arena.{arena_grown, key_same, put_nothing, raise_nothing, IsListing}
+use Rattle.allocative_collectors.proofs.Arena.{below_listed, not_below_root, get_at, found_fits, graph_hit, graph_none}
+use Rattle.allocative_collectors.proofs.Arena.{get_none}
 use Rattle.std.specs.FinMap.{get-entries, FinMap, entries_sorted, find, get-insert}
 use Rattle.std.proofs.lemmas.List.Sums.{sum_by-set, sum_by-le, sum-map, sum_by-append, sum_by-le-sum_by}
 use Rattle.std.proofs.lemmas.List.Elements.{All-contains, All-weaker}

@@ -100,7 +100,7 @@ impl Tree {
     ///
     /// Entries often come in the same order as before, so the child that followed the last one is tried first.
     #[inline(always)]
-    #[tactic(auto, using(crate::proofs::Entries::entered_twice))]
+    #[tactic(auto, using(crate::proofs::Arena::entered_twice))]
     pub(crate) fn enter(
         &mut self,
         room: &mut usize,
@@ -296,7 +296,7 @@ impl Tree {
     /// Enters under a key that was not expected. The room has the bytes.
     #[cold]
     #[inline(never)]
-    #[tactic(auto, using(crate::proofs::Entries::length_entered, crate::proofs::Entries::bytes_more))]
+    #[tactic(auto, using(crate::proofs::Arena::length_entered, crate::proofs::Arena::bytes_more))]
     fn enter_unexpected(
         &mut self,
         room: &mut usize,

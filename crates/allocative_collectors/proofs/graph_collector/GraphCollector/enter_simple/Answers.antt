@@ -1,7 +1,7 @@
 -- The tree has one more entry, and the current place stays.
 use Rattle.std.proofs.Common.{false, ap, ◌∙◌, arith}
 use Rattle.allocative_collectors.proofs.Common.{Live, enter_live, leave_live}
-use Rattle.allocative_collectors.proofs.Entries.{length_entered}
+use Rattle.allocative_collectors.proofs.Arena.{length_entered}
 use Rattle.allocative_collectors.proofs.Collect.{placed_added, fits_map, live_added}
 use Rattle.allocative_collectors.proofs.graph_collector.GraphCollector.enter_simple.Goals as goal
 

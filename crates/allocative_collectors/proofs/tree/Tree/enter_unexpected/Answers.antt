@@ -1,6 +1,6 @@
 -- An entry of 0 bytes, and then one of all bytes.
 use Rattle.std.proofs.Common.{arith}
-use Rattle.allocative_collectors.proofs.Entries.{entered_twice}
+use Rattle.allocative_collectors.proofs.Arena.{entered_twice}
 use Rattle.allocative_collectors.proofs.tree.Tree.enter_unexpected.Goals as goal
 
 pub returns-clause-entered : goal.returns-clause-entered
