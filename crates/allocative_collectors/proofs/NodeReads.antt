@@ -693,3 +693,7 @@ leaf_made {items} {lists} ok {v} view p hp {c} read empty {n} at g is w =
     made_all ok view p hp w w g 0 (omega (arith, none, length-map (children_at (map numbers lists) p) (key_at items)))
     (part_start v (listing_of ok view) p hp (keys_at items (map numbers lists) p) w w g
     (is ∙ ap (λ (m : ℕ). add_self m default) size) (none_warned v p w short))
+
+-- What the walk of `build_graph` needs of a node's children.
+pub ruleset walking = (in_nodes, children_read, listing_of, listed_within, listed_bytes, child_read, own_fits,
+    total-default)

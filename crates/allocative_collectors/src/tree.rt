@@ -179,6 +179,7 @@ impl Tree {
     /// Makes `graph` that of the node `at` and all below it. Those of their paths that have a warning are appended to
     /// `warned`; `keys` is the node's path. The graph is no result, so that a level of the walk takes less of the
     /// stack.
+    #[tactic(auto, using(crate::proofs::NodeReads::walking))]
     fn build_graph(
         &self,
         at: usize,

@@ -10,4 +10,3 @@ pub mod ReadBack
 pub mod Sums
 pub mod Children
 pub mod Showings
-pub mod Using

@@ -10,12 +10,14 @@ use Rattle.allocative_graph.proofs.Common.{Adds, Added, Merged, entries-node, le
 use Rattle.allocative_graph.proofs.Common.{default, add_self, IsFound, get, graph_of_path, child_of_path, eq_by_cmp}
 use Rattle.allocative_graph.proofs.Common.{IsBehind, HasNothing, begins, total_at, InOrder, IsChildGap, Figures}
 use Rattle.allocative_graph.proofs.Common.{figures_behind, under_rows, map-append, flat_map-append, take_more}
+use Rattle.allocative_graph.proofs.Common.{exact_bytes, nil_from_length}
 use Rattle.std.specs.List.Sorted.{IsStrictlySortedBy}
 use Rattle.allocative_graph.specs.Rows.{ComesLast}
 use Rattle.allocative_graph.proofs.Children.{put_at_gap, merged_same, put_at_found, with_graph, get-root, get-under}
-use Rattle.allocative_graph.proofs.Children.{node_of_one, one_child, total-node, no_children, insert_root}
-use Rattle.allocative_graph.proofs.Children.{node_nil, rows-cons, Lacks, lacks_equal, size_under-lacks, read-lacks}
-use Rattle.allocative_graph.proofs.Children.{read-found, other_than}
+use Rattle.allocative_graph.proofs.Children.{node_of_one, one_child, total-node, no_children, insert_root, node_nil}
+use Rattle.allocative_graph.proofs.Children.{rows-cons, Lacks, lacks_equal, size_under-lacks, read-lacks, read-found}
+use Rattle.allocative_graph.proofs.Children.{other_than, at_last, below_last, fits_at_found, last_total, total_at_found}
+use Rattle.allocative_graph.proofs.Children.{total_at_gap}
 use Rattle.std.proofs.lemmas.List.Folds.{fold_stays, length-flat_map-take}
 use Rattle.std.proofs.lemmas.{List.Sums.sum_by_more_le, List.take_all, List.drop_all, List.set-get_or, Bool.cases_lt}
 use Rattle.std.proofs.lemmas.{List.Elements.recursion_from_All, List.Concat.length-flat_map}
@@ -417,3 +419,30 @@ pub ruleset behind = (behind_child, missing_child, none_implies)
 
 -- What a child that is added leaves.
 pub ruleset adding_child = (total_of_node, grown, sum_grown)
+
+-- Those of bytes added to the root.
+pub ruleset adding_self = (total_of_node, own_of_node, insert_root)
+
+-- Those of two nodes that become one.
+pub ruleset merging = (total_of_both, len_of_node, merged_node, grown, last_total)
+
+-- Those of a copied node.
+pub ruleset copying = (nil_from_length, entries_of_node, own_of_node)
+
+-- Those of a key's place among children.
+pub ruleset placing = (at_last, below_last, exact_bytes)
+
+-- Those of a child put among children.
+pub ruleset putting = (total_at_gap, total_at_found, fits_at_found)
+
+-- Those of bytes added at a path of a graph.
+pub ruleset adding_at = (total_of_node, sum_raised, at_one_path, nil_from_length)
+
+-- Those of bytes added at a path below children.
+pub ruleset adding_below = (fits_at_found, put_at_gap, set_back, at_one_path)
+
+-- Those of a node without children.
+pub ruleset leaf = (node_leaf, no_children, nil_from_length)
+
+-- Those of the number of paths.
+pub ruleset counting = (take_all, paths_in, child_within)

@@ -133,7 +133,7 @@ impl FlameGraph {
     /// Adds bytes to the size of the root. It allocates nothing.
     ///
     /// It returns `TooLarge` exactly if the total would exceed `usize::MAX`, and then changes nothing.
-    #[tactic(auto, using(crate::proofs::Using::adding_self))]
+    #[tactic(auto, using(crate::proofs::Nodes::adding_self))]
     pub fn add_self(&mut self, size: usize) -> Result<(), Refusal>
         ensures sum { OnOk result (self.new ≡ add_self size self.old) }
         ensures too_large { IsErrOf result Refusal.TooLarge ↔ (2 ^ 64 ≤ total self.old + size) }
@@ -241,7 +241,7 @@ impl FlameGraph {
     // Adds another graph when the totals are known to fit. It is inlined, so that a level of the walk takes less of the
     // stack.
     #[cycle(merge)]
-    #[tactic(auto, using(crate::proofs::Using::merging))]
+    #[tactic(auto, using(crate::proofs::Nodes::merging))]
     #[inline(always)]
     fn merge(&mut self, other: FlameGraph) -> Result<(), AllocError>
         requires { total self.old + total other < 2 ^ 64 }
@@ -396,7 +396,7 @@ impl FlameGraph {
     }
 
     // Whether the root has no children.
-    #[tactic(auto, using(crate::proofs::Using::copying))]
+    #[tactic(auto, using(crate::proofs::Nodes::copying))]
     fn is_leaf(&self) -> bool
         ensures { OnTrue result (entries self.now ≡ ([], size_at self.now []) ∷ []) }
     {
@@ -495,7 +495,7 @@ fn push_keys(keys: &[&str], text: &mut String) -> Result<(), AllocError>
 
 // The place of the key among the children, or else the place where it belongs. One comparison recognizes the last key
 // and a key after it, so that children added in order are put at the end without a search.
-#[tactic(auto, using(crate::proofs::Using::placing))]
+#[tactic(auto, using(crate::proofs::Nodes::placing))]
 fn place_of(children: &[Child], key: &Key) -> Result<usize, usize>
     requires { InOrder children.now }
     ensures found { IfOk result (IsFound children.now key.now) }
@@ -527,7 +527,7 @@ fn place_by_halving(children: &[Child], key: &str) -> Result<usize, usize>
 
 // Adds a child: to the child with its key, or at its place among the others.
 #[cycle(merge)]
-#[tactic(auto, using(crate::proofs::Using::putting))]
+#[tactic(auto, using(crate::proofs::Nodes::putting))]
 fn put_child(children: &mut Vec<Child>, size: &mut usize, child: Child) -> Result<(), AllocError>
     requires children { AreChildren children.old.items }
     requires size { size.old ≡ total_of children.old.items }

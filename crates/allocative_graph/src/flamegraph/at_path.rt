@@ -15,7 +15,7 @@ use std::alloc::{AllocError, Global};
 /// It requires that the total remains at most `usize::MAX`. It returns an error only when memory runs out; then the
 /// graph is unchanged.
 #[cycle(walk)]
-#[tactic(auto, using(crate::proofs::Using::adding_at))]
+#[tactic(auto, using(crate::proofs::Nodes::adding_at))]
 pub fn add_at(graph: &mut FlameGraph, path: &[&'static str], size: usize) -> Result<(), AllocError>
     requires fits { total graph.old + size < 2 ^ 64 }
     ensures sum { OnOk result (graph.new ≡ sum_of graph.old (graph_of_path (texts path.now) size)) }
@@ -32,7 +32,7 @@ pub fn add_at(graph: &mut FlameGraph, path: &[&'static str], size: usize) -> Res
 
 // Adds bytes at a path below the child with the key, which is made if it is missing.
 #[cycle(walk)]
-#[tactic(auto, using(crate::proofs::Using::adding_below))]
+#[tactic(auto, using(crate::proofs::Nodes::adding_below))]
 #[inline(always)]
 fn add_below(
     children: &mut Vec<Child>,
@@ -74,7 +74,7 @@ fn put_path(
 }
 
 // The graph that has bytes at one path alone.
-#[tactic(auto, using(crate::proofs::Using::leaf))]
+#[tactic(auto, using(crate::proofs::Nodes::leaf))]
 fn graph_of_path(
     alloc: Global,
     path: &[&'static str],

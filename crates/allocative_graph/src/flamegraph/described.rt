@@ -18,7 +18,7 @@ impl Described for FlameGraph {
 
 impl FlameGraph {
     /// The number of paths, with that of the root. `None` exactly if it exceeds `usize::MAX`. It allocates nothing.
-    #[tactic(auto, using(crate::proofs::Using::counting))]
+    #[tactic(auto, using(crate::proofs::Nodes::counting))]
     pub fn path_count(&self) -> Option<usize>
         ensures { SomeIff result (len self.now < 2 ^ 64) (len self.now) }
     {

@@ -39,36 +39,11 @@ child : (t : ℕ) (c : In_ok-children t) (j : ℕ) → j < length c.in_ok-childr
     × ((d : Node) → (let m = get_or c.self.inside.nodes.items i d in m.key ≡ key_in (keys t c) j))
 child t c = child_read c.self.invariant c.self.view_is c.args.at c.in_ok-children.children.now (children t c)
 
-pub bytes_of-size_below-requires-clause-within : goal.bytes_of-size_below-requires-clause-within
-bytes_of-size_below-requires-clause-within t c = listed_within c.self.invariant c.self.view_is c.args.at
-    c.requires.within c.index.ensures c.deref.ensures.value c.in_ok-children.ensures
-
 pub bytes_of-size_below-requires-clause-fits : goal.bytes_of-size_below-requires-clause-fits
 bytes_of-size_below-requires-clause-fits t c =
     let whole = listed_bytes c.self.invariant c.self.view_is c.args.at c.requires.within c.index.ensures
     c.deref.ensures.value c.in_ok-children.ensures in
     omega (arith, whole, below_fits (map_of c.args.self.now) (path_at c.args.self.now c.args.at), c.requires.fits)
-
-pub figures-size-requires-clause-below : goal.figures-size-requires-clause-below
-figures-size-requires-clause-below t c = c.bytes_of-size_below.ensures
-    ∙ listed_bytes c.self.invariant c.self.view_is c.args.at c.requires.within c.index.ensures c.deref.ensures.value
-    c.in_ok-children.ensures
-
-pub index-requires-in-loop-child : goal.index-requires-in-loop-child
-index-requires-in-loop-child t c =
-    let there = child t (goal.at.index-requires-in-loop-child t c).In_ok-children c.loop-child.child-index
-    c.loop-child-test.true in
-    let node = in_nodes c.self.inside.nodes.items _ c.self.view_is there.1 in omega (arith, c.self.inside.nodes.ok.0)
-
-pub returns-in_err-add_self-clause-err : goal.returns-in_err-add_self-clause-err
-returns-in_err-add_self-clause-err t c =
-    let large : 2 ^ 64 ≤ total c.in_ok-graph.field-0 + c.figures-size.result.0 =
-    c.in_err-add_self.ensures.too_large.0 (ap (λ (r : Refusal). Err r) c.in_err-add_self.ensures.no_other) in
-    let own = own_fits c.args.self.now (listing_of c.self.invariant c.self.view_is) c.args.at
-    c.requires.within [] in
-    let none : total c.in_ok-graph.field-0 ≡ 0 = ap total c.in_ok-graph.ensures ∙ total-default in
-    absurd {A = IfErr c.from_residual-in_err-add_self.result (λ e. e ≡ Memory)}
-    (omega (arith, large, own, none, c.figures-size.ensures.size, c.requires.fits))
 
 pub loop-child-init : goal.loop-child-init
 loop-child-init t c =
@@ -96,10 +71,6 @@ loop-child-init t c =
       made = part_start v (listing_of
           c.self.invariant c.self.view_is) i c.requires.within (keys t here.In_ok-children) _ _ _ is found;
     }
-
-pub leaf-requires : goal.leaf-requires
-leaf-requires t c =
-    (child t (goal.at.leaf-requires t c).In_ok-children c.loop-child.child-index c.loop-child-test.true).1
 
 pub build_graph-requires : goal.build_graph-requires
 build_graph-requires t c =
