@@ -69,17 +69,13 @@ pub total-sum_of : (g h : Graph) → total (sum_of g h) ≡ total g + total h
 total-sum_of g h = total_at-sum_of g h []
 
 -- ---- the sum of graphs, path by path
--- If a test decides between `Some` and `None`, the option has a value exactly if the test is true.
-pub is_some-cond : {X : Type 0} (b : Bool) (x : X) → is_some (cond b (Some x) None) ≡ b
-is_some-cond b x = grind arith
-
 -- In the sum of two graphs, the size at a path is the sum of both sizes there.
 pub size_at-sum_of : (g h : Graph) (p : Path) → size_at (sum_of g h) p ≡ size_at g p + size_at h p
 size_at-sum_of g h p = rw (get-sum_of g h p) (grind arith)
 
 -- The sum of two graphs has a path exactly if either graph has it.
 pub has-sum_of : (g h : Graph) (p : Path) → contains_key (sum_of g h) p ≡ (contains_key g p || contains_key h p)
-has-sum_of g h p = ap is_some (get-sum_of g h p) ∙ is_some-cond (contains_key g p || contains_key h p) _
+has-sum_of g h p = rw (get-sum_of g h p) (grind arith)
 
 -- Graphs with the same sizes and the same paths are one.
 pub same_graph : (g h : Graph) → ((p : Path) → size_at g p ≡ size_at h p) →

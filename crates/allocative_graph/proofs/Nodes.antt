@@ -121,12 +121,6 @@ module _ {n s : ℕ} {cs ds : List Child} {g : Graph} {path : Path} {k : Key} {p
         nothing = whole-node k p n ds in_order ∙ whole-lacks k p ds none;
       })
 
--- ---- in terms of what a call returns
--- If P implies Q, P in the absence of a value implies Q in its absence.
-pub none_implies : {X : Type 0} (P Q : Type 0) → (P → Q) → (o : Option X) → IfNone o P → IfNone o Q
-none_implies P Q f None h = f h
-none_implies P Q f (Some x) h = h
-
 -- A child has fewer paths than its node.
 pub smaller_child : (n : ℕ) (cs : List Child) (i : ℕ) (d : Child) → InOrder cs → i < length cs →
     len (get_or cs i d).graph < len (node n cs)
@@ -157,12 +151,6 @@ figured-rows : (t : Path → ℕ) (ks : Path) (cs : List Child)
 figured-rows t ks [] h = refl
 figured-rows t ks (c ∷ cs) h =
     rw (map-append, ← figured-under t (total_at c.graph) ks c.key (entries c.graph) h.0, figured-rows t ks cs h.1)
-
--- What F makes of the items before a place and of the one there.
-pub flat_map_more : {X A : Type 0} (F : X → List A) (xs : List X) (i : ℕ) (d : X) → i < length xs → d ≡ get_or xs i d →
-    flat_map F (take (i + 1) xs) ≡ flat_map F (take i xs) ++ F d
-flat_map_more F xs i d w at = rw (take_more xs i d w, flat_map-append F (take i xs) (get_or xs i d ∷ []), ← at)
-    (ap (λ ys. flat_map F (take i xs) ++ ys) (append-nil (F d)))
 
 -- If all children are trees, they have with each path below a key also the path with its last key left out.
 has_parent : (cs : List Child) (l : Key) (p : Path) (k : Key) → AllByRecursion (λ (c : Child). IsTree c.graph) cs →
@@ -412,10 +400,10 @@ set_back cs i x g there is =
 pub ruleset at_one_path = (node_grown, sum_grown, tree-path, total-path)
 
 -- What the rows of one child more are.
-pub ruleset more_rows = (flat_map_more, figures_of_node)
+pub ruleset more_rows = (take_more, figures_of_node)
 
 -- What the graph at a path needs of the child on the way.
-pub ruleset behind = (behind_child, missing_child, none_implies)
+pub ruleset behind = (behind_child, missing_child)
 
 -- What a child that is added leaves.
 pub ruleset adding_child = (total_of_node, grown, sum_grown)

@@ -45,14 +45,10 @@ figure_after-zero r = grind arith
 pub figure_after-none : (r : Restore) (n : ℕ) → HasNoSpare r → figure_after r n ≡ r
 figure_after-none r n h = grind arith
 
--- An empty forest adds nothing.
-forest_bytes-nothing : (r : Restore) → forest_bytes r Empty ≡ 0
-forest_bytes-nothing r = grind arith
-
 -- ---- each
 -- An empty forest leaves a collector unchanged.
 pub plus-nothing : (c : Kind) → plus c Empty ≡ c
-plus-nothing c = grind (arith, forest_bytes-nothing, figure_after-zero)
+plus-nothing c = grind arith
 
 -- A collector has after two forests in one what it has after the first and then the second.
 pub plus-following : (c : Kind) (f g : Forest) → plus c (followed_by f g) ≡ plus (plus c f) g

@@ -25,7 +25,7 @@ use Rattle.std.proofs.lemmas.List.Splits.{length-slice_split, slice_split_none, 
 use Rattle.allocative_graph.proofs.Basics.{each-implies, each-map, path_total, same_path, key_itself}
 use Rattle.allocative_graph.specs.Graph.{line, ends_in, exact_text, lines_from, before_last, after_last, last_key}
 use Rattle.allocative_graph.specs.Graph.{without_lines, HasPlainKeys, HasWords}
-use Rattle.allocative_graph.proofs.Graphs.{size_at-default, is_some-cond, get-default, get-under, get-under-root}
+use Rattle.allocative_graph.proofs.Graphs.{size_at-default, get-default, get-under, get-under-root}
 use Rattle.allocative_graph.proofs.Graphs.{size_at-added_up, has-added_up, total-added_up, added_up-permuted}
 use Rattle.allocative_graph.proofs.Graphs.{total-default}
 use Rattle.allocative_graph.proofs.Nodes.{total-path}
@@ -74,9 +74,10 @@ size_at-path ks n p =
 has-stacks : (ss : List Stack) (p : Path) → contains_key (sum_of_stacks default ss) p ≡ is_path_of ss p
 has-stacks ss [] = has-added_up one_stack default ss []
     ∙ ap (λ o. is_some o || list_any (λ s. contains_key (one_stack s) []) ss) (get-default [])
-has-stacks ss (k ∷ p) = has-added_up one_stack default ss (k ∷ p)
-    ∙ (λ i. is_some (get-default (k ∷ p) i)
-    || list_any (λ s. (ap is_some (get-path s.path s.size (k ∷ p)) ∙ is_some-cond (begins (k ∷ p) s.path) _) i) ss)
+has-stacks ss (k ∷ p) =
+    let each : (s : Stack) → contains_key (one_stack s) (k ∷ p) ≡ begins (k ∷ p) s.path =
+    λ s. rw (get-path s.path s.size (k ∷ p)) (grind arith) in
+    has-added_up one_stack default ss (k ∷ p) ∙ (λ i. is_some (get-default (k ∷ p) i) || list_any (λ s. each s i) ss)
 
 -- The stacks one after another are their graph.
 graph-stacks : (ss : List Stack) → IsGraphOfStacks ss (sum_of_stacks default ss)

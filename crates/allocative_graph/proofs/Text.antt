@@ -24,10 +24,6 @@ lacks_not c [] x f = f.0 refl
 lacks_not c (d ∷ a) x f = lacks_not c a x f.1
 
 -- ---- decimals
--- The glyph of a digit is at least the glyph of 0.
-high : (d : ℕ) → 48 ≤ digit_glyph false d
-high d = grind arith
-
 -- If all bytes of a list are at least 48, so are all once digits are written before them.
 high_digits : (k n : ℕ) (acc : List ℕ) → AllByRecursion (λ b. 48 ≤ b) acc →
     AllByRecursion (λ b. 48 ≤ b) (digits_onto k 10 false n acc)
@@ -36,7 +32,7 @@ high_digits (suc k) n acc h =
     on_test (λ t. AllByRecursion (λ b. 48 ≤ b)
     (if t then digit_glyph false (n % 10) ∷ acc else digits_onto k 10 false (n / 10)
     (digit_glyph false (n % 10) ∷ acc))) (n / 10 == 0)
-    (λ e. (high (n % 10), h)) (λ e. high_digits k (n / 10) (digit_glyph false (n % 10) ∷ acc) (high (n % 10), h))
+    (λ e. (grind arith, h)) (λ e. high_digits k (n / 10) (digit_glyph false (n % 10) ∷ acc) (grind arith, h))
 
 -- The decimal of a number has no byte below 48, so neither a space nor a line feed.
 pub decimal_lacks : (c n : ℕ) → c < 48 → Lacks c (decimal n)

@@ -1,7 +1,6 @@
 -- of get: found and missing
-use Rattle.allocative_graph.proofs.Nodes.{behind_root, behind_child, missing_child, missing_key, none_implies}
-use Rattle.allocative_graph.proofs.Nodes.{tree_of_node}
-use Rattle.std.proofs.{Common.sym, Common.ap, Common.subst, lemmas.Option.IfSome_then}
+use Rattle.allocative_graph.proofs.Nodes.{behind_root, missing_key, tree_of_node}
+use Rattle.std.proofs.{Common.sym, Common.ap, Common.subst}
 use Rattle.allocative_graph.proofs.{Common.IsBehind, Common.nil_from_length, Text.texts}
 use Rattle.allocative_graph.proofs.flamegraph.FlameGraph.+get.Goals as goal
 

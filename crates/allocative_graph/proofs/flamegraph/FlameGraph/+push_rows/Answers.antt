@@ -4,7 +4,7 @@ use Rattle.allocative_graph.proofs.Common.{Figures, figures_behind, map_push, ro
 use Rattle.std.proofs.lemmas.List.Elements.{same_from_all_zip}
 use Rattle.allocative_graph.specs.declared.flamegraph.Row.{Row}
 use Rattle.allocative_graph.proofs.Text.{texts, popped}
-use Rattle.allocative_graph.proofs.Nodes.{child_figures, flat_map_more, figures_of_node}
+use Rattle.allocative_graph.proofs.Nodes.{child_figures, figures_of_node}
 use Rattle.allocative_graph.proofs.flamegraph.FlameGraph.+push_rows.Goals as goal
 
 pub returns-clause-rows : goal.returns-clause-rows
