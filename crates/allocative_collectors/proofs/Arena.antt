@@ -1,5 +1,5 @@
--- Keys and paths, the sums that an arena stands for, and an arena with one more node or with a node that is written; one
--- more entry in the listed sums, and what the map has at each place and after it.
+-- Keys and paths, the sums that an arena stands for, and an arena with one more node or with a node that is written.
+-- One more entry in the listed sums, and what the map has at each place and after it.
 use Rattle.std.proofs.Common.{◌≡◌, true, false, refl, sym, ℕ, suc, set, ◌-◌, ◌<◌, ◌≤◌, List, [], ◌∷◌, ◌++◌, length, map}
 use Rattle.std.proofs.Common.{get_or, drop, take, ◌∙◌, arith, zero, ◌+◌, Bool, append_assoc, append-nil, ap, ◌≢◌, rules}
 use Rattle.std.proofs.Common.{subst, inl, inr, length-set, add-zero, zero-add, cond, Some, None, sum_by}
@@ -402,14 +402,11 @@ tail_apart : (r e : ℕ) → suc r ≡ suc e → r ≡ e
 tail_apart r e w = omega arith
 
 -- ---- one more entry
-abbrev new_node : ℕ → Bool → Entered
-new_node n u = record { bytes = n; is_unique = u }
-
 -- After an entry at the only place of p, a search finds it added at p, and finds no change at other paths.
 find-put : (i : ℕ) (p q : Path) (n : ℕ) (u : Bool) (s : Listed) → path_at (put i p n u s) i ≡ p →
     ((j : ℕ) → j < length s → path_at s j ≡ p → j ≡ i) →
     find path_cmp q (map row (put i p n u s))
-    ≡ cond (is_same_path q p) (Some (together (find path_cmp p (map row s)) (new_node n u)))
+    ≡ cond (is_same_path q p) (Some (together (find path_cmp p (map row s)) (record { bytes = n; is_unique = u })))
     (find path_cmp q (map row s))
 find-put i p q n u [] is sole = refl
 find-put zero p q n u (e ∷ s) is sole =

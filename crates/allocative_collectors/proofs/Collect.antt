@@ -1,7 +1,7 @@
 -- The parts of a flame graph's collector after each step: an entry, a visitor that is entered or left, an identity
 -- that is met.
-use Rattle.std.proofs.Common.{◌≡◌, ℕ, ◌+◌, ◌^◌, ◌<◌, Bool, true, false, cond, not, ◌||◌, ◌&&◌, ◌==◌, List, [], rules}
-use Rattle.std.proofs.Common.{◌∷◌, ◌++◌, map, reverse, length, refl, sym, ap, ◌∙◌, arith, length-append, ◌↔◌}
+use Rattle.std.proofs.Common.{◌≡◌, ℕ, ◌+◌, ◌^◌, ◌<◌, Bool, true, false, cond, not, ◌&&◌, ◌==◌, List, [], rules, ◌∷◌}
+use Rattle.std.proofs.Common.{◌++◌, map, reverse, length, refl, sym, ap, ◌∙◌, arith, length-append, ◌↔◌}
 use Rattle.allocative_collectors.proofs.Common.{contains, Key, Path, Live, go, leave_live, enter_live, Listed, path_at}
 use Rattle.allocative_collectors.proofs.Common.{map_of, live, IsPlaced, map-append, length-map, nil_from_length}
 use Rattle.allocative_collectors.proofs.Common.{nat_tests, list_any, IsAbove, reverse-append, length-reverse}
@@ -28,18 +28,14 @@ one_identity i j = grind (arith, nat_tests)
 among : (is : List Identity) (q : Identity) → list_any (is_equal q) is ≡ contains (from_list {R = identity_cmp} is) q
 among is q = (λ k. list_any (λ i. one_identity q i k) is) ∙ sym (contains-from_list identity_total is q)
 
--- True if t holds, and otherwise b, is the same as `t || b`.
-one_more : (t b : Bool) → cond t true b ≡ (t || b)
-one_more t b = grind (arith, nat_tests)
-
 -- the set of the identities after one was inserted
 pub met_more : (old new : List Identity) (i : Identity) →
     ((q : Identity) → list_any (is_equal q) new ≡ cond (is_equal i q) true (list_any (is_equal q) old)) →
     from_list {R = identity_cmp} new ≡ insert (from_list old) i
 met_more old new i more = same_set identity_total identity_antisymmetric _ _ (λ q.
-    sym (among new q) ∙ (more q ∙ (one_more (is_equal i q) (list_any (is_equal q) old)
-    ∙ ((λ k. (one_identity i q ∙ same_identity_turned i q) k || among old q k)
-    ∙ sym (contains-insert identity_total (from_list old) i q)))))
+    let one = one_identity i q ∙ same_identity_turned i q in
+    let set = contains-insert identity_total (from_list old) i q in
+    grind (arith, nat_tests, more q, among new q, among old q, one, set))
 
 -- If `new` says whether a list lacks i, the set of the list contains i exactly if `new` is false.
 pub met_is : (ks : List Identity) (i : Identity) (new : Bool) → new ≡ not (list_any (is_equal i) ks) →

@@ -695,5 +695,13 @@ leaf_made {items} {lists} ok {v} view p hp {c} read empty {n} at g is w =
     (is ∙ ap (λ (m : ℕ). add_self m default) size) (none_warned v p w short))
 
 -- What the walk of `build_graph` needs of a node's children.
-pub ruleset walking = (in_nodes, children_read, listing_of, listed_within, listed_bytes, child_read, own_fits,
-    total-default)
+pub ruleset walking = (
+  in_nodes,
+  children_read,
+  listing_of,
+  listed_within,
+  listed_bytes,
+  child_read,
+  own_fits,
+  total-default,
+)

@@ -1,5 +1,5 @@
 -- Graphs as maps: their sums, their totals, graphs under a key, and graphs added one after another.
-use Rattle.std.proofs.Common.{◌≡◌, ℕ, ◌+◌, Bool, cond, ◌||◌, T, IsTrue, List, [], ◌∷◌, ◌++◌, fold, Option, Some, None}
+use Rattle.std.proofs.Common.{◌≡◌, ℕ, ◌+◌, cond, ◌||◌, T, IsTrue, List, [], ◌∷◌, ◌++◌, fold, Option, Some, None}
 use Rattle.std.proofs.Common.{is_some, ap, sym, ◌∙◌, arith, unwrap_or, sum_by, refl}
 use Rattle.allocative_graph.proofs.Common.{eq_by_cmp, get, entries, get-entries, get-insert, get-from_entries}
 use Rattle.allocative_graph.proofs.Common.{entries_sorted, contains_key, same_map, find, is_sorted, below_all, first}

@@ -25,9 +25,8 @@ use Rattle.std.proofs.lemmas.List.Splits.{length-slice_split, slice_split_none, 
 use Rattle.allocative_graph.proofs.Basics.{each-implies, each-map, path_total, same_path, key_itself}
 use Rattle.allocative_graph.specs.Graph.{line, ends_in, exact_text, lines_from, before_last, after_last, last_key}
 use Rattle.allocative_graph.specs.Graph.{without_lines, HasPlainKeys, HasWords}
-use Rattle.allocative_graph.proofs.Graphs.{size_at-default, get-default, get-under, get-under-root}
-use Rattle.allocative_graph.proofs.Graphs.{size_at-added_up, has-added_up, total-added_up, added_up-permuted}
-use Rattle.allocative_graph.proofs.Graphs.{total-default}
+use Rattle.allocative_graph.proofs.Graphs.{size_at-default, get-default, get-under, get-under-root, size_at-added_up}
+use Rattle.allocative_graph.proofs.Graphs.{has-added_up, total-added_up, added_up-permuted, total-default}
 use Rattle.allocative_graph.proofs.Nodes.{total-path}
 use Rattle.std.proofs.lemmas.{Bool.eqb-false, Str.Pattern.NoCharPasses-char, Str.Pattern.drop_at_char}
 use Rattle.std.proofs.lemmas.{Fmt.decimal_is_IsNumeral, List.get_or-append_right, List.Sorted.IsPermutation-map}

@@ -1,8 +1,9 @@
 -- of merge, interleave, take_next, put_each and put_child: what they merge, and that sizes fit
 use Rattle.std.proofs.Common.{◌≡◌, [], Some, refl, sym, ap, ◌∙◌, arith, is_ok, subst, List}
 use Rattle.allocative_graph.proofs.Common.{Child, nil_from_length, total_of, sum_by_push, AreChildren, MergesFirst}
-use Rattle.allocative_graph.proofs.Children.{merges_then, merges_rest, merges_all, is_ok-and, merged_same, next_put, next_less, next_greater}
-use Rattle.allocative_graph.proofs.Children.{next_equal, front_is, front_total, front_rows, one_of_length, put_at_found, put_at_gap}
+use Rattle.allocative_graph.proofs.Children.{merges_then, merges_rest, merges_all, is_ok-and, merged_same, next_put}
+use Rattle.allocative_graph.proofs.Children.{next_less, next_greater, next_equal, front_is, front_total, front_rows}
+use Rattle.allocative_graph.proofs.Children.{one_of_length, put_at_found, put_at_gap}
 use Rattle.allocative_graph.proofs.Nodes.{merged_graph, child_of_one}
 use Rattle.allocative_graph.proofs.flamegraph.+merge.Goals as goal
 

@@ -1,5 +1,5 @@
 -- of add_up: the step of its loop
-use Rattle.std.proofs.Common.{◌≡◌, ◌++◌, [], List, Bor, ℕ, get_or, ap, ◌∙◌, lit<, Ok, arith}
+use Rattle.std.proofs.Common.{◌≡◌, ◌++◌, [], List, Bor, ℕ, get_or, ap, ◌∙◌, lit<, Ok}
 use Rattle.allocative_graph.proofs.Common.{YieldsList-from_str_split, Line, Path, sum_of, graph_of_path, take_more}
 use Rattle.allocative_graph.specs.Read.{keys_of}
 use Rattle.std.proofs.lemmas.{Iterator.Adapters.fact_from_extend, Iterator.Consumers.YieldsList-at}

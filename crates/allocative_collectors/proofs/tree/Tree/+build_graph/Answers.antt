@@ -1,14 +1,13 @@
 -- A node's own size and warning, and then the graph of each child with the paths that have a warning.
 use Rattle.std.proofs.Common.{◌≡◌, ◌-◌, ◌+◌, ◌<◌, ℕ, List, [], ◌∷◌, ◌++◌, map, length, get_or, Bor, arith, sym, ap}
-use Rattle.std.proofs.Common.{subst, ◌∙◌, refl, Err, IfErr, ◌^◌, ◌≤◌, add-one}
+use Rattle.std.proofs.Common.{subst, ◌∙◌, refl, add-one}
 use Rattle.allocative_collectors.proofs.Common.{map_of, Key, under, sum_of, default, add_self, path_at, keys_at, key_at}
-use Rattle.allocative_collectors.proofs.Common.{children_at, key_in, size_at_place, warning_of, Refusal, Memory}
-use Rattle.allocative_collectors.proofs.Common.{length-map, map-append, ComesLast, numbers, MakesGraph, MakesPart, Node}
-use Rattle.allocative_graph.specs.Graph.{Graph, Warned, total}
-use Rattle.allocative_collectors.proofs.NodeReads.{in_nodes, children_read, figures_read, listing_of, listed_within}
-use Rattle.allocative_collectors.proofs.NodeReads.{listed_bytes, part_start, part_more, part_fits, made_all, child_read}
-use Rattle.allocative_collectors.proofs.NodeReads.{none_warned, below_fits, own_fits, warned_at, comes_last, begun}
-use Rattle.allocative_graph.proofs.Graphs.{total-default}
+use Rattle.allocative_collectors.proofs.Common.{children_at, key_in, size_at_place, warning_of, length-map, map-append}
+use Rattle.allocative_collectors.proofs.Common.{ComesLast, numbers, MakesGraph, MakesPart, Node}
+use Rattle.allocative_graph.specs.Graph.{Graph, Warned}
+use Rattle.allocative_collectors.proofs.NodeReads.{children_read, figures_read, listing_of, listed_bytes, part_start}
+use Rattle.allocative_collectors.proofs.NodeReads.{part_more, part_fits, made_all, child_read, none_warned, below_fits}
+use Rattle.allocative_collectors.proofs.NodeReads.{warned_at, comes_last, begun}
 use Rattle.allocative_graph.proofs.Text.{popped, texts}
 use Rattle.allocative_collectors.proofs.tree.Tree.+build_graph.Goals as goal
 use Rattle.allocative_collectors.proofs.tree.Tree.+build_graph.Goals.{then-is_short+in_ok-push_warned, else-is_short}

@@ -1,10 +1,10 @@
 -- of push_rows: rows
-use Rattle.std.proofs.Common.{◌≡◌, ℕ, ◌++◌, [], ◌∷◌, List, Bor, map, take, arith, ap, sym, append_assoc, ◌∙◌, take_all}
-use Rattle.allocative_graph.proofs.Common.{Figures, figures_behind, map_push, row_figures}
+use Rattle.std.proofs.Common.{◌≡◌, ◌++◌, [], ◌∷◌, List, map, take, arith, ap, sym, append_assoc, ◌∙◌, take_all}
+use Rattle.allocative_graph.proofs.Common.{Figures, map_push, row_figures}
 use Rattle.std.proofs.lemmas.List.Elements.{same_from_all_zip}
 use Rattle.allocative_graph.specs.declared.flamegraph.Row.{Row}
-use Rattle.allocative_graph.proofs.Text.{texts, popped}
-use Rattle.allocative_graph.proofs.Nodes.{child_figures, figures_of_node}
+use Rattle.allocative_graph.proofs.Text.{texts}
+use Rattle.allocative_graph.proofs.Nodes.{figures_of_node}
 use Rattle.allocative_graph.proofs.flamegraph.FlameGraph.+push_rows.Goals as goal
 
 pub returns-clause-rows : goal.returns-clause-rows
