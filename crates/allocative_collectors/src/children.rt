@@ -8,15 +8,12 @@ ghost use Rattle.allocative_collectors.specs.Nodes.{numbers, numbers_in, flat, I
 use allocative_graph::key::start_of;
 use std::alloc::{AllocError, Global};
 
-/// The longest list that is not split.
-pub(crate) const LONGEST_LIST: usize = 512;
-
-/// The longest chunk that is not split. The chunk that a list becomes is longer until a number is put in it.
-const LONGEST_CHUNK: usize = 256;
+/// The longest list or chunk that is not split. The chunk that a list becomes is longer until a number is put in it.
+pub(crate) const LONGEST: usize = 128;
 
 /// Numbers in an order that the caller keeps.
 ///
-/// Most nodes have few children, and up to three numbers need no memory of their own. Up to `LONGEST_LIST` are one
+/// Most nodes have few children, and up to three numbers need no memory of their own. Up to `LONGEST` are one
 /// list. More are in chunks, so that a number that is put in the middle moves few others. If memory ran out, a longer
 /// list may have stayed one. Lists and chunks are in boxes, so that the numbers of each node take 16 bytes here.
 #[derive(Drop)]
@@ -219,7 +216,7 @@ pub(crate) fn last_in(chunks: &[Chunk]) -> Option<(u32, Place)>
     let numbers = chunks[chunk].numbers.as_slice();
     let number = *numbers.last()?;
     let index = numbers.len();
-    if index < LONGEST_CHUNK {
+    if index < LONGEST {
         return Some((number, Place { chunk, index }));
     }
     let behind = Place {
@@ -256,8 +253,10 @@ fn insert_in(
         cut_at(chunks, place.chunk);
     } else {
         let alloc = *chunks.allocator();
-        let numbers = Vec::from_slice(alloc, &[number])?;
-        let starts = Vec::from_slice(alloc, &[start])?;
+        let mut numbers = Vec::with_capacity(alloc, LONGEST + 1)?;
+        let mut starts = Vec::with_capacity(alloc, LONGEST + 1)?;
+        numbers.push(number)?;
+        starts.push(start)?;
         chunks.push(Chunk {
             numbers,
             start,
@@ -267,12 +266,12 @@ fn insert_in(
     Ok(())
 }
 
-// Cuts a chunk in two if it has more than `LONGEST_CHUNK` numbers. If memory runs out it stays whole.
+// Cuts a chunk in two if it has more than `LONGEST` numbers. If memory runs out it stays whole.
 fn cut_at(chunks: &mut Vec<Chunk>, at: usize)
     requires { at < length chunks.old.items }
     ensures { flat chunks.new.items ≡ flat chunks.old.items }
 {
-    if chunks[at].numbers.len() <= LONGEST_CHUNK || chunks.reserve(1).is_err() {
+    if chunks[at].numbers.len() <= LONGEST || chunks.reserve(1).is_err() {
         return;
     }
     let Ok(upper) = chunks[at].cut() else {

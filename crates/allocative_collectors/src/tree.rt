@@ -10,7 +10,7 @@ ghost use Rattle.allocative_collectors.specs.Places.{AddedAt, TellsWhy};
 ghost use Rattle.allocative_collectors.specs.Warned.{size_at_place, is_short, MakesGraph, MakesGraphAlone, warning_of};
 ghost use Rattle.allocative_collectors.specs.Nodes.{leaf, bytes_at, keys_of, key_at, KeysRise, HasKey, IsKeyGap, numbers, flat, IsPlace, IsPlaceIn, place_in, flat_place, IsTree};
 
-use crate::children::{Children, Chunk, LONGEST_LIST, Place, last_in, number_at};
+use crate::children::{Children, Chunk, LONGEST, Place, last_in, number_at};
 use crate::output::{FlameGraphOutput, WarnedPath};
 use allocative_graph::flamegraph::{FlameGraph, push_child};
 use allocative_graph::key::{Key, start_of};
@@ -352,7 +352,7 @@ impl Tree {
         ensures { self.new ≡ self.old }
     {
         if let Children::Few(list) = &self.children[at]
-            && list.len() > LONGEST_LIST
+            && list.len() > LONGEST
             && let Ok(chunks) = chunks_of(self.alloc, &self.nodes, list.as_slice())
         {
             self.children[at] = Children::Many(chunks);
@@ -467,23 +467,31 @@ fn guess_place(nodes: &[Node], chunks: &[Chunk], key: &Key) -> Place {
     }
 }
 
-/// The index of that place in its chunk. A guess; callers check it.
+/// The index of that place in its chunk. A guess; callers check it. Where the starts do not tell, the keys do.
 fn guess_index(nodes: &[Node], chunk: &Chunk, key: &Key, start: u64) -> usize {
-    let mut low = 0;
-    let mut high = chunk.numbers.len();
-    while low < high {
-        let middle = low + (high - low) / 2;
-        let is_less = match chunk.starts.get(middle) {
-            Some(known) if *known != start => *known < start,
-            _ => compare(nodes, chunk.numbers[middle], key).is_lt(),
-        };
-        if is_less {
-            low = middle + 1;
-        } else {
-            high = middle;
-        }
+    let index = count_below(chunk.starts.as_slice(), start);
+    let is_told = match chunk.starts.get(index) {
+        Some(known) => *known != start,
+        None => index == chunk.numbers.len(),
+    };
+    if is_told {
+        return index;
     }
-    low
+    chunk.numbers.partition_point(|number: &u32| -> bool { compare(nodes, *number, key).is_lt() })
+}
+
+/// How many of the rising starts are below a start. No branch depends on a start, as the processor could not foresee it.
+fn count_below(starts: &[u64], start: u64) -> usize
+    ensures { result ≤ length starts.now }
+{
+    let mut below = 0;
+    let mut rest = starts.len();
+    while rest > 0 {
+        let half = rest - rest / 2;
+        below += half * usize::from(starts[below + half - 1] < start);
+        rest /= 2;
+    }
+    below
 }
 
 /// Whether the number before a place has a smaller key, or there is none.
