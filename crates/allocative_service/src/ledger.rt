@@ -1,9 +1,11 @@
 //! A ledger: the bytes of each tenant's values, by number.
-ghost use Rattle.std.specs.Prelude.{◌≡◌, ℕ, ◌+◌, ◌-◌, ◌^◌, ◌<◌, ◌≤◌, [], Some, None, Ok, Err, IfOk, IfErr, IfSome, IfNone, IsSomeAnd, MatchOption, OnErr, unwrap_or};
+ghost use Rattle.std.specs.Prelude.{◌≡◌, ℕ, ◌+◌, ◌-◌, ◌^◌, ◌<◌, ◌≤◌, [], Some, None, Ok, Err, IfOk, IfErr, IfSome};
+ghost use Rattle.std.specs.Prelude.{IfNone, IsSomeAnd, MatchOption, OnErr, unwrap_or};
 ghost use Rattle.std.specs.BTreeMap.{insert_entry};
 ghost use Rattle.std.specs.Ordering.{nat_cmp};
 ghost use Rattle.allocative_service.specs.Book.{account_of, with_entries, StandsAt};
-ghost use Rattle.allocative_service.specs.Ledger.{bytes_at, entry_of, sum_of, total_of, Adds, Enters, IsNew, IsThere, Rejects, Releases, Stores};
+ghost use Rattle.allocative_service.specs.Ledger.{bytes_at, entry_of, sum_of, total_of, Adds, Enters, IsNew, IsThere};
+ghost use Rattle.allocative_service.specs.Ledger.{Rejects, Releases, Stores};
 ghost use Rattle.allocative_service.specs.Measured.{Declares, Measures};
 ghost use Rattle.allocative_service.specs.Rejected.{HasRoom, RejectsEntry, RejectsIn, RejectsThen};
 
@@ -55,10 +57,8 @@ impl Ledger {
                 Some(_) => Err(Rejection::Taken { number }),
             }
         };
-        Ok(
-            self.put_with(tenant, number, Some(self.limit), bytes_of)?
-                .bytes,
-        )
+        let standing = self.put_with(tenant, number, Some(self.limit), bytes_of)?;
+        Ok(standing.bytes)
     }
 
     /// Measures a value again after it has changed, replaces the bytes of the entry under the number if that exceeds no
@@ -82,7 +82,7 @@ impl Ledger {
             self.old) }
         ensures unchanged { OnErr result (self.new ≡ self.old) }
     {
-        let (measure, alloc, most) = (self.measure, self.alloc, self.limit);
+        let (measure, alloc) = (self.measure, self.alloc);
         let bytes_of = |had|
             ensures { IsThere number (λ _. Measures measure T.is_strict T.layout.size (T.may_show value.entry.now)) had
                 result }
@@ -92,7 +92,8 @@ impl Ledger {
                 Some(_) => Ok(measure.size_of(alloc, value)?),
             }
         };
-        Ok(self.put_with(tenant, number, Some(most), bytes_of)?.bytes)
+        let standing = self.put_with(tenant, number, Some(self.limit), bytes_of)?;
+        Ok(standing.bytes)
     }
 
     /// Measures a value again after it has changed, replaces the bytes of the entry under the number, also beyond the
@@ -141,13 +142,12 @@ impl Ledger {
             (Rejects tenant.now number (Some self.old.limit) (IsNew number (λ given. given ≡ Ok bytes)) self.old) }
         ensures unchanged { OnErr result (self.new ≡ self.old) }
     {
-        Ok(
-            self.put_with(tenant, number, Some(self.limit), |had| match had {
-                None => Ok(bytes),
-                Some(_) => Err(Rejection::Taken { number }),
-            })?
-            .bytes,
-        )
+        let bytes_of = |had: Option<usize>| match had {
+            None => Ok(bytes),
+            Some(_) => Err(Rejection::Taken { number }),
+        };
+        let standing = self.put_with(tenant, number, Some(self.limit), bytes_of)?;
+        Ok(standing.bytes)
     }
 
     /// Adds so many bytes to the tenant's entry under the number, for a value that has grown by as many, and returns
@@ -168,10 +168,8 @@ impl Ledger {
                 Some(had) => had.checked_add(more).ok_or(Rejection::TooLarge),
             }
         };
-        Ok(
-            self.put_with(tenant, number, Some(self.limit), bytes_of)?
-                .bytes,
-        )
+        let standing = self.put_with(tenant, number, Some(self.limit), bytes_of)?;
+        Ok(standing.bytes)
     }
 
     /// Takes so many bytes off the tenant's entry under the number, for a value that has shrunk by as many, and returns
@@ -187,15 +185,14 @@ impl Ledger {
             (Err r)) (account_of tenant.now self.old)) }
         ensures unchanged { OnErr result (self.new ≡ self.old) }
     {
-        Ok(
-            self.put_with(tenant, number, None, |entry| match entry {
-                None => Err(Rejection::NotThere { number }),
-                Some(bytes) => bytes
-                    .checked_sub(less)
-                    .ok_or(Rejection::OverCredit { bytes, less }),
-            })?
-            .bytes,
-        )
+        let rest_of = |had: Option<usize>| match had {
+            None => Err(Rejection::NotThere { number }),
+            Some(bytes) => bytes
+                .checked_sub(less)
+                .ok_or(Rejection::OverCredit { bytes, less }),
+        };
+        let standing = self.put_with(tenant, number, None, rest_of)?;
+        Ok(standing.bytes)
     }
 
     /// Removes the tenant's entry under the number. It returns the bytes of the entry. If there is none, it returns
