@@ -1,5 +1,6 @@
 -- The accounts of a book after one of them has changed.
-use Rattle.std.proofs.Common.{◌≡◌, ℕ, ◌+◌, ◌≤◌, false, List, Option, Some, None, refl, arith, string_bytes, String, Global, true, option_map, Bool}
+use Rattle.std.proofs.Common.{◌≡◌, ℕ, ◌+◌, ◌≤◌, false, List, Option, Some, None, refl, arith, string_bytes, String}
+use Rattle.std.proofs.Common.{Global, true, option_map, Bool}
 use Rattle.allocative_service.specs.Book.{AccountData, all_billed, billed_sum}
 use Rattle.std.specs.BTreeMap.{is_at, BTreeMap, get_by_text, insert_entry}
 use Rattle.std.specs.Map.{lookup, keys_of, set_value, values_of}

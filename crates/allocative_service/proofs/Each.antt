@@ -1,7 +1,8 @@
 -- The changes of all paths, and the change of one path.
 use Rattle.std.proofs.Common.{◌≡◌, ℕ, cond, List, [], ◌∷◌, map, refl, sym, ◌∙◌, T, filter, flat_map, arith}
 use Rattle.std.proofs.lemmas.List.Elements.{filter-append}
-use Rattle.allocative_graph.proofs.Common.{below_all, entries, entries_sorted, find, first, get-entries, is_some, is_same_path, is_sorted, path_cmp, second, sum_of, Graph, Path}
+use Rattle.allocative_graph.proofs.Common.{below_all, entries, entries_sorted, find, first, get-entries, is_some}
+use Rattle.allocative_graph.proofs.Common.{is_same_path, is_sorted, path_cmp, second, sum_of, Graph, Path}
 use Rattle.allocative_graph.proofs.Basics.{same_path}
 use Rattle.allocative_graph.proofs.Showings.{get-sum_of}
 use Rattle.allocative_graph.proofs.Sums.{find-below_all}

@@ -1,5 +1,6 @@
 -- What stays true while the least recently used entries are evicted.
-use Rattle.std.proofs.Common.{◌≡◌, ℕ, ◌+◌, ◌-◌, ◌<◌, ◌≤◌, Some, [], ◌∷◌, ◌++◌, length, take, sym, ap, ◌∙◌, subst, arith, append_assoc}
+use Rattle.std.proofs.Common.{◌≡◌, ℕ, ◌+◌, ◌-◌, ◌<◌, ◌≤◌, Some, [], ◌∷◌, ◌++◌, length, take, sym, ap, ◌∙◌, subst, arith}
+use Rattle.std.proofs.Common.{append_assoc}
 use Rattle.std.specs.Map.{values_of}
 use Rattle.allocative_service.specs.declared.kept.Kept.{Kept}
 use Rattle.allocative_service.specs.Entries.{Entries, bytes_of, KeepsRecent, HandsBack, IsNeeded}

@@ -1,9 +1,11 @@
 -- The entries after an insertion.
-use Rattle.std.proofs.Common.{◌≡◌, ℕ, ◌+◌, ◌<◌, ◌≤◌, Bool, None, Option, [], ◌∷◌, length, refl, ap, ◌∙◌, subst, arith, take_all, All}
+use Rattle.std.proofs.Common.{◌≡◌, ℕ, ◌+◌, ◌<◌, ◌≤◌, Bool, None, Option, [], ◌∷◌, length, refl, ap, ◌∙◌, subst, arith}
+use Rattle.std.proofs.Common.{take_all, All}
 use Rattle.std.specs.Map.{lookup_entry, lookup_key, remove_entry}
 use Rattle.allocative.specs.Forest.{Forest}
 use Rattle.allocative_service.specs.declared.kept.Kept.{Kept}
-use Rattle.allocative_service.specs.Entries.{Entries, bytes_of, Bounded, KeepsRecent, IsBounded, AreKept, with_entries, stored_key, Inserts}
+use Rattle.allocative_service.specs.Entries.{Entries, bytes_of, Bounded, KeepsRecent, IsBounded, AreKept, with_entries}
+use Rattle.allocative_service.specs.Entries.{stored_key, Inserts}
 use Rattle.allocative_service.specs.Kept.{IsBilled, kept_bytes}
 use Rattle.std.specs.Option.{option_map}
 use Rattle.std.proofs.lemmas.List.Elements.{All-cons, All-take}

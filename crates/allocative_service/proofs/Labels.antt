@@ -1,9 +1,11 @@
 -- The characters that stand for a text in the value of a label.
-use Rattle.std.proofs.Common.{◌≡◌, ℕ, ◌==◌, true, false, Bool, cond, List, [], ◌∷◌, ◌++◌, append_assoc, encode_utf8_all, refl, rules}
+use Rattle.std.proofs.Common.{◌≡◌, ℕ, ◌==◌, true, false, Bool, cond, List, [], ◌∷◌, ◌++◌, append_assoc, encode_utf8_all}
+use Rattle.std.proofs.Common.{refl, rules}
 use Rattle.std.proofs.lemmas.Bool.{eqb-true, eqb-false}
 use Rattle.std.proofs.lemmas.List.Concat.{flat_map-append}
 use Rattle.std.proofs.lemmas.Str.{encodes-append}
-use Rattle.allocative_service.specs.Metrics.{LabelLaw, ReadsAs, escaped, escaped_char, end, backslash, quote, feed, itself}
+use Rattle.allocative_service.specs.Metrics.{LabelLaw, ReadsAs, escaped, escaped_char, end, backslash, quote, feed}
+use Rattle.allocative_service.specs.Metrics.{itself}
 
 -- What holds in both cases holds of a choice.
 by_cond : {X : Type 0} (P : X → Type 0) (b : Bool) (x y : X) → (b ≡ true → P x) → (b ≡ false → P y) → P (cond b x y)

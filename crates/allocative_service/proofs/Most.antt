@@ -1,6 +1,8 @@
 -- Changes that are sorted by growth.
-use Rattle.std.proofs.Common.{◌≡◌, ℕ, ◌+◌, ◌<◌, List, [], ◌∷◌, ◌++◌, map, take, drop, length, min, sym, ap, ◌∙◌, arith, filter, All, AllPairs, take-append-drop, length-take, get_or-append-add, length-append}
-use Rattle.allocative_service.specs.Changes.{Changed, change_data, is_grown, GrewAsMuch, GrewMost, IsByGrowth, IsWord, rank}
+use Rattle.std.proofs.Common.{◌≡◌, ℕ, ◌+◌, ◌<◌, List, [], ◌∷◌, ◌++◌, map, take, drop, length, min, sym, ap, ◌∙◌, arith}
+use Rattle.std.proofs.Common.{filter, All, AllPairs, take-append-drop, length-take, get_or-append-add, length-append}
+use Rattle.allocative_service.specs.Changes.{Changed, change_data, is_grown, GrewAsMuch, GrewMost, IsByGrowth, IsWord}
+use Rattle.allocative_service.specs.Changes.{rank}
 use Rattle.std.specs.List.Sorted.{IsNonDecreasingBy}
 use Rattle.std.proofs.lemmas.List.{map-append, length-map, get_or-map, get_or_append_left, get_or_default}
 use Rattle.std.proofs.lemmas.List.Sorted.{length_permutation}

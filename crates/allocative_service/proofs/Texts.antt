@@ -1,5 +1,7 @@
 -- What is billed for a text, and for a vector of bytes.
-use Rattle.std.proofs.Common.{◌≡◌, ℕ, ◌+◌, ◌-◌, ◌*◌, ◌≤◌, ◌⊎◌, inl, inr, Bool, true, false, Global, List, [], ◌∷◌, Option, Some, None, String, Vec, arith, codes, length, refl, ap, sym, subst, subst₂, string_bytes}
+use Rattle.std.proofs.Common.{◌≡◌, ℕ, ◌+◌, ◌-◌, ◌*◌, ◌≤◌, ◌⊎◌, inl, inr, Bool, true, false, Global, List, [], ◌∷◌}
+use Rattle.std.proofs.Common.{Option, Some, None, String, Vec, arith, codes, length, refl, ap, sym, subst, subst₂}
+use Rattle.std.proofs.Common.{string_bytes}
 use Rattle.std.proofs.lemmas.Bool.Decides.{nat_tests}
 use Rattle.std.proofs.lemmas.Option.{same_Some}
 use Rattle.std.specs.List.{AllByRecursion}

@@ -1,5 +1,6 @@
 -- The differences between two profiles.
-use Rattle.std.specs.Prelude.{◌≡◌, ℕ, ◌+◌, ◌-◌, ◌^◌, ◌<◌, ◌≤◌, ◌==◌, Bool, cond, nat_lt, List, ◌++◌, ◌∷◌, [], length, map, filter, flat_map, min, sum_by, All, AllPairs, codes, decimal}
+use Rattle.std.specs.Prelude.{◌≡◌, ℕ, ◌+◌, ◌-◌, ◌^◌, ◌<◌, ◌≤◌, ◌==◌, Bool, cond, nat_lt, List, ◌++◌, ◌∷◌, [], length}
+use Rattle.std.specs.Prelude.{map, filter, flat_map, min, sum_by, All, AllPairs, codes, decimal}
 use Rattle.std.specs.List.Sorted.{IsPermutation}
 use Rattle.std.specs.FinMap.{keys}
 use Rattle.allocative.specs.Path.{Path, is_same_path}

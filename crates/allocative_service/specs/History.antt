@@ -1,5 +1,6 @@
 -- The profiles that a service keeps.
-use Rattle.std.specs.Prelude.{◌≡◌, ◌⊎◌, ℕ, Bool, List, ◌∷◌, Option, Some, None, IsSomeAnd, option_map, slice_get, take, ⊤}
+use Rattle.std.specs.Prelude.{◌≡◌, ◌⊎◌, ℕ, Bool, List, ◌∷◌, Option, Some, None, IsSomeAnd, option_map, slice_get, take}
+use Rattle.std.specs.Prelude.{⊤}
 use Rattle.std.specs.Option.{option_zip}
 use Rattle.allocative.specs.Graph.{Graph, ExceedWord}
 use Rattle.allocative.specs.Refusal.{Refusal}

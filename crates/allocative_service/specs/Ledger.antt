@@ -1,10 +1,12 @@
 -- What a ledger holds, and how its calls change it: a book of bytes by number.
-use Rattle.std.specs.Prelude.{◌≡◌, ℕ, ◌+◌, ◌^◌, ◌≤◌, List, Option, Some, Result, Ok, Err, unwrap_or, IsSomeAnd, MatchOption}
+use Rattle.std.specs.Prelude.{◌≡◌, ℕ, ◌+◌, ◌^◌, ◌≤◌, List, Option, Some, Result, Ok, Err, unwrap_or, IsSomeAnd}
+use Rattle.std.specs.Prelude.{MatchOption}
 use Rattle.std.specs.BTreeMap.{insert_entry, is_at}
 use Rattle.std.specs.Map.{lookup, remove_entry}
 use Rattle.std.specs.Option.{option_and_then}
 use Rattle.std.specs.Ordering.{nat_cmp}
-use Rattle.allocative_service.specs.Book.{AccountData, BookData, account_of, all_billed, billed_sum, with_entries, without_entry, SetsAccount}
+use Rattle.allocative_service.specs.Book.{AccountData, BookData, account_of, all_billed, billed_sum, with_entries}
+use Rattle.allocative_service.specs.Book.{without_entry, SetsAccount}
 use Rattle.allocative_service.specs.declared.book.rejection.Rejection.{Rejection}
 use Rattle.allocative_service.specs.declared.book.rejection.Rejection.TheVariants.{NotThere, Taken, TooLarge}
 use Rattle.allocative_service.specs.Rejected.{RejectsEntry, RejectsIn, RejectsThen}

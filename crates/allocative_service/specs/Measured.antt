@@ -3,7 +3,8 @@ use Rattle.std.specs.Prelude.{◌≡◌, ℕ, Bool, Option, Result, IfErr, Match
 use Rattle.allocative.specs.Strict.{MayRefuseProfile}
 use Rattle.allocative.specs.Refusal.{Refusal}
 use Rattle.allocative.specs.Shows.{Showing}
-use Rattle.allocative.specs.SizeOf.{IsSizeOfOwned, IsSizeOfUnique, MayRefuseOwned, MayRefuseSize, AnswersOwned, AnswersSize, AnswersVisit, IsSizeOfShown, RefusesShown}
+use Rattle.allocative.specs.SizeOf.{IsSizeOfOwned, IsSizeOfUnique, MayRefuseOwned, MayRefuseSize, AnswersOwned}
+use Rattle.allocative.specs.SizeOf.{AnswersSize, AnswersVisit, IsSizeOfShown, RefusesShown}
 use Rattle.allocative.specs.Visited.{Effect}
 use Rattle.allocative_service.specs.declared.book.rejection.Rejection.{Rejection}
 use Rattle.allocative_service.specs.declared.book.rejection.Rejection.TheVariants.{NotMeasured}

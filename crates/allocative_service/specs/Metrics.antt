@@ -1,5 +1,7 @@
 -- The text that says to Prometheus how many bytes a book has.
-use Rattle.std.specs.Prelude.{◌≢◌, ℕ, ◌-◌, ◌^◌, ◌==◌, ◌||◌, ◌&&◌, Bool, cond, false, not, List, [], ◌∷◌, ◌++◌, Option, None, Some, String, chars, codes, decimal, encode_utf8_all, flat_map, option_map, slice_get, string_bytes, unwrap_or}
+use Rattle.std.specs.Prelude.{◌≢◌, ℕ, ◌-◌, ◌^◌, ◌==◌, ◌||◌, ◌&&◌, Bool, cond, false, not, List, [], ◌∷◌, ◌++◌, Option}
+use Rattle.std.specs.Prelude.{None, Some, String, chars, codes, decimal, encode_utf8_all, flat_map, option_map}
+use Rattle.std.specs.Prelude.{slice_get, string_bytes, unwrap_or}
 use Rattle.std.specs.Char.{is_ascii_alphanumeric, is_ascii_digit}
 use Rattle.std.specs.Global.{Global}
 use Rattle.std.specs.List.{list_all}

@@ -1,7 +1,9 @@
 -- Why data is not admitted.
-use Rattle.std.specs.Prelude.{◌≡◌, ◌⊎◌, ℕ, ◌+◌, ◌^◌, ◌<◌, ◌≤◌, Bool, false, true, Option, Some, None, IsSome, IfSome, OnSome, unwrap_or, Result, Ok, Err}
+use Rattle.std.specs.Prelude.{◌≡◌, ◌⊎◌, ℕ, ◌+◌, ◌^◌, ◌<◌, ◌≤◌, Bool, false, true, Option, Some, None, IsSome, IfSome}
+use Rattle.std.specs.Prelude.{OnSome, unwrap_or, Result, Ok, Err}
 use Rattle.allocative_service.specs.declared.book.rejection.Rejection.{Rejection}
-use Rattle.allocative_service.specs.declared.book.rejection.Rejection.TheVariants.{HasAccount, LedgerFull, NoAccount, NotKept, OverBudget, TooLarge}
+use Rattle.allocative_service.specs.declared.book.rejection.Rejection.TheVariants.{HasAccount, LedgerFull, NoAccount}
+use Rattle.allocative_service.specs.declared.book.rejection.Rejection.TheVariants.{NotKept, OverBudget, TooLarge}
 
 -- Whether a limit is the cause.
 abbrev pub is_limit : Rejection → Bool

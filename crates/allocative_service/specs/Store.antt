@@ -4,7 +4,8 @@ use Rattle.std.specs.declared.cmp.Ordering.{Ordering}
 use Rattle.std.specs.BTreeMap.{insert_entry, is_at}
 use Rattle.std.specs.Map.{lookup, lookup_key, set_value}
 use Rattle.allocative.specs.Forest.{Forest}
-use Rattle.allocative_service.specs.Book.{AccountData, BookData, account_of, billed_sum, bytes_in, SetsAccount, with_entries}
+use Rattle.allocative_service.specs.Book.{AccountData, BookData, account_of, billed_sum, bytes_in, SetsAccount}
+use Rattle.allocative_service.specs.Book.{with_entries}
 use Rattle.allocative_service.specs.Measured.{Declares, Measures}
 use Rattle.allocative_service.specs.Rejected.{HasRoom, RejectsEntry, RejectsRoom, RejectsThen}
 use Rattle.allocative_service.specs.declared.book.rejection.Rejection.{Rejection}

@@ -1,10 +1,13 @@
 //! A book of accounts, as a ledger is one. Contracts see a book as its `accounts`, one for each tenant, its `limit` and
 //! its `measure`.
-ghost use Rattle.std.specs.Prelude.{◌≡◌, ◌+◌, ◌-◌, ◌^◌, ◌<◌, ◌≤◌, ◌↔◌, None, [], IfErr, IfNone, IfSome, IsSomeAnd, IsTrue, MatchOption, OnErr, OnOk, OnSome, option_map};
+ghost use Rattle.std.specs.Prelude.{◌≡◌, ◌+◌, ◌-◌, ◌^◌, ◌<◌, ◌≤◌, ◌↔◌, None, [], IfErr, IfNone, IfSome, IsSomeAnd};
+ghost use Rattle.std.specs.Prelude.{IsTrue, MatchOption, OnErr, OnOk, OnSome, option_map};
 ghost use Rattle.std.specs.BTreeMap.{is_at};
 ghost use Rattle.std.specs.Map.{lookup, lookup_key, remove_entry};
 ghost use Rattle.std.specs.Option.{option_and_then};
-ghost use Rattle.allocative_service.specs.Book.{IsLargest, IsSummed, MapsAccount, Opens, account_of, all_billed, billed_sum, book_data, is_tenant, with_accounts, without_entry, with_limit, with_peak_reset, with_soft_limit};
+ghost use Rattle.allocative_service.specs.Book.{IsLargest, IsSummed, MapsAccount, Opens, account_of, all_billed};
+ghost use Rattle.allocative_service.specs.Book.{billed_sum, book_data, is_tenant, with_accounts, without_entry};
+ghost use Rattle.allocative_service.specs.Book.{with_limit, with_peak_reset, with_soft_limit};
 ghost use Rattle.allocative_service.specs.Rejected.{IsLedgerFull, IsOverBudget, RejectsIn, RejectsOpening};
 
 pub mod account;

@@ -1,13 +1,16 @@
 //! A cache bounded by declared bytes. Contracts see it as its `entries`, the most recently used first, its `bound` and
 //! its `measure`.
-ghost use Rattle.std.specs.Prelude.{◌≡◌, ◌+◌, ◌-◌, ◌^◌, ◌≤◌, Some, [], ◌∷◌, length, OnOk, OnErr, IfOk, IfErr, IfNone, MatchBool, Err, None, option_copied, ◌↔◌, IsTrue, is_some};
+ghost use Rattle.std.specs.Prelude.{◌≡◌, ◌+◌, ◌-◌, ◌^◌, ◌≤◌, Some, [], ◌∷◌, length, OnOk, OnErr, IfOk, IfErr, IfNone};
+ghost use Rattle.std.specs.Prelude.{MatchBool, Err, None, option_copied, ◌↔◌, IsTrue, is_some};
 ghost use Rattle.std.specs.Borrow.{sem};
 ghost use Rattle.std.specs.List.{IsDistinct};
 ghost use Rattle.std.specs.Map.{lookup, lookup_entry, remove_entry, keys_of};
 ghost use Rattle.std.specs.Map.Iter.{ShowsInOrder, deref_pair};
 ghost use Rattle.allocative_service.specs.Kept.{IsBill};
 ghost use Rattle.allocative_service.specs.Measured.{Declares, MayRefuseMeasure};
-ghost use Rattle.allocative_service.specs.Entries.{bytes_of, KeepsRecent, bounded, with_entries, IsBounded, Inserts, Changes, RefusesInsert, RefusesChange, stored_key, entry_at, value_at, used, without, ends_as, step_of, ChangesTo};
+ghost use Rattle.allocative_service.specs.Entries.{bytes_of, KeepsRecent, bounded, with_entries, IsBounded, Inserts};
+ghost use Rattle.allocative_service.specs.Entries.{Changes, RefusesInsert, RefusesChange, stored_key, entry_at};
+ghost use Rattle.allocative_service.specs.Entries.{value_at, used, without, ends_as, step_of, ChangesTo};
 
 pub mod error;
 mod shown;

@@ -4,7 +4,8 @@ ghost use Rattle.std.specs.Map.Iter.{deref_pair};
 ghost use Rattle.allocative.specs.Strict.{MayRefuseProfile};
 ghost use Rattle.allocative.specs.Graph.{ExceedWord};
 ghost use Rattle.allocative_service.specs.Changes.{data_of, changes_of};
-ghost use Rattle.allocative_service.specs.History.{profiles_of, most_of, latest_of, two_of, KeepsProfile, TakesProfile, TakesChanges, RefusesChanges, GrewMostBetween};
+ghost use Rattle.allocative_service.specs.History.{profiles_of, most_of, latest_of, two_of, KeepsProfile, TakesProfile};
+ghost use Rattle.allocative_service.specs.History.{TakesChanges, RefusesChanges, GrewMostBetween};
 
 pub mod changes;
 mod shown;

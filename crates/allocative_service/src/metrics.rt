@@ -1,7 +1,9 @@
 //! The bytes of a book as text for Prometheus.
 ghost use Rattle.std.specs.Prelude.{◌≡◌, OnOk, encode_utf8_all, true};
 ghost use Rattle.allocative.specs.Format.{AppendsText, ReturnsText};
-ghost use Rattle.allocative_service.specs.Metrics.{LabelLaw, escaped_char, gauge_text, head, help_of, is_metric_name, label_value, limit_in, metrics_text, tenant_line, value_of, value_text, whole_text, word_of};
+ghost use Rattle.allocative_service.specs.Metrics.{LabelLaw, escaped_char, gauge_text, head, help_of, is_metric_name};
+ghost use Rattle.allocative_service.specs.Metrics.{label_value, limit_in, metrics_text, tenant_line, value_of};
+ghost use Rattle.allocative_service.specs.Metrics.{value_text, whole_text, word_of};
 
 use crate::book::{Account, Billed, Book};
 use std::alloc::{AllocError, Global};

@@ -1,5 +1,6 @@
 //! A store: the values of many tenants, kept with their bytes, each under a key of its tenant.
-ghost use Rattle.std.specs.Prelude.{◌≡◌, None, OnOk, OnErr, IfOk, IfErr, OnSome, IfSome, IfNone, MatchOption, option_copied, option_map};
+ghost use Rattle.std.specs.Prelude.{◌≡◌, None, OnOk, OnErr, IfOk, IfErr, OnSome, IfSome, IfNone, MatchOption};
+ghost use Rattle.std.specs.Prelude.{option_copied, option_map};
 ghost use Rattle.std.specs.BTreeMap.{is_at};
 ghost use Rattle.std.specs.Map.{lookup, lookup_key};
 ghost use Rattle.std.specs.Option.{option_and_then};
@@ -7,7 +8,8 @@ ghost use Rattle.allocative_service.specs.Book.{account_of, all_billed, without_
 ghost use Rattle.allocative_service.specs.Entries.{ChangesTo};
 ghost use Rattle.allocative_service.specs.Kept.{kept_bytes};
 ghost use Rattle.allocative_service.specs.Rejected.{RejectsIn};
-ghost use Rattle.allocative_service.specs.Store.{value_at, KeepsChanged, PutsOnShelf, RefusesChanged, RefusesPut, Replaces};
+ghost use Rattle.allocative_service.specs.Store.{value_at, KeepsChanged, PutsOnShelf, RefusesChanged, RefusesPut};
+ghost use Rattle.allocative_service.specs.Store.{Replaces};
 
 pub mod shelf;
 

@@ -1,8 +1,10 @@
 //! The entries of one tenant, the limits on their bytes, and the most that they ever had.
-ghost use Rattle.std.specs.Prelude.{◌≡◌, ℕ, ◌+◌, ◌-◌, ◌^◌, ◌<◌, ◌≤◌, ◌↔◌, [], IsTrue, IfErr, IfNone, MatchOption, OnOk, OnErr, option_map, ⊤};
+ghost use Rattle.std.specs.Prelude.{◌≡◌, ℕ, ◌+◌, ◌-◌, ◌^◌, ◌<◌, ◌≤◌, ◌↔◌, [], IsTrue, IfErr, IfNone, MatchOption, OnOk};
+ghost use Rattle.std.specs.Prelude.{OnErr, option_map, ⊤};
 ghost use Rattle.std.specs.BTreeMap.{is_at};
 ghost use Rattle.std.specs.Map.{lookup, lookup_key};
-ghost use Rattle.allocative_service.specs.Book.{AreBilled, IsLargest, IsSummed, bytes_in, new_account, billed_sum, with_limit, with_peak_reset, with_soft_limit, without_entry};
+ghost use Rattle.allocative_service.specs.Book.{AreBilled, IsLargest, IsSummed, bytes_in, new_account, billed_sum};
+ghost use Rattle.allocative_service.specs.Book.{with_limit, with_peak_reset, with_soft_limit, without_entry};
 ghost use Rattle.allocative_service.specs.declared.measure.Measure.{Measure};
 ghost use Rattle.allocative_service.specs.Rejected.{IsOverBudget};
 

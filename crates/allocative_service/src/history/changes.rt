@@ -1,7 +1,8 @@
 //! The differences between two profiles, path by path.
 ghost use Rattle.std.specs.Prelude.{◌≡◌, ◌+◌, ◌-◌, ◌↔◌, cond, filter, IfOk, IsErrOf};
 ghost use Rattle.allocative.specs.Graph.{ExceedWord};
-ghost use Rattle.allocative_service.specs.Changes.{change_data, data_of, growth, rank, shrinkage, changes_of, is_grown, GrewMost, HasEach, IsByGrowth};
+ghost use Rattle.allocative_service.specs.Changes.{change_data, data_of, growth, rank, shrinkage, changes_of, is_grown};
+ghost use Rattle.allocative_service.specs.Changes.{GrewMost, HasEach, IsByGrowth};
 
 use crate::history::walk::push_changes;
 use allocative::{FlameGraph, Refusal};

@@ -1,5 +1,6 @@
 //! The values of one tenant of a store, with the bytes that are billed for each.
-ghost use Rattle.std.specs.Prelude.{◌≡◌, ◌+◌, ◌-◌, ◌^◌, ◌<◌, ◌≤◌, OnOk, OnErr, IfOk, IfErr, IfNone, MatchBool, None, Some, option_copied, option_map};
+ghost use Rattle.std.specs.Prelude.{◌≡◌, ◌+◌, ◌-◌, ◌^◌, ◌<◌, ◌≤◌, OnOk, OnErr, IfOk, IfErr, IfNone, MatchBool, None};
+ghost use Rattle.std.specs.Prelude.{Some, option_copied, option_map};
 ghost use Rattle.std.specs.BTreeMap.{insert_entry, is_at, IsOrdered};
 ghost use Rattle.std.specs.Map.{lookup, lookup_key};
 ghost use Rattle.allocative_service.specs.Book.{bytes_in, without_entry};
@@ -7,7 +8,8 @@ ghost use Rattle.allocative_service.specs.Entries.{ChangesTo};
 ghost use Rattle.allocative_service.specs.Kept.{kept_as, kept_bytes, key_bytes_in};
 ghost use Rattle.allocative_service.specs.Measured.{Declares};
 ghost use Rattle.allocative_service.specs.Rejected.{HasRoom};
-ghost use Rattle.allocative_service.specs.Store.{sum_of, value_at, KeepsChanged, PutsOnShelf, RefusesChanged, RefusesPut};
+ghost use Rattle.allocative_service.specs.Store.{sum_of, value_at, KeepsChanged, PutsOnShelf, RefusesChanged};
+ghost use Rattle.allocative_service.specs.Store.{RefusesPut};
 
 use crate::book::budget::Room;
 use crate::book::{Account, Rejection};

@@ -1,5 +1,6 @@
 -- of History::take_changes: taken and refused
-use Rattle.std.proofs.Common.{◌≡◌, ◌↔◌, Bool, List, Option, Vec, Global, Result, Ok, Err, IfOk, IfErr, OnOk, IsErrOf, IsSomeAnd, inl, inr, option_map, refl}
+use Rattle.std.proofs.Common.{◌≡◌, ◌↔◌, Bool, List, Option, Vec, Global, Result, Ok, Err, IfOk, IfErr, OnOk, IsErrOf}
+use Rattle.std.proofs.Common.{IsSomeAnd, inl, inr, option_map, refl}
 use Rattle.allocative.specs.Graph.{Graph, ExceedWord}
 use Rattle.allocative.specs.Shows.{Showing}
 use Rattle.allocative.specs.Visits.{Profile, IsProfileOf}

@@ -4,7 +4,8 @@ use Rattle.std.proofs.lemmas.List.{map-append}
 use Rattle.std.proofs.lemmas.List.Elements.{All-append, All-cons, All-nil, All-push, All-weaker}
 use Rattle.allocative_service.specs.Book.{IsLargest}
 use Rattle.allocative_service.proofs.book.account.Account.largest.Goals as goal
-use Rattle.allocative_service.proofs.book.account.Account.largest.Goals.{in_default-via-in-Some-largest+else-bytes-most, in_default-via-in_default}
+use Rattle.allocative_service.proofs.book.account.Account.largest.Goals.{in_default-via-in-Some-largest+else-bytes-most}
+use Rattle.allocative_service.proofs.book.account.Account.largest.Goals.{in_default-via-in_default}
 
 module _ {K E : Type 0} (billed : E → ℕ) where
   -- An entry that is no larger comes after the largest.

@@ -6,7 +6,8 @@ use Rattle.std.specs.Map.{remove_entry, set_value}
 use Rattle.allocative_service.specs.Kept.{IsBilled, kept_as}
 use Rattle.allocative_service.specs.declared.kept.Kept.{Kept}
 use Rattle.allocative_service.proofs.Accounts.{sum_by-written}
-use Rattle.allocative_service.proofs.Billing.{billed-remove, billed-set, entry_within, found_within, key_written, lookup_written, removed_sum, removed_written}
+use Rattle.allocative_service.proofs.Billing.{billed-remove, billed-set, entry_within, found_within, key_written}
+use Rattle.allocative_service.proofs.Billing.{lookup_written, removed_sum, removed_written}
 use Rattle.allocative_service.proofs.store.shelf.Shelf+K+V.change.Goals as goal
 use Rattle.allocative_service.proofs.store.shelf.Shelf+K+V.change.Goals.{in-Some-remove_entry, in-None}
 
