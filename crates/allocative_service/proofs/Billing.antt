@@ -1,23 +1,26 @@
 -- The bills of an account's entries after each change of them.
-use Rattle.std.proofs.Common.{◌≡◌, ℕ, ◌+◌, ◌≤◌, Bool, true, false, List, [], ◌∷◌, Option, Some, None, arith, cond, inl}
-use Rattle.std.proofs.Common.{inr, option_map, refl, sym, unwrap_or}
+use Rattle.std.proofs.Common.{All, ◌≡◌, ℕ, ◌+◌, ◌≤◌, Bool, true, false, List, [], ◌∷◌, Option, Some, None, arith, cond}
+use Rattle.std.proofs.Common.{inl, inr, map-id, option_map, refl, sym, subst, unwrap_or}
 use Rattle.allocative.specs.Forest.{Forest}
 use Rattle.std.specs.BTreeMap.{is_at, insert_entry}
-use Rattle.std.specs.Cmp.{IsTotalOrder}
+use Rattle.std.specs.Cmp.{IsTotalOrder, nat_cmp_total}
 use Rattle.std.specs.List.Sorted.{IsStrictlySortedBy}
 use Rattle.std.specs.Map.{keys_of, lookup, lookup_key, remove_entry, set_value}
-use Rattle.std.specs.Ordering.{is_eq, match_ordering}
+use Rattle.std.specs.Ordering.{is_eq, match_ordering, nat_cmp}
 use Rattle.std.specs.declared.cmp.Ordering.{Ordering}
 use Rattle.std.specs.declared.cmp.Ordering.TheVariants.{Equal, Greater, Less}
+use Rattle.std.proofs.lemmas.Iterator.Adapters.{option_map_id}
 use Rattle.std.proofs.lemmas.List.Elements.{All-cons, All-head, All-nil, All-tail}
 use Rattle.std.proofs.lemmas.Map.{lookup-none}
 use Rattle.std.proofs.lemmas.Map.Entries.{none_below_head, sum_by-insert_entry, sum_by-remove_entry}
 use Rattle.std.proofs.lemmas.Map.Keys.{sorted_tail}
+use Rattle.std.proofs.lemmas.Map.Views.{All-map-remove_entry}
 use Rattle.std.proofs.lemmas.Option.{same_Some}
 use Rattle.allocative_service.specs.declared.book.rejection.Rejection.{Rejection}
 use Rattle.allocative_service.specs.declared.kept.Kept.{Kept}
 use Rattle.allocative_service.specs.declared.measure.Measure.{Measure}
 use Rattle.allocative_service.specs.Kept.{IsBilled, key_bytes_in, kept_bytes}
+use Rattle.allocative_service.specs.Ledger.{sum_of}
 use Rattle.allocative_service.specs.Measured.{Declares, Measures}
 use Rattle.allocative_service.specs.Rejected.{HasRoom, RejectsEntry, RejectsRoom, RejectsThen}
 use Rattle.allocative_service.specs.Store.{RefusesPut}
@@ -36,12 +39,8 @@ module _ {K E : Type 0} (P : K → E → Type 0) where
 
   -- The entries that are left without a key are billed as before.
   pub billed-remove : (test : K → Bool) (es : List (K × E)) → AreBilled P es → AreBilled P (remove_entry test es)
-  billed-remove test [] h = h
-  billed-remove test (e ∷ es) h = by (test e.0) (billed-remove test es (All-tail Billed e es h))
-    where
-      by : (b : Bool) → AreBilled P (remove_entry test es) → AreBilled P (cond b es (e ∷ remove_entry test es))
-      by true rest = All-tail Billed e es h
-      by false rest = All-cons Billed e (remove_entry test es) (All-head Billed e es h) rest
+  billed-remove test es h = subst (All Billed) (map-id (remove_entry test es))
+      (All-map-remove_entry test (λ e. e) Billed es (subst (All Billed) (sym (map-id es)) h))
 
   -- An entry that is found is billed with the key that it is stored under.
   pub billed-found : (test : K → Bool) (es : List (K × E)) (key : K) (e : E) → AreBilled P es →
@@ -118,6 +117,21 @@ module _ {K E : Type 0} (billed : E → ℕ) (test : K → Bool) (es : List (K �
   -- The bytes of an entry that is found are part of those of all.
   pub found_within : (e : E) → Some e ≡ lookup test es → billed e ≤ billed_sum billed es
   found_within e is = omega (arith, removed_sum e is)
+
+-- An insertion adds the bytes of the entry to the sum, and takes off those that it had.
+pub sum_of-insert_entry : (number bytes : ℕ) (entries : List (ℕ × ℕ)) → IsStrictlySortedBy nat_cmp (keys_of entries) →
+    sum_of (insert_entry nat_cmp entries number bytes) + unwrap_or (lookup (is_at (nat_cmp number)) entries) 0
+    ≡ sum_of entries + bytes
+sum_of-insert_entry number bytes entries sorted =
+    rw option_map_id at (sum_by-insert_entry (λ n. n) nat_cmp_total entries number bytes sorted)
+
+-- The bytes under a number are part of the sum.
+pub number_within : (test : ℕ → Bool) (entries : List (ℕ × ℕ)) →
+    (lookup test entries ≡ lookup test entries) × (unwrap_or (lookup test entries) 0 ≤ sum_of entries)
+number_within test entries = rw option_map_id at (entry_within (λ n. n) test entries)
+
+-- The lemmas on the bytes that are put under a number.
+pub ruleset puts = (sum_of-insert_entry, number_within)
 
 -- The lemmas on an account after an entry was removed.
 pub ruleset removing = (sum_by-remove_entry, billed-remove, entry_within, found_within, removed_sum)

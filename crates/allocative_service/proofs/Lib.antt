@@ -1,11 +1,7 @@
 mod Accounts
 mod Billing
-mod Each
-mod Evicting
-mod Inserting
+mod Caching
+mod Compared
 mod Labels
-mod Most
-mod Sums
 pub mod Texts
-mod Using
 mod Walk

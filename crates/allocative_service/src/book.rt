@@ -220,29 +220,6 @@ impl<K: Ord + Drop, E: Billed<K>> Book<K, E> {
     {
         self.accounts.get(tenant)?.largest()
     }
-
-    /// Removes the tenant's entry under the key, and returns it with its key. If there is none, it returns None and
-    /// nothing changes.
-    #[tactic(auto, using(crate::proofs::Accounts::accounts))]
-    pub(crate) fn take(&mut self, tenant: &str, key: &K) -> Option<(K, E)>
-        // The key and the entry that were there are returned.
-        ensures key { option_map (λ e. e.0) result
-            ≡ option_and_then (λ h. lookup_key (is_at (K.cmp key.now)) h.entries) (account_of tenant.now self.old) }
-        ensures entry { option_map (λ e. e.1) result
-            ≡ option_and_then (λ h. lookup (is_at (K.cmp key.now)) h.entries) (account_of tenant.now self.old) }
-
-        // The entry is gone, and nothing else changed. The sums are less by its bytes.
-        ensures taken { OnSome result
-            (MapsAccount tenant.now (without_entry (is_at (K.cmp key.now))) self.old self.new) }
-        ensures unchanged { IfNone result (self.new ≡ self.old) }
-        ensures all { IfSome result (λ e. all_billed E.billed self.new.accounts + E.billed e.1
-            ≡ all_billed E.billed self.old.accounts) }
-    {
-        let account = self.accounts.get_mut(tenant)?;
-        let (key, entry) = account.remove(key)?;
-        self.bytes -= entry.bytes();
-        Some((key, entry))
-    }
 }
 
 /// What an account has after growth was entered, and by how much that exceeds the limits.

@@ -55,7 +55,7 @@ impl<K: Eq + Hash + Allocative + Described, V: Allocative + Described, S: BuildH
 
 /// Puts the pair first, in place of an entry with an equal key. It returns the old value and its bytes. The other
 /// entries stay: a list is never so long that the capacity would evict one.
-#[tactic(auto, using(crate::proofs::Inserting::putting))]
+#[tactic(auto, using(crate::proofs::Caching::putting))]
 pub(crate) fn put<K: Eq + Hash + Drop, V: Drop, S: BuildHasher + Drop>(
     entries: &mut LruCache<K, Kept<V>, S>,
     key: K,
@@ -243,7 +243,7 @@ impl<
     }
 
     /// Removes the key and returns it with its value. If there is no such key, it returns None and nothing changes.
-    #[tactic(auto, using(crate::proofs::Using::removing))]
+    #[tactic(auto, using(crate::proofs::Caching::removing))]
     pub fn remove(&mut self, key: &K) -> Option<(K, V)>
         ensures value { result ≡ entry_at (K.eq key.now) self.old.entries }
         ensures others { self.new ≡ without (K.eq key.now) self.old }

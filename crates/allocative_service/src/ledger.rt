@@ -13,6 +13,7 @@ use crate::book::Book;
 use crate::book::budget::Room;
 pub use crate::book::{Budget, Rejection, Standing};
 use allocative::{Allocative, Described};
+use std::collections::btree_map::Entry;
 
 /// The bytes of each value of one tenant, by its number.
 pub type Account = crate::book::Account<u64, usize>;
@@ -82,7 +83,7 @@ impl Ledger {
             self.old) }
         ensures unchanged { OnErr result (self.new ≡ self.old) }
     {
-        let (measure, alloc) = (self.measure, self.alloc);
+        let (measure, alloc, most) = (self.measure, self.alloc, self.limit);
         let bytes_of = |had|
             ensures { IsThere number (λ _. Measures measure T.is_strict T.layout.size (T.may_show value.entry.now)) had
                 result }
@@ -92,7 +93,7 @@ impl Ledger {
                 Some(_) => Ok(measure.size_of(alloc, value)?),
             }
         };
-        let standing = self.put_with(tenant, number, Some(self.limit), bytes_of)?;
+        let standing = self.put_with(tenant, number, Some(most), bytes_of)?;
         Ok(standing.bytes)
     }
 
@@ -197,12 +198,15 @@ impl Ledger {
 
     /// Removes the tenant's entry under the number. It returns the bytes of the entry. If there is none, it returns
     /// None and nothing changes.
+    #[tactic(auto, using(crate::proofs::Accounts::accounts))]
     pub fn release(&mut self, tenant: &str, number: u64) -> Option<usize>
         ensures value { result ≡ entry_of tenant.now number self.old }
         ensures released { IfSome result (Releases tenant.now number self.old self.new) }
         ensures unchanged { IfNone result (self.new ≡ self.old) }
     {
-        let (_number, bytes) = self.take(tenant, &number)?;
+        let account = self.accounts.get_mut(tenant)?;
+        let (_number, bytes) = account.remove(&number)?;
+        self.bytes -= bytes;
         Some(bytes)
     }
 
@@ -255,11 +259,11 @@ impl Ledger {
 impl Account {
     /// Stores under the number the bytes that `bytes_of` makes of those that it has, if there is room. It returns the
     /// bytes of all entries together. All accounts have `all` bytes together and may have `most`; without `most` no
-    /// limit counts. A number that is there is searched once.
+    /// limit counts. The number is searched once.
     ///
     /// The error is that of `bytes_of`, otherwise that of `Room::check`, and otherwise `NotKept` if the number
     /// has no entry and memory runs out. After it the account is unchanged.
-    #[tactic(auto, using(crate::proofs::Sums::puts))]
+    #[tactic(auto, using(crate::proofs::Billing::puts))]
     pub(crate) fn put_with<F: FnOnce(Option<usize>) -> Result<usize, Rejection>>(
         &mut self,
         number: u64,
@@ -290,22 +294,29 @@ impl Account {
             all,
             most,
         };
-        let Some(entry) = self.entries.get_mut(&number) else {
-            let bytes = bytes_of(None)?;
-            room.check(0, bytes as u128)?;
-            let Ok(_none) = self.entries.insert(number, bytes) else {
-                return Err(Rejection::NotKept);
-            };
-            self.bytes = sum + bytes;
-            self.peak = self.peak.max(self.bytes);
-            return Ok(self.bytes);
-        };
-        let had = *entry;
-        let bytes = bytes_of(Some(had))?;
-        room.check(had, bytes as u128)?;
-        *entry = bytes;
-        self.bytes = sum - had + bytes;
-        self.peak = self.peak.max(self.bytes);
-        Ok(self.bytes)
+        match self.entries.entry(number) {
+            Ok(Entry::Vacant(entry)) => {
+                let bytes = bytes_of(None)?;
+                room.check(0, bytes as u128)?;
+                entry.insert(bytes);
+                self.bytes = sum + bytes;
+                self.peak = self.peak.max(self.bytes);
+                Ok(self.bytes)
+            }
+            Ok(Entry::Occupied(mut entry)) => {
+                let had = *entry.get();
+                let bytes = bytes_of(Some(had))?;
+                room.check(had, bytes as u128)?;
+                entry.insert(bytes);
+                self.bytes = sum - had + bytes;
+                self.peak = self.peak.max(self.bytes);
+                Ok(self.bytes)
+            }
+            Err(_number) => {
+                let bytes = bytes_of(None)?;
+                room.check(0, bytes as u128)?;
+                Err(Rejection::NotKept)
+            }
+        }
     }
 }

@@ -127,6 +127,7 @@ impl<K: Ord + Allocative + Described, V: Allocative + Described> Store<K, V> {
 
     /// Removes the tenant's value under the key, and returns it with its key. If there is none, it returns None and
     /// nothing changes.
+    #[tactic(auto, using(crate::proofs::Accounts::accounts))]
     pub fn remove(&mut self, tenant: &str, key: &K) -> Option<(K, V)>
         ensures key { option_map (λ e. e.0) result
             ≡ option_and_then (λ h. lookup_key (is_at (K.cmp key.now)) h.entries) (account_of tenant.now self.old) }
@@ -136,7 +137,9 @@ impl<K: Ord + Allocative + Described, V: Allocative + Described> Store<K, V> {
             (MapsAccount tenant.now (without_entry (is_at (K.cmp key.now))) self.old self.new) }
         ensures unchanged { IfNone result (self.new ≡ self.old) }
     {
-        let (key, entry) = self.take(tenant, key)?;
+        let account = self.accounts.get_mut(tenant)?;
+        let (key, entry) = account.remove(key)?;
+        self.bytes -= entry.bytes;
         Some((key, entry.value))
     }
 }

@@ -75,7 +75,7 @@ pub fn compare(
 
 /// The changes of the paths that grew most, up to a count, the greatest growth first. A path that had no bytes before
 /// counts as grown. The only error is that memory runs out.
-#[tactic(auto, using(crate::proofs::Most::grew_first))]
+#[tactic(auto, using(crate::proofs::Compared::grew_first))]
 pub fn grew_most(alloc: Global, changes: &[Change], count: usize) -> Result<Vec<Change>, AllocError>
     ensures { IfOk result (λ top. GrewMost count (data_of changes.now) (data_of top.items)) }
 {

@@ -139,10 +139,8 @@ impl<K: Ord + Allocative + Described, V: Allocative + Described> Shelf<K, V> {
     /// Measures the key and the value, and keeps the value under the key, where all shelves have `all` bytes together,
     /// and may have `most`. It returns the value that was there before.
     ///
-    /// The error is `NotMeasured` if `Measure::size_of` returns an error, otherwise `TooLarge` if the bytes of all
-    /// shelves do not fit a word, otherwise `OverBudget` if those of this shelf exceed its limit, otherwise
-    /// `LedgerFull` if those of all exceed `most`, and otherwise `NotKept` if memory runs out. The key and the value
-    /// come with the error, and the shelf is unchanged.
+    /// The errors are those of `Store::put` but `NoAccount`. The key and the value come with the error, and the shelf
+    /// is unchanged.
     #[tactic(auto, using(crate::proofs::Billing::putting))]
     pub(crate) fn put(
         &mut self,
@@ -190,9 +188,8 @@ impl<K: Ord + Allocative + Described, V: Allocative + Described> Shelf<K, V> {
     /// where all shelves have `all` bytes together. It returns whether the shelf has the key. If it does not, nothing
     /// changes.
     ///
-    /// The error is `NotMeasured` if `Measure::size_of` returns an error, and otherwise `TooLarge` if the bytes of all
-    /// shelves do not fit a word. After an error the key and the value are no longer on the shelf, and come with the
-    /// error.
+    /// The errors are those of `Store::change`. After one the key and the value are no longer on the shelf, and come
+    /// with the error.
     #[tactic(auto, using(crate::proofs::Billing::changing))]
     pub(crate) fn change<C: FnOnce(&mut V)>(
         &mut self,

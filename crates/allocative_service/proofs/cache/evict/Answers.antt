@@ -1,7 +1,7 @@
 -- Each round is one step of evicting, and finds an entry.
 use Rattle.std.proofs.Common.{◌≡◌, ◌-◌, ◌∙◌, List, None, ap, arith, length, refl, slice_get, sym, of_calls}
 use Rattle.std.proofs.lemmas.Option.{gets}
-use Rattle.allocative_service.proofs.Evicting.{goes}
+use Rattle.allocative_service.proofs.Caching.{goes}
 use Rattle.allocative_service.proofs.cache.evict.Goals as goal
 
 -- One entry more is evicted.

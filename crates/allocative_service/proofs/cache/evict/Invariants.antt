@@ -1,7 +1,7 @@
 -- What evicting leaves so far, and each round removes an entry.
 use Rattle.std.proofs.Common.{◌≡◌, length}
 use Rattle.allocative_service.specs.Entries.{bytes_of}
-use Rattle.allocative_service.proofs.Evicting.{Evicts}
+use Rattle.allocative_service.proofs.Caching.{Evicts}
 use Rattle.allocative_service.proofs.cache.evict.Given as goal
 
 -- The entries so far are what evicting leaves, and the count has their bytes.

@@ -1,6 +1,6 @@
 -- of BoundedCache::change: ok and refused
 use Rattle.std.proofs.Common.{rules}
-use Rattle.allocative_service.proofs.Using.{taken}
+use Rattle.allocative_service.proofs.Caching.{taken}
 use Rattle.allocative_service.proofs.cache.BoundedCache.change.Goals as goal
 
 -- The value is changed and inserted again.

@@ -1,6 +1,6 @@
 -- Putting a value first and then evicting others is an insertion, and keeps the cache within its bound.
 use Rattle.std.proofs.Common.{arith, refl}
-use Rattle.allocative_service.proofs.Inserting.{insertion, Inserts-bounded}
+use Rattle.allocative_service.proofs.Caching.{insertion, Inserts-bounded}
 use Rattle.allocative_service.proofs.cache.BoundedCache.insert.Goals as goal
 
 -- A value that is put first, before others are evicted, is inserted.

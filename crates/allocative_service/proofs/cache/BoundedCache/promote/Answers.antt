@@ -1,5 +1,5 @@
 -- The fields of the cache after `LruCache::promote`.
-use Rattle.allocative_service.proofs.Using.{promoted-kept}
+use Rattle.allocative_service.proofs.Caching.{promoted-kept}
 use Rattle.allocative_service.proofs.cache.BoundedCache.promote.Goals as goal
 
 -- The cache keeps its sum and its bound.

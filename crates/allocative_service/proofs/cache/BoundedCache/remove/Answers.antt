@@ -1,7 +1,6 @@
 -- The sum of the bytes is less by those of the removed entry.
 use Rattle.std.proofs.Common.{arith}
-use Rattle.allocative_service.proofs.Inserting.{without-kept}
-use Rattle.allocative_service.proofs.Using.{bytes_of-taken}
+use Rattle.allocative_service.proofs.Caching.{bytes_of-taken, without-kept}
 use Rattle.allocative_service.proofs.cache.BoundedCache.remove.Goals as goal
 
 -- The cache is within its bound after a removal.

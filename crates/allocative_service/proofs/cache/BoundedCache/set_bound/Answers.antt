@@ -1,6 +1,6 @@
 -- What is left is within the new bound.
 use Rattle.std.proofs.Common.{arith}
-use Rattle.allocative_service.proofs.Inserting.{recent-kept}
+use Rattle.allocative_service.proofs.Caching.{recent-kept}
 use Rattle.allocative_service.proofs.cache.BoundedCache.set_bound.Goals as goal
 
 -- The cache is within the new bound.
@@ -10,7 +10,3 @@ invariant_of-self g c = (
   c.evict-self-inside.ensures.bytes,
   recent-kept c.args.bound c.evict-self-inside.ensures.recent (omega arith) c.self.invariant.2,
 )
-
--- The values are within the new bound.
-pub returns-clause-bounded : goal.returns-clause-bounded
-returns-clause-bounded g c = (invariant_of-self g c).2

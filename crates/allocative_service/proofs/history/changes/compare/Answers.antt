@@ -5,7 +5,7 @@ use Rattle.allocative_graph.proofs.Common.{Path, entries, size_at, sum_of}
 use Rattle.allocative_graph.proofs.Text.{texts}
 use Rattle.allocative_service.specs.Changes.{change_data, HasEach, change_of}
 use Rattle.allocative_service.specs.Walk.{changes_behind}
-use Rattle.allocative_service.proofs.Each.{has_each}
+use Rattle.allocative_service.proofs.Compared.{has_each}
 use Rattle.allocative_service.proofs.history.changes.compare.Goals as goal
 
 -- The walk finds the changes of all paths.

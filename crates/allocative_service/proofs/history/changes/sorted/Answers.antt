@@ -2,7 +2,7 @@
 use Rattle.std.proofs.Common.{◌≡◌, ◌∙◌, ap, arith, cond, filter, map, rules, take, take_all}
 use Rattle.std.proofs.lemmas.List.Sorted.{All-permutation, IsNonDecreasingBy-from_sort_by_key, IsPermutation-map}
 use Rattle.allocative_service.specs.Changes.{change_data, is_grown, IsWord, rank}
-use Rattle.allocative_service.proofs.Most.{falls}
+use Rattle.allocative_service.proofs.Compared.{falls}
 use Rattle.allocative_service.proofs.history.changes.sorted.Goals as goal
 
 pub returns : goal.returns

@@ -1,25 +1,15 @@
--- of Ledger::release: the sums are less by the bytes of the entry
-use Rattle.std.proofs.Common.{◌≡◌, ℕ, ◌+◌, Bool, Option, Some, None, IsSomeAnd, nat_cmp, sym}
+-- of Ledger::release: the bytes of the entry are part of those of all
+use Rattle.std.proofs.Common.{ℕ, arith, nat_cmp}
 use Rattle.std.specs.BTreeMap.{is_at}
-use Rattle.std.specs.Map.{lookup, remove_entry}
-use Rattle.std.specs.Option.{option_and_then}
-use Rattle.allocative_service.specs.Book.{AccountData, SetsAccount, account_of, without_entry}
-use Rattle.allocative_service.specs.Ledger.{sum_of}
-use Rattle.allocative_service.proofs.Billing.{removed_sum}
+use Rattle.allocative_service.specs.Book.{is_tenant}
+use Rattle.allocative_service.proofs.Accounts.{account_within}
+use Rattle.allocative_service.proofs.Billing.{found_within}
 use Rattle.allocative_service.proofs.ledger.Ledger.release.Goals as goal
 
--- The sum of an account is less by the bytes of the entry that is gone.
-released : (test : ℕ → Bool) (o : Option (AccountData ℕ ℕ)) (bytes : ℕ) (S : AccountData ℕ ℕ → Type 0) →
-    Some bytes ≡ option_and_then (λ h. lookup test h.entries) o → IsSomeAnd o (λ h. S (without_entry test h)) →
-    IsSomeAnd o (λ h. (lookup test h.entries ≡ Some bytes)
-    × (sum_of (remove_entry test h.entries) + bytes ≡ sum_of h.entries) × S (without_entry test h))
-released test None bytes S is sets = absurd cc
-released test (Some h) bytes S is sets = (sym is, removed_sum (λ n. n) test h.entries bytes is, sets)
-
-pub returns-clause-released : goal.returns-clause-released
-returns-clause-released c = (
-  released (is_at (nat_cmp c.args.number)) (account_of c.args.tenant.now c.args.self.now) c.in_ok-_number.bytes
-      (λ h. SetsAccount c.args.tenant.now h c.args.self.now c.take.new.self) c.in_ok-_number.ensures.entry
-      c.in_ok-_number.ensures.taken,
-  c.in_ok-_number.ensures.all,
-)
+pub overflow_sub-self : goal.overflow_sub-self
+overflow_sub-self c =
+    let part = (account_within (λ (n : ℕ). n) (is_tenant c.args.tenant.now) c.self.inside.accounts.entries).1 in
+    let within = rw (← c.in_ok-account.ensures.value) at part in
+    let bytes = found_within (λ (n : ℕ). n) (is_at (nat_cmp c.args.number)) c.in_ok-account.account.now.entries
+    c.in_ok-_number.bytes c.in_ok-_number.ensures.entry in
+    omega (arith, bytes, within, c.self.invariant.0)
