@@ -2,11 +2,9 @@
 //! its `measure`.
 ghost use Rattle.std.specs.Prelude.{◌≡◌, ◌+◌, ◌-◌, ◌^◌, ◌<◌, ◌≤◌, ◌↔◌, None, [], IfErr, IfNone, IfSome, IsSomeAnd};
 ghost use Rattle.std.specs.Prelude.{IsTrue, MatchOption, OnErr, OnOk, OnSome, option_map};
-ghost use Rattle.std.specs.BTreeMap.{is_at};
-ghost use Rattle.std.specs.Map.{lookup, lookup_key, remove_entry};
-ghost use Rattle.std.specs.Option.{option_and_then};
+ghost use Rattle.std.specs.Map.{remove_entry};
 ghost use Rattle.allocative_service.specs.Book.{IsLargest, IsSummed, MapsAccount, Opens, account_of, all_billed};
-ghost use Rattle.allocative_service.specs.Book.{billed_sum, book_data, is_tenant, with_accounts, without_entry};
+ghost use Rattle.allocative_service.specs.Book.{billed_sum, book_data, is_tenant, with_accounts};
 ghost use Rattle.allocative_service.specs.Book.{with_limit, with_peak_reset, with_soft_limit};
 ghost use Rattle.allocative_service.specs.Rejected.{IsLedgerFull, IsOverBudget, RejectsIn, RejectsOpening};
 
