@@ -495,8 +495,8 @@ size_in s e = remaining (map_of s) e.0 e.1
 -- the sizes that were found are within the bytes of all entries
 rows_fit : (s : Listed) (p : Path) (t : Path → Bool) → sum_by (size_in s) (rows_behind s p t) ≤ bytes_entered (map_of s)
 rows_fit s p t =
-    let both = sum_by-filter_both (λ (e : Path × Entered). behind p t e.0) _ (λ e. refl) (size_in s) (entries (map_of s))
-    in
+    let test : Path × Entered → Bool = λ e. behind p t e.0 in
+    let both = sum_by-filter_both test _ (λ e. refl) (size_in s) (entries (map_of s)) in
     let each = sum_by-le-sum_by (size_in s) (λ (e : Path × Entered). e.1.bytes) (entries (map_of s))
     (λ e. cond_both e.1.is_unique e.1.bytes _ (λ (n : ℕ). n ≤ e.1.bytes) (λ _. omega arith) (λ _. omega arith)) in
     omega arith

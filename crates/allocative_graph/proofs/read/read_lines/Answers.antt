@@ -1,5 +1,6 @@
 -- of read_lines: the steps of its loop, line and ok
-use Rattle.std.proofs.Common.{◌≡◌, ℕ, ◌+◌, ◌∷◌, [], List, length, sym, ◌∙◌, arith, rules, eqb-true, refl, subst, append-nil}
+use Rattle.std.proofs.Common.{◌≡◌, ℕ, ◌+◌, ◌∷◌, [], List, length, sym, ◌∙◌, arith, rules, eqb-true, refl, subst}
+use Rattle.std.proofs.Common.{append-nil}
 use Rattle.allocative_graph.proofs.Common.{AreStacks, nil_from_length}
 use Rattle.std.proofs.lemmas.Iterator.Splits.{YieldsList-from_lines}
 use Rattle.std.proofs.lemmas.Iterator.Consumers.{YieldsList-so_far, YieldsList-turn, YieldsList-end}
