@@ -7,6 +7,7 @@ mod inbox;
 mod request;
 mod service;
 
+use allocative::Refusal;
 use allocative_service::ledger::{Budget, Ledger};
 use allocative_service::measure::Measure;
 use anyhow::Result;
@@ -26,7 +27,7 @@ fn main(rt: HostRuntime) -> Result<()> {
     let input = io::read_to_string(alloc, rt.reader())?;
     for line in input.lines() {
         println!(rt; "> {line}")?;
-        let text = String::from_str(alloc, line)?;
+        let text = String::from_str(alloc, line).map_err(Refusal::from)?;
         match admit_text(&mut inbox, LINES, 1, &text) {
             Ok(_bytes) => match read_request(text.as_str()) {
                 Some(request) => print!(rt; "{}", service.answer(&request)?)?,
