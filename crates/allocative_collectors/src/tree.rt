@@ -480,7 +480,7 @@ fn guess_index(nodes: &[Node], chunk: &Chunk, key: &Key, start: u64) -> usize {
     chunk.numbers.partition_point(|number: &u32| -> bool { compare(nodes, *number, key).is_lt() })
 }
 
-/// How many of the rising starts are below a start. No branch depends on a start, as the processor could not foresee it.
+/// How many of the rising starts are below a start. No branch depends on a start: the processor could not foresee it.
 fn count_below(starts: &[u64], start: u64) -> usize
     ensures { result ≤ length starts.now }
 {
